@@ -1,0 +1,4 @@
+pub mod Widths
+pub mod Picks
+pub mod Xors
+pub mod Linear

@@ -1,0 +1,12 @@
+//! The message authentication code that seals each message: CBC chaining of ISO/IEC 9797-1 with padding
+//! method 1 over DES, the last block under three keys.
+//!
+//! What text a message is sealed by, and under which keys, is the task of the crates above.
+#![tactic(auto)]
+
+mod chaining;
+mod mac_key;
+#[cfg(test)]
+mod tests;
+
+pub use mac_key::{MacKey, mac};

@@ -1,0 +1,9 @@
+pub mod KnownAnswers
+pub mod RoundTrips
+pub mod AllBits
+pub mod PlainSteps
+pub mod PlainBoxes
+pub mod Exchanges
+pub mod JoinedBoxes
+pub mod JoinedRounds
+pub mod KeyChoices

@@ -1,0 +1,4 @@
+pub mod Splitting
+pub mod Decimals
+pub mod Spellings
+pub mod SpelledOctets

@@ -1,0 +1,45 @@
+ghost use Rattle.std.specs.Prelude.{◌≡◌, ◌<◌, length};
+ghost use Rattle.std.specs.Char.{is_ascii_digit};
+ghost use Rattle.std.specs.List.{list_all};
+ghost use Rattle.er_base.specs.Numbers.{has_leading_zero, is_canonical, decimal_of};
+
+use std::str;
+
+fn begins_with_zero(word: &[u8]) -> bool
+    requires { 0 < length word.now }
+    ensures { result ≡ has_leading_zero word.now }
+{
+    word[0] == b'0' && !(word.len() == 1)
+}
+
+fn is_of_digits(word: &[u8]) -> bool
+    ensures { result ≡ list_all is_ascii_digit word.now }
+{
+    word.iter().all(|octet| octet.is_ascii_digit())
+}
+
+fn is_plain(word: &[u8]) -> bool
+    ensures { result ≡ is_canonical word.now }
+{
+    if word.is_empty() {
+        return false;
+    }
+    if begins_with_zero(word) {
+        return false;
+    }
+    is_of_digits(word)
+}
+
+/// The number that a decimal word names: digits alone, no leading zero, at most 2^64 - 1. Else None.
+#[tactic(auto, using(crate::proofs::Decimals::decimal_lemmas), unfolding(crate::specs::Numbers::decimal_of))]
+pub fn decimal(word: &[u8]) -> Option<u64>
+    ensures { result ≡ decimal_of word.now }
+{
+    if !is_plain(word) {
+        return None;
+    }
+    let Ok(text) = str::from_utf8(word) else {
+        return None;
+    };
+    text.parse::<u64>().ok()
+}

@@ -1,0 +1,10 @@
+/// Why a connection ended: a reason and a sub-reason, and whether the peer's SaPDU DI carried them.
+#[derive(Clone, Copy, Debug, PartialEq, Eq)]
+pub struct Release {
+    /// The reason, as in a DI of SUBSET-037.
+    pub reason: u8,
+    /// The sub-reason, as in a DI of SUBSET-037.
+    pub sub: u8,
+    /// True where the peer released, false where this end did.
+    pub by_peer: bool,
+}

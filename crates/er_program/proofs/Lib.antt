@@ -1,0 +1,11 @@
+pub mod Growth
+pub mod MemoryFiles
+pub mod WholeReads
+pub mod Lines
+pub mod StepLists
+pub mod DrillRuns
+pub mod RunEndings
+pub mod ScenarioOctets
+pub mod RunMeanings
+pub mod Members
+pub mod Spellings

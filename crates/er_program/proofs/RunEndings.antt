@@ -1,0 +1,98 @@
+-- How a run ends, from how its parts end.
+use Rattle.std.proofs.Common.{◌≡◌, ◌⊎◌, inl, inr, ℕ, ◌≤◌, List, [], ◌∷◌, ◌++◌, take, Option, Some, None, Result, Ok, Err, refl, sym, ◌∙◌, ap, arith}
+use Rattle.er_world.specs.Texts.{Scenario, lines}
+use Rattle.er_program.specs.Outside.{Grew, GrewPart, Rose, Kept, HasFile, file_of}
+use Rattle.er_program.specs.Form.{scenario_of}
+use Rattle.er_program.specs.Drills.{FirstSteps, first_came}
+use Rattle.er_program.specs.Answers.{Answer, IsAnswer, Files, scenario_answer, fetch_line, usage_line}
+use Rattle.er_program.specs.Runs.{FirstLines}
+use Rattle.er_program.specs.Endings.{Lasts, WritesFirst, EndsFile, EndsUnfetched, Finished, Broken, Exhausted, Ends}
+use Rattle.er_program.specs.declared.stop.Stop.{Stop}
+use Rattle.er_program.specs.declared.stop.Stop.TheVariants as stop
+use Rattle.er_program.specs.declared.status.Status.{Status}
+use Rattle.er_world.proofs.Membership.{authentic_always}
+
+-- a file that was told before is told now, where anything is
+pub has_file_kept : (before now : Files) (name file : List ℕ) → HasFile before name file → Kept before now → HasFile now name file
+has_file_kept None None name file has kept = tt
+has_file_kept None (Some files) name file has kept = absurd kept
+has_file_kept (Some old) None name file has kept = tt
+has_file_kept (Some old) (Some files) name file has kept = rw kept has
+
+-- memory ran out in the drill of a file
+exhausted : (name file : List ℕ) (files : Files) (o : Option Scenario) (before now : Option (List ℕ)) (f g : ℕ)
+    → HasFile files name file → scenario_of file ≡ o → WritesFirst o before now → f ≤ g → Exhausted (Some name) files before now f g
+exhausted name file files None before now f g stands e first later = absurd first
+exhausted name file files (Some s) before now f g stands e first later = record {
+  text = lines 1 (first_came s first.count);
+  first = inr (record {
+    file = file;
+    stands = stands;
+    scenario = s;
+    spelled = e;
+    count = first.count;
+    is = refl;
+    authentic = authentic_always s.engine s.rbc s.ke s.kr (take first.count s.steps)
+  });
+  printed = first.grew;
+  later = later
+}
+
+-- the file of that name was drilled
+pub ends_file : (name file : List ℕ) (files : Files) (c d : ℕ) (before now : Option (List ℕ)) (f g : ℕ) (r : Result Status Stop)
+    → HasFile files name file → EndsFile (scenario_of file) before now f g r → Ends (Some name) files c d before now f g r
+ends_file name file files c d before now f g (Ok s) stands ends = record {
+  answer = scenario_answer (scenario_of file);
+  is = record { fetched = Some file; stands = stands; is = refl };
+  stated = ends.0;
+  printed = ends.1;
+  later = ends.2
+}
+ends_file name file files c d before now f g (Err stop.Sink) stands ends = record {
+  answer = scenario_answer (scenario_of file);
+  is = record { fetched = Some file; stands = stands; is = refl };
+  part = ends.0;
+  rose = ends.1
+}
+ends_file name file files c d before now f g (Err stop.NoMemory) stands ends =
+    elim ends.0 [
+      | inl nothing ↦ record { text = []; first = inl refl; printed = nothing; later = ends.1 }
+      | inr first ↦ exhausted name file files (scenario_of file) before now f g stands refl first ends.1
+    ]
+
+-- the fetch failed
+pub ends_unfetched : (name : List ℕ) (files : Files) (c d : ℕ) (before now : Option (List ℕ)) (f g : ℕ) (r : Result Status Stop)
+    → Rose c d → EndsUnfetched name before now f g r → Ends (Some name) files c d before now f g r
+ends_unfetched name files c d before now f g (Ok s) rose ends = record {
+  answer = record { status = 2; text = fetch_line name };
+  is = record { fetched = None; stands = rose; is = refl };
+  stated = ends.0;
+  printed = ends.1;
+  later = ends.2
+}
+ends_unfetched name files c d before now f g (Err stop.Sink) rose ends = record {
+  answer = record { status = 2; text = fetch_line name };
+  is = record { fetched = None; stands = rose; is = refl };
+  part = ends.0;
+  rose = ends.1
+}
+ends_unfetched name files c d before now f g (Err stop.NoMemory) rose ends =
+    record { text = []; first = inl refl; printed = ends.0; later = ends.1 }
+
+-- the words fit no command
+pub ends_unfit : (files : Files) (c d : ℕ) (before now : Option (List ℕ)) (f g : ℕ) (r : Result Status Stop)
+    → Lasts (record { status = 1; text = usage_line }) before now f g r → Ends None files c d before now f g r
+ends_unfit files c d before now f g (Ok s) ends = record {
+  answer = record { status = 1; text = usage_line };
+  is = refl;
+  stated = ends.0;
+  printed = ends.1;
+  later = ends.2
+}
+ends_unfit files c d before now f g (Err stop.Sink) ends = record {
+  answer = record { status = 1; text = usage_line };
+  is = refl;
+  part = ends.0;
+  rose = ends.1
+}
+ends_unfit files c d before now f g (Err stop.NoMemory) ends = absurd ends

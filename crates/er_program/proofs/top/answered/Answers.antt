@@ -1,0 +1,7 @@
+-- Words that fit no command, by the lemma on endings.
+use Rattle.std.proofs.Common.{sym}
+use Rattle.er_program.proofs.RunEndings.{ends_unfit}
+use Rattle.er_program.proofs.top.answered.Goals as goal
+
+pub returns-in-None-clause-ends : goal.returns-in-None-clause-ends
+returns-in-None-clause-ends g c = rw (sym c.in-None.ensures) (ends_unfit _ _ _ _ _ _ _ c.last.result c.last.ensures)

@@ -1,0 +1,4 @@
+pub mod Deeds
+pub mod Links
+pub mod Texts
+pub mod Headline

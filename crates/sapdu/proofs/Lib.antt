@@ -1,0 +1,4 @@
+pub mod Spelled
+pub mod Answered
+pub mod Ranges
+pub mod Texts

@@ -1,0 +1,87 @@
+-- What a spelling and a sealed text are made of: octets, and no more than 1,032 of them.
+use Rattle.std.proofs.Common.{arith, ℕ, zero, suc, ◌<◌, ◌≤◌, ◌^◌, Bool, true, false, List, [], ◌∷◌, ◌++◌, length, length-append}
+use Rattle.er_base.specs.Octets.{two, three, eight}
+use Rattle.sapdu.specs.Spelling.{Pdu, Dt, Di, Fits, AreOctets, HasUserOctets, header, spelling}
+use Rattle.sapdu.specs.Sealed.{sealed_part, addressed, sealed_text}
+use Rattle.sapdu.proofs.Spelled.{length_eight}
+
+-- an octet in front of octets
+pub cons_octets : (x : ℕ) (xs : List ℕ) → x < 256 → AreOctets xs → AreOctets (x ∷ xs)
+cons_octets x xs small all zero = small
+cons_octets x xs small all (suc k) = all k
+
+no_octets : AreOctets []
+no_octets k = omega arith
+
+-- octets behind octets
+pub append_octets : (xs ys : List ℕ) → AreOctets xs → AreOctets ys → AreOctets (xs ++ ys)
+append_octets [] ys all more = more
+append_octets (x ∷ xs) ys all more = cons_octets x (xs ++ ys) (all 0) (append_octets xs ys (λ k. all (suc k)) more)
+
+-- the spelling of a number below 2 ^ 64
+pub eight_octets : (n : ℕ) → n < 2 ^ 64 → AreOctets (eight n)
+unfolding eight
+eight_octets n h zero = omega arith
+eight_octets n h (suc zero) = omega arith
+eight_octets n h (suc (suc zero)) = omega arith
+eight_octets n h (suc (suc (suc zero))) = omega arith
+eight_octets n h (suc (suc (suc (suc zero)))) = omega arith
+eight_octets n h (suc (suc (suc (suc (suc zero))))) = omega arith
+eight_octets n h (suc (suc (suc (suc (suc (suc zero)))))) = omega arith
+eight_octets n h (suc (suc (suc (suc (suc (suc (suc zero))))))) = omega arith
+eight_octets n h (suc (suc (suc (suc (suc (suc (suc (suc k)))))))) = omega arith
+
+-- a header octet is one
+header_small : (p : Pdu) (flag : Bool) → header p flag < 256
+header_small (Dt user mac) false = omega arith
+header_small (Dt user mac) true = omega arith
+header_small (Di reason sub) false = omega arith
+header_small (Di reason sub) true = omega arith
+
+-- a spelling is octets
+pub spelling_octets : (p : Pdu) (flag : Bool) → Fits p → AreOctets (spelling p flag)
+spelling_octets (Dt user mac) flag fits =
+    cons_octets _ _ (header_small (Dt user mac) flag) (append_octets user (eight mac) fits.octets.0 (eight_octets mac fits.octets.1))
+spelling_octets (Di reason sub) flag fits =
+    cons_octets _ (reason ∷ sub ∷ []) (header_small (Di reason sub) flag)
+    (cons_octets reason (sub ∷ []) fits.octets.0 (cons_octets sub [] fits.octets.1 no_octets))
+
+-- and has at most 1,032 of them
+pub spelling_length : (p : Pdu) (flag : Bool) → HasUserOctets p → length (spelling p flag) ≤ 1032
+spelling_length (Dt user mac) flag sized = omega (arith, length-append user (eight mac), length_eight mac, sized.1)
+spelling_length (Di reason sub) flag sized = omega arith
+
+-- a number below 2 ^ 24 in three octets
+three_octets : (n : ℕ) (xs : List ℕ) → n < 2 ^ 24 → AreOctets xs → AreOctets (three n ++ xs)
+three_octets n xs small all zero = omega arith
+three_octets n xs small all (suc zero) = omega arith
+three_octets n xs small all (suc (suc zero)) = omega arith
+three_octets n xs small all (suc (suc (suc k))) = all k
+
+-- a length below 2 ^ 16 in two
+two_octets : (n : ℕ) (xs : List ℕ) → n < 2 ^ 16 → AreOctets xs → AreOctets (two n ++ xs)
+two_octets n xs small all zero = omega arith
+two_octets n xs small all (suc zero) = omega arith
+two_octets n xs small all (suc (suc k)) = all k
+
+-- the part of an SaPDU that its MAC seals is octets, and short
+part_octets : (p : Pdu) (flag : Bool) (ra rb : ℕ) → Fits p → AreOctets (sealed_part p flag ra rb)
+part_octets (Dt user mac) flag ra rb fits = cons_octets _ user (header_small (Dt user mac) flag) fits.octets.0
+part_octets (Di reason sub) flag ra rb fits = no_octets
+
+part_length : (p : Pdu) (flag : Bool) (ra rb : ℕ) → HasUserOctets p → length (sealed_part p flag ra rb) ≤ 1024
+part_length (Dt user mac) flag ra rb sized = omega (arith, sized.1)
+part_length (Di reason sub) flag ra rb sized = omega arith
+
+-- a sealed text is octets
+pub sealed_text_octets : (p : Pdu) (flag : Bool) (da ra rb : ℕ) → Fits p → da < 2 ^ 24 → AreOctets (sealed_text p flag da ra rb)
+sealed_text_octets p flag da ra rb fits small =
+    let few : length (sealed_part p flag ra rb) ≤ 1024 = part_length p flag ra rb fits.user in
+    two_octets (length (addressed p flag da ra rb)) (addressed p flag da ra rb) (omega arith)
+    (three_octets da (sealed_part p flag ra rb) small (part_octets p flag ra rb fits))
+
+-- and has at most 1,029 of them
+pub sealed_text_length : (p : Pdu) (flag : Bool) (da ra rb : ℕ) → HasUserOctets p → length (sealed_text p flag da ra rb) ≤ 1029
+sealed_text_length p flag da ra rb sized =
+    let few : length (sealed_part p flag ra rb) ≤ 1024 = part_length p flag ra rb sized in
+    omega arith

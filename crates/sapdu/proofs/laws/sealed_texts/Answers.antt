@@ -1,0 +1,5 @@
+use Rattle.sapdu.proofs.Texts.{seals_one}
+use Rattle.sapdu.proofs.laws.sealed_texts.Goals as goal
+
+pub returns : goal.returns
+returns c = seals_one
