@@ -1,5 +1,5 @@
 -- The boxes of the code, entry by entry: each of the 64 inputs of each box is tried.
-use Rattle.std.proofs.Common.{◌≡◌, ℕ, zero, suc, ◌+◌, ◌*◌, ◌/◌, ◌^◌, ◌<◌, [], refl, arith, true}
+use Rattle.std.proofs.Common.{◌≡◌, ℕ, zero, suc, ◌/◌, ◌^◌, ◌<◌, [], refl, arith, true}
 use Rattle.std.specs.Prelude.{bit_and, bit_or, slice_index, slice_index_or, nat_lt}
 use Rattle.std.proofs.lemmas.Bool.{agree_below_at, ltb-true}
 use Rattle.bit_lists.specs.Bits.{bits, number, pick}

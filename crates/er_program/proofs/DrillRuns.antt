@@ -32,7 +32,7 @@ run-append sealed l (x ∷ xs) ys =
     let mid : Link × List Noted = run next now.0 xs in
     let last : Link × List Noted = run (next ++ sealings mid.1) mid.0 ys in
     let pairs : sealed ++ sealings (now.1 ++ mid.1) ≡ next ++ sealings mid.1 =
-      ap (λ zs. sealed ++ zs) (sealings-append now.1 mid.1) ∙ sym (append_assoc sealed (sealings now.1) (sealings mid.1)) in
+    ap (λ zs. sealed ++ zs) (sealings-append now.1 mid.1) ∙ sym (append_assoc sealed (sealings now.1) (sealings mid.1)) in
     let tail : run next now.0 (xs ++ ys) ≡ (last.0, mid.1 ++ last.1) = run-append next now.0 xs ys in
     rw (tail, pairs) (ap (λ (came : List Noted). (last.0, came)) (sym (append_assoc now.1 mid.1 last.1)))
 
@@ -68,8 +68,8 @@ went_more s i st k m a b c f g h went inside item each =
       link = link ∙ sym (ap (λ (r : Link × List Noted). r.0) more);
       pairs = rw (came, sealings-append (first_run s i).1 (next_step s i st).1) pairs;
       printed = rw (came, lines-append 1 (first_run s i).1 (next_step s i st).1)
-        (grew_then a b c (lines 1 (first_run s i).1) (lines 1 (next_step s i st).1) went.printed printed);
-      later = omega (arith, went.later, one.later)
+          (grew_then a b c (lines 1 (first_run s i).1) (lines 1 (next_step s i st).1) went.printed printed);
+      later = omega (arith, went.later, one.later);
     }
 
 -- the lines of the first steps stand at the front of the drill's text
@@ -85,8 +85,8 @@ front s i =
     record {
       rest = lines 1 last.1 ++ summary 1 last.0;
       is = ap (λ (r : Link × List Noted). lines 1 r.1 ++ summary 1 r.0) whole
-        ∙ ap (λ xs. xs ++ summary 1 last.0) (lines-append 1 (first_run s i).1 last.1)
-        ∙ append_assoc (lines 1 (first_run s i).1) (lines 1 last.1) (summary 1 last.0)
+          ∙ ap (λ xs. xs ++ summary 1 last.0) (lines-append 1 (first_run s i).1 last.1)
+          ∙ append_assoc (lines 1 (first_run s i).1) (lines 1 last.1) (summary 1 last.0);
     }
 
 -- a step broke off: the sink failed in its lines, or memory ran out before them
@@ -100,7 +100,7 @@ went_err s i st k m a b c f g h stop.Sink went inside item each =
     let came : (first_run s (i + 1)).1 ≡ (first_run s i).1 ++ (next_step s i st).1 = ap (λ (r : Link × List Noted). r.1) more in
     let both : GrewPart a c (lines 1 (first_run s i).1 ++ lines 1 (next_step s i st).1) = part_then a b c _ _ went.printed one.0 in
     let text : lines 1 (first_run s (i + 1)).1 ≡ lines 1 (first_run s i).1 ++ lines 1 (next_step s i st).1 =
-      ap (lines 1) came ∙ lines-append 1 (first_run s i).1 (next_step s i st).1 in
+    ap (lines 1) came ∙ lines-append 1 (first_run s i).1 (next_step s i st).1 in
     let ahead = front s (i + 1) in
     (rw (ahead.is, text) (part_more a c _ ahead.rest both), omega (arith, went.later, one.1))
 went_err s i st k m a b c f g h stop.NoMemory went inside item each =

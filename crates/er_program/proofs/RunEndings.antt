@@ -32,10 +32,10 @@ exhausted name file files (Some s) before now f g stands e first later = record 
     spelled = e;
     count = first.count;
     is = refl;
-    authentic = authentic_always s.engine s.rbc s.ke s.kr (take first.count s.steps)
+    authentic = authentic_always s.engine s.rbc s.ke s.kr (take first.count s.steps);
   });
   printed = first.grew;
-  later = later
+  later = later;
 }
 
 -- the file of that name was drilled
@@ -46,13 +46,13 @@ ends_file name file files c d before now f g (Ok s) stands ends = record {
   is = record { fetched = Some file; stands = stands; is = refl };
   stated = ends.0;
   printed = ends.1;
-  later = ends.2
+  later = ends.2;
 }
 ends_file name file files c d before now f g (Err stop.Sink) stands ends = record {
   answer = scenario_answer (scenario_of file);
   is = record { fetched = Some file; stands = stands; is = refl };
   part = ends.0;
-  rose = ends.1
+  rose = ends.1;
 }
 ends_file name file files c d before now f g (Err stop.NoMemory) stands ends =
     elim ends.0 [
@@ -68,13 +68,13 @@ ends_unfetched name files c d before now f g (Ok s) rose ends = record {
   is = record { fetched = None; stands = rose; is = refl };
   stated = ends.0;
   printed = ends.1;
-  later = ends.2
+  later = ends.2;
 }
 ends_unfetched name files c d before now f g (Err stop.Sink) rose ends = record {
   answer = record { status = 2; text = fetch_line name };
   is = record { fetched = None; stands = rose; is = refl };
   part = ends.0;
-  rose = ends.1
+  rose = ends.1;
 }
 ends_unfetched name files c d before now f g (Err stop.NoMemory) rose ends =
     record { text = []; first = inl refl; printed = ends.0; later = ends.1 }
@@ -87,12 +87,12 @@ ends_unfit files c d before now f g (Ok s) ends = record {
   is = refl;
   stated = ends.0;
   printed = ends.1;
-  later = ends.2
+  later = ends.2;
 }
 ends_unfit files c d before now f g (Err stop.Sink) ends = record {
   answer = record { status = 1; text = usage_line };
   is = refl;
   part = ends.0;
-  rose = ends.1
+  rose = ends.1;
 }
 ends_unfit files c d before now f g (Err stop.NoMemory) ends = absurd ends

@@ -25,7 +25,7 @@ means_usage files c d f g before now status is printed = record {
   form = λ h. absurd (omega arith);
   sink = λ h. absurd (omega arith);
   memory = λ h. absurd (omega arith);
-  complete = λ fine. inl is
+  complete = λ fine. inl is;
 }
 
 means_unfetched : (name : List ℕ) (files : Files) (c d f g : ℕ) (before now : Option (List ℕ)) (status : ℕ)
@@ -38,7 +38,7 @@ means_unfetched name files c d f g before now status is rose printed = record {
   form = λ h. absurd (omega arith);
   sink = λ h. absurd (omega arith);
   memory = λ h. absurd (omega arith);
-  complete = λ good fine. absurd (good rose)
+  complete = λ good fine. absurd (good rose);
 }
 
 means_form : (name file : List ℕ) (files : Files) (c d f g : ℕ) (before now : Option (List ℕ)) (status : ℕ)
@@ -52,7 +52,7 @@ means_form name file files c d f g before now status stands unspelled is printed
   form = λ h. record { name = name; fits = refl; file = file; stands = stands; unspelled = unspelled; printed = printed };
   sink = λ h. absurd (omega arith);
   memory = λ h. absurd (omega arith);
-  complete = λ good fine. inl (file, stands, rw unspelled is)
+  complete = λ good fine. inl (file, stands, rw unspelled is);
 }
 
 -- delivery on the link of a scenario that a file spells
@@ -61,8 +61,8 @@ delivered : (file : List ℕ) (s : Scenario) → scenario_of file ≡ Some s →
 delivered file s spelled same no_e no_r =
     let all = scenario_octets file s spelled in
     let P : TripleKey → Type 0 = λ kr.
-      (run [] (opened s.engine s.rbc s.ke kr) s.steps).0.from_e ≡ [] → (run [] (opened s.engine s.rbc s.ke kr) s.steps).0.from_r ≡ []
-      → Delivered (run [] (opened s.engine s.rbc s.ke kr) s.steps).1 (run [] (opened s.engine s.rbc s.ke kr) s.steps).0.passes in
+    (run [] (opened s.engine s.rbc s.ke kr) s.steps).0.from_e ≡ [] → (run [] (opened s.engine s.rbc s.ke kr) s.steps).0.from_r ≡ []
+    → Delivered (run [] (opened s.engine s.rbc s.ke kr) s.steps).1 (run [] (opened s.engine s.rbc s.ke kr) s.steps).0.passes in
     subst P same (delivers_always s.engine s.rbc s.ke s.steps all) no_e no_r
 
 means_done : (name file : List ℕ) (s : Scenario) (files : Files) (c d f g : ℕ) (before now : Option (List ℕ)) (status : ℕ)
@@ -77,14 +77,14 @@ means_done name file s files c d f g before now status stands spelled is printed
     spelled = spelled;
     printed = printed;
     authentic = authentic_always s.engine s.rbc s.ke s.kr s.steps;
-    delivered = delivered file s spelled
+    delivered = delivered file s spelled;
   };
   usage = λ h. absurd (omega arith);
   fetch = λ h. absurd (omega arith);
   form = λ h. absurd (omega arith);
   sink = λ h. absurd (omega arith);
   memory = λ h. absurd (omega arith);
-  complete = λ good fine. inl (file, stands, rw spelled is)
+  complete = λ good fine. inl (file, stands, rw spelled is);
 }
 
 -- the file of that name was read
@@ -126,7 +126,7 @@ means_sink command files c d f g before now status is failed = record {
   form = λ h. absurd (omega arith);
   sink = λ h. failed;
   memory = λ h. absurd (omega arith);
-  complete = not_complete command files c d f g status failed.rose
+  complete = not_complete command files c d f g status failed.rose;
 }
 
 -- a write failed
@@ -152,7 +152,7 @@ means_exhausted command files c d before mid now f g h ends printed = record {
   form = λ h. absurd (omega arith);
   sink = λ h. absurd (omega arith);
   memory = λ h. record { text = ends.text; first = ends.first; printed = grew_then before mid now ends.text memory_line ends.printed printed };
-  complete = memory_complete command files c d f h 7 refl
+  complete = memory_complete command files c d f h 7 refl;
 }
 
 -- memory ran out, and the last line wasn't written whole
@@ -168,8 +168,8 @@ means_interrupted command files c d before mid now f g h ends part rose =
         tail = part.part;
         rest = part.rest;
         is = part.is;
-        printed = grew_then before mid now ends.text part.part ends.printed part.grew
-      })
+        printed = grew_then before mid now ends.text part.part ends.printed part.grew;
+      });
     })
 
 -- memory ran out

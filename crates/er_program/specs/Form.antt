@@ -41,7 +41,7 @@ three_keys octets =
     record {
       first = from_be_bytes w64 (take 8 octets);
       second = from_be_bytes w64 (take 8 (drop 8 octets));
-      third = from_be_bytes w64 (take 8 (drop 8 (drop 8 octets)))
+      third = from_be_bytes w64 (take 8 (drop 8 (drop 8 octets)));
     }
 
 -- KEY: 24 octets in hexadecimal

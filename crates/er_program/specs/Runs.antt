@@ -23,7 +23,7 @@ pub record Drilled (name : List ℕ) (files : Files) (before now : Option (List 
   pub authentic : Authentic (outcome scenario).1
   -- on a link whose two session keys are equal, once no frame waits, each end accepted all that the other sent
   pub delivered : scenario.ke ≡ scenario.kr → (outcome scenario).0.from_e ≡ [] → (outcome scenario).0.from_r ≡ []
-    → Delivered (outcome scenario).1 (outcome scenario).0.passes
+      → Delivered (outcome scenario).1 (outcome scenario).0.passes
 
 abbrev pub IsDone : Option (List ℕ) → Files → Option (List ℕ) → Option (List ℕ) → Type 0
 IsDone None files before now = ⊥

@@ -1,5 +1,5 @@
 -- What the code of a safe end answers, as the deeds of the safety model (this profile).
-use Rattle.std.specs.Prelude.{◌≡◌, ℕ, List, Result, Ok, Err}
+use Rattle.std.specs.Prelude.{◌≡◌, ℕ, List}
 use Rattle.safety_automaton.specs.Safety.{Safety, SafeEvent, Say, Hear, SafeDeed, Seals, Refuses, Takes, Leaves, IsLeft, Ignores, IsReleased, HasLength, step}
 use Rattle.safety_automaton.specs.Safety as model
 use Rattle.er_program.specs.declared.safe_end.Refusal.{Refusal}

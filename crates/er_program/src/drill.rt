@@ -7,9 +7,9 @@ ghost use Rattle.er_program.specs.Views.{step_view, scenario_view};
 ghost use Rattle.er_program.specs.Drills.{Writes, Drills, StepsOne};
 ghost use Rattle.er_program.specs.KeptLinks.{Applied};
 
-use crate::scenario::{Scenario, Step};
 use crate::link::Link;
 use crate::outside::{Failed, Sink};
+use crate::scenario::{Scenario, Step};
 use crate::stop::Stop;
 use er_base::NoMemory;
 use std::alloc::Global;

@@ -21,13 +21,16 @@ const MOST_STEPS: usize = 4_096;
 const MOST_MESSAGE_OCTETS: usize = 4_096;
 /// ETCS numbers are below this one.
 const NUMBER_LIMIT: u64 = 16_777_216;
+
 const LINE_FEED: u8 = b'\n';
 
 fn line_length(text: &[u8]) -> usize
     ensures value { result ≡ prefix_len is_of_line text.now }
     ensures inside { result ≤ length text.now }
 {
-    text.iter().take_while(|octet| !(**octet == LINE_FEED)).count()
+    text.iter()
+        .take_while(|octet| !(**octet == LINE_FEED))
+        .count()
 }
 
 // The first line of a text and what follows it, or None where no line is left.
@@ -62,7 +65,11 @@ fn number(word: &[u8]) -> Option<u32>
     ensures in_range { IfSome result (λ n. n < 16777216) }
 {
     let number = decimal(word)?;
-    if number < NUMBER_LIMIT { Some(number as u32) } else { None }
+    if number < NUMBER_LIMIT {
+        Some(number as u32)
+    } else {
+        None
+    }
 }
 
 #[tactic(auto, unfolding(crate::specs::Form::three_keys))]
@@ -213,7 +220,12 @@ fn fixed_line(alloc: Global, words: &[&[u8]]) -> Result<Option<Opening>, NoMemor
     let ke = key(alloc, ke)?;
     let kr = key(alloc, kr)?;
     match (engine, rbc, ke, kr) {
-        (Some(engine), Some(rbc), Some(ke), Some(kr)) => Ok(Some(Opening { engine, rbc, ke, kr })),
+        (Some(engine), Some(rbc), Some(ke), Some(kr)) => Ok(Some(Opening {
+            engine,
+            rbc,
+            ke,
+            kr,
+        })),
         _ => Ok(None),
     }
 }
@@ -229,7 +241,9 @@ fn is_drill(words: &[&[u8]]) -> bool
 {
     match words {
         [name, version, level] => {
-            *name == b"drill".as_slice() && *version == b"1".as_slice() && *level == b"safe".as_slice()
+            *name == b"drill".as_slice()
+                && *version == b"1".as_slice()
+                && *level == b"safe".as_slice()
         }
         _ => false,
     }

@@ -17,7 +17,9 @@ mod status;
 mod stop;
 mod top;
 
-pub use outside::{Cabinet, Failed, FetchFault, FileCabinet, MemoryCabinet, MemorySink, Sink, StdoutSink};
+pub use outside::{
+    Cabinet, Failed, FetchFault, FileCabinet, MemoryCabinet, MemorySink, Sink, StdoutSink,
+};
 pub use status::Status;
 pub use top::{out_of_memory, run};
 

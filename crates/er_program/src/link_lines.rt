@@ -7,6 +7,7 @@ use crate::safe_end::Refusal;
 use er_base::{NoMemory, Release, Side, hex_word};
 use std::alloc::Global;
 
+/// The word of an end.
 fn side_octets(side: Side) -> &'static [u8]
     ensures { result.now ≡ side_word side }
 {
@@ -16,12 +17,14 @@ fn side_octets(side: Side) -> &'static [u8]
     }
 }
 
+/// The end of a line on an accepted message.
 fn forged_octets(forged: bool) -> &'static [u8]
     ensures { result.now ≡ forged_word forged }
 {
     if forged { b" forged\n" } else { b"\n" }
 }
 
+/// The end of a line on a release.
 fn by_octets(by_peer: bool) -> &'static [u8]
     ensures { result.now ≡ by_word by_peer }
 {

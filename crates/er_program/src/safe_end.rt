@@ -1,4 +1,4 @@
-ghost use Rattle.std.specs.Prelude.{◌≡◌, ◌≤◌, ◌<◌, ◌^◌, [], length, IfOk, OnErr};
+ghost use Rattle.std.specs.Prelude.{◌≡◌, ◌≤◌, ◌<◌, ◌^◌, false, [], length, IfOk, OnErr};
 ghost use Rattle.cbc_mac.specs.Mac.{mac_of};
 ghost use Rattle.safety_automaton.specs.Safety.{fixed, flag_of, other_role, is_message, same_flag, message_text, leaves, takes};
 ghost use Rattle.sapdu.specs.Spelling.{Dt, spelling, header, HasUserOctets};
@@ -17,6 +17,27 @@ const MOST_USER_OCTETS: usize = 1023;
 
 /// The header of a DT from the initiator; that from the responder is one more.
 const DT_HEADER: u8 = 10;
+
+/// The release of an end that found the MAC of a DT wrong (this profile's reasons).
+const WRONG_MAC: Release = Release {
+    reason: 4,
+    sub: 1,
+    by_peer: false,
+};
+
+/// The release of an end that found the direction flag wrong.
+const WRONG_FLAG: Release = Release {
+    reason: 4,
+    sub: 2,
+    by_peer: false,
+};
+
+/// The release of an end that couldn't read what it received.
+const UNREADABLE: Release = Release {
+    reason: 5,
+    sub: 2,
+    by_peer: false,
+};
 
 /// Why a send is refused.
 #[derive(Drop)]
@@ -70,6 +91,7 @@ impl Model for SafeEnd {
     ghost invariant = { λ s. (s.me < 2 ^ 24) × (s.peer < 2 ^ 24) };
 }
 
+/// The direction flag of what an end of this role sends.
 fn flag(role: Role) -> bool
     ensures { result ≡ flag_of role }
 {
@@ -79,18 +101,21 @@ fn flag(role: Role) -> bool
     }
 }
 
+/// Whether there are as many user octets as a message may have.
 fn is_message(user: &[u8]) -> bool
     ensures { result ≡ is_message user.now }
 {
-    0 < user.len() && user.len() < MOST_USER_OCTETS + 1
+    !user.is_empty() && user.len() <= MOST_USER_OCTETS
 }
 
+/// Whether two direction flags are one.
 fn same_flag(a: bool, b: bool) -> bool
     ensures { result ≡ same_flag a b }
 {
-    if a { b } else { !b }
+    a == b
 }
 
+/// The header octet of a DT of this direction.
 fn dt_header(flag: bool) -> u8
     ensures { result ≡ header (Dt [] 0) flag }
 {
@@ -132,6 +157,7 @@ fn spelled(alloc: Global, pdu: &SaPdu, flag: bool, room: &mut Room) -> Result<Oc
     Ok(Octets::new(octets))
 }
 
+/// Octets of their own.
 fn copied(alloc: Global, octets: &[u8]) -> Result<Octets, NoMemory>
     ensures { IfOk result (λ copy. copy ≡ octets.now) }
 {
@@ -190,24 +216,18 @@ impl SafeEnd {
     }
 
     /// Releases, and spells the DI that tells the peer.
-    fn leave(
-        &mut self,
-        alloc: Global,
-        reason: u8,
-        sub: u8,
-        room: &mut Room,
-    ) -> Result<Heard, NoMemory>
-        requires { 1032 ≤ room.old.capacity }
-        ensures left { IfOk result (λ heard. leaves self.old reason sub ≡ (self.new, deed_of_heard heard)) }
+    fn leave(&mut self, alloc: Global, release: Release, room: &mut Room) -> Result<Heard, NoMemory>
+        requires room { 1032 ≤ room.old.capacity }
+        requires own { release.by_peer ≡ false }
+        ensures left { IfOk result (λ heard. leaves self.old release.reason release.sub ≡ (self.new, deed_of_heard heard)) }
         ensures err { OnErr result (self.new ≡ self.old) }
         ensures room { room.new.capacity ≡ room.old.capacity }
     {
-        let release = Release {
-            reason,
-            sub,
-            by_peer: false,
+        let pdu = SaPdu::Di {
+            reason: release.reason,
+            sub: release.sub,
         };
-        let di = spelled(alloc, &SaPdu::Di { reason, sub }, flag(self.role), room)?;
+        let di = spelled(alloc, &pdu, flag(self.role), room)?;
         self.released = Some(release);
         Ok(Heard::Left { release, di })
     }
@@ -229,7 +249,7 @@ impl SafeEnd {
     {
         let text = message_text(alloc, flag, self.me, user)?;
         if mac != self.mac(text.as_slice()) {
-            return self.leave(alloc, 4, 1, room);
+            return self.leave(alloc, WRONG_MAC, room);
         }
         let user = copied(alloc, user)?;
         Ok(Heard::Accepted { user, text })
@@ -246,11 +266,11 @@ impl SafeEnd {
             return Ok(Heard::Ignored);
         }
         let Ok((pdu, flag_read)) = sapdu::read(octets) else {
-            return self.leave(alloc, 5, 2, room);
+            return self.leave(alloc, UNREADABLE, room);
         };
-        let own = flag(self.role);
-        if same_flag(flag_read, own) {
-            return self.leave(alloc, 4, 2, room);
+        let own_flag = flag(self.role);
+        if same_flag(flag_read, own_flag) {
+            return self.leave(alloc, WRONG_FLAG, room);
         }
         match pdu {
             SaPdu::Di { reason, sub } => {

@@ -36,6 +36,7 @@ impl Model for SealedPairs {
     ghost view = { λ s. sealings_in s.pairs.keys };
 }
 
+/// The pair of session keys and a text.
 fn pair_of(key: TripleKey, text: Vec<u8>) -> Pair
     ensures { sealing_of result ≡ record { key = key; text = text.items } }
 {

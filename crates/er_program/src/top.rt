@@ -9,7 +9,7 @@ ghost use Rattle.er_program.specs.Runs.{Means, IsStatus, IsDone, IsMisused, IsUn
 
 use crate::drill::{drill, say};
 use crate::form::read;
-use crate::outside::{Cabinet, FetchFault, Failed, Sink};
+use crate::outside::{Cabinet, Failed, FetchFault, Sink};
 use crate::status::Status;
 use crate::stop::Stop;
 use std::alloc::{AllocError, Global};
@@ -72,7 +72,12 @@ fn fetch_failed<K: Sink>(alloc: Global, name: &str, sink: &mut K) -> Result<Stat
     }
 }
 
-fn file_run<F: Cabinet, K: Sink>(alloc: Global, name: &str, cabinet: &mut F, sink: &mut K) -> Result<Status, Stop>
+fn file_run<F: Cabinet, K: Sink>(
+    alloc: Global,
+    name: &str,
+    cabinet: &mut F,
+    sink: &mut K,
+) -> Result<Status, Stop>
     ensures ends { Ends (Some name.now) (F.files cabinet.new) (F.faults cabinet.old) (F.faults cabinet.new)
         (K.held sink.old) (K.held sink.new) (K.faults sink.old) (K.faults sink.new) result }
     ensures asked { IfOk result (λ _. Grew (F.asked cabinet.old) (F.asked cabinet.new) (name.now ∷ [])) }
@@ -88,7 +93,12 @@ fn file_run<F: Cabinet, K: Sink>(alloc: Global, name: &str, cabinet: &mut F, sin
 }
 
 // What the words ask for, done and answered, or why it broke off.
-fn answered<F: Cabinet, K: Sink>(alloc: Global, words: &[String], cabinet: &mut F, sink: &mut K) -> Result<Status, Stop>
+fn answered<F: Cabinet, K: Sink>(
+    alloc: Global,
+    words: &[String],
+    cabinet: &mut F,
+    sink: &mut K,
+) -> Result<Status, Stop>
     ensures ends { Ends (command_of (texts words.now)) (F.files cabinet.new) (F.faults cabinet.old) (F.faults cabinet.new)
         (K.held sink.old) (K.held sink.new) (K.faults sink.old) (K.faults sink.new) result }
     ensures asked { IfOk result (λ _. Grew (F.asked cabinet.old) (F.asked cabinet.new) (names_of (command_of (texts words.now)))) }
@@ -112,7 +122,12 @@ pub fn out_of_memory<K: Sink>(sink: &mut K) -> Status
     }
 }
 
-fn ran<F: Cabinet, K: Sink>(alloc: Global, words: &[String], cabinet: &mut F, sink: &mut K) -> Status
+fn ran<F: Cabinet, K: Sink>(
+    alloc: Global,
+    words: &[String],
+    cabinet: &mut F,
+    sink: &mut K,
+) -> Status
     ensures means { Means (command_of (texts words.now)) (F.files cabinet.new) (F.faults cabinet.old) (F.faults cabinet.new)
         (K.faults sink.old) (K.faults sink.new) (K.held sink.old) (K.held sink.new) result.0 }
     ensures asked { result.0 ≢ 5 → result.0 ≢ 7 → Grew (F.asked cabinet.old) (F.asked cabinet.new) (names_of (command_of (texts words.now))) }
@@ -137,7 +152,12 @@ fn ran<F: Cabinet, K: Sink>(alloc: Global, words: &[String], cabinet: &mut F, si
 /// - 3: the file is out of form; `! text` is printed.
 /// - 5: a write to the sink failed, in place of any other status; nothing is written after it.
 /// - 7: memory ran out; what was printed stays, and `! memory` is printed. It may come in place of any other.
-pub fn run<F: Cabinet, K: Sink>(alloc: Global, words: &[String], cabinet: &mut F, sink: &mut K) -> Status
+pub fn run<F: Cabinet, K: Sink>(
+    alloc: Global,
+    words: &[String],
+    cabinet: &mut F,
+    sink: &mut K,
+) -> Status
     // The list of statuses is closed, and each has its cause. With `complete` each comes exactly where its cause is met.
     ensures known { IsStatus result.0 }
     ensures done { result.0 ≡ 0 → IsDone (command_of (texts words.now)) (F.files cabinet.new) (K.held sink.old) (K.held sink.new) }
@@ -147,7 +167,7 @@ pub fn run<F: Cabinet, K: Sink>(alloc: Global, words: &[String], cabinet: &mut F
     ensures form { result.0 ≡ 3 → IsOutOfForm (command_of (texts words.now)) (F.files cabinet.new) (K.held sink.old) (K.held sink.new) }
     ensures sink { result.0 ≡ 5
         → IsSinkFailed (command_of (texts words.now)) (F.files cabinet.new) (F.faults cabinet.old) (F.faults cabinet.new)
-          (K.faults sink.old) (K.faults sink.new) (K.held sink.old) (K.held sink.new) }
+        (K.faults sink.old) (K.faults sink.new) (K.held sink.old) (K.held sink.new) }
     ensures memory { result.0 ≡ 7 → IsOutOfMemory (command_of (texts words.now)) (F.files cabinet.new) (K.held sink.old) (K.held sink.new) }
 
     // Where no count of faults rose, the words and the file give their status, want of memory aside.

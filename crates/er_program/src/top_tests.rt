@@ -29,8 +29,14 @@ fn one_sealed_message(rt: HostRuntime) -> Result<(), Fail> {
     let mut cabinet = cabinet(alloc, ONE_SEALED_MESSAGE)?;
     let mut sink = MemorySink::with_capacity(alloc, 1_000)?;
     let words = words(alloc, &["drill", "x"])?;
-    assert_eq!(rt; run(alloc, words.as_slice(), &mut cabinet, &mut sink), Status(0));
-    assert_eq!(rt; sink.held(), b"1 r accepted 41\n1 end passes 1 waiting 0 0\n".as_slice());
+    assert_eq!(rt;
+        run(alloc, words.as_slice(), &mut cabinet, &mut sink),
+        Status(0)
+    );
+    assert_eq!(rt;
+        sink.held(),
+        b"1 r accepted 41\n1 end passes 1 waiting 0 0\n".as_slice()
+    );
     Ok(())
 }
 
@@ -40,7 +46,10 @@ fn words_that_fit_no_command(rt: HostRuntime) -> Result<(), Fail> {
     let mut cabinet = cabinet(alloc, ONE_SEALED_MESSAGE)?;
     let mut sink = MemorySink::with_capacity(alloc, 1_000)?;
     let words = words(alloc, &["drill"])?;
-    assert_eq!(rt; run(alloc, words.as_slice(), &mut cabinet, &mut sink), Status(1));
+    assert_eq!(rt;
+        run(alloc, words.as_slice(), &mut cabinet, &mut sink),
+        Status(1)
+    );
     assert_eq!(rt; sink.held(), b"! usage\n".as_slice());
     Ok(())
 }
@@ -52,7 +61,10 @@ fn a_fetch_that_fails(rt: HostRuntime) -> Result<(), Fail> {
     cabinet.fail(1)?;
     let mut sink = MemorySink::with_capacity(alloc, 1_000)?;
     let words = words(alloc, &["drill", "x"])?;
-    assert_eq!(rt; run(alloc, words.as_slice(), &mut cabinet, &mut sink), Status(2));
+    assert_eq!(rt;
+        run(alloc, words.as_slice(), &mut cabinet, &mut sink),
+        Status(2)
+    );
     assert_eq!(rt; sink.held(), b"! fetch x\n".as_slice());
     Ok(())
 }
@@ -63,7 +75,10 @@ fn a_file_out_of_form(rt: HostRuntime) -> Result<(), Fail> {
     let mut cabinet = cabinet(alloc, "drill 1 safe\n")?;
     let mut sink = MemorySink::with_capacity(alloc, 1_000)?;
     let words = words(alloc, &["drill", "x"])?;
-    assert_eq!(rt; run(alloc, words.as_slice(), &mut cabinet, &mut sink), Status(3));
+    assert_eq!(rt;
+        run(alloc, words.as_slice(), &mut cabinet, &mut sink),
+        Status(3)
+    );
     assert_eq!(rt; sink.held(), b"! text\n".as_slice());
     Ok(())
 }
@@ -75,7 +90,10 @@ fn a_sink_that_fails_at_its_first_write(rt: HostRuntime) -> Result<(), Fail> {
     let mut sink = MemorySink::with_capacity(alloc, 1_000)?;
     sink.fail(1)?;
     let words = words(alloc, &["drill", "x"])?;
-    assert_eq!(rt; run(alloc, words.as_slice(), &mut cabinet, &mut sink), Status(5));
+    assert_eq!(rt;
+        run(alloc, words.as_slice(), &mut cabinet, &mut sink),
+        Status(5)
+    );
     assert_eq!(rt; sink.held(), b"".as_slice());
     Ok(())
 }

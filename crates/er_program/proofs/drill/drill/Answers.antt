@@ -27,7 +27,7 @@ returns-in_err-step_once g c =
     let inside = viewed_inside _ _ _ c.deref-step-items.ensures.value c.loop-step-test.true in
     let item = viewed_item _ _ _ _ c.deref-step-items.ensures.value c.loop-step-test.true c.step-item.is in
     rw (p.1, p.2) (went_err (scenario_view c.args.scenario.now) c.loop-step.step-index (step_view c.step-item.result) c.loop-step.link c.step_once.new.link
-      _ _ _ _ _ _ _ c.loop-step.invariant inside item c.in_err-step_once.ensures)
+    _ _ _ _ _ _ _ c.loop-step.invariant inside item c.in_err-step_once.ensures)
 
 pub loop-step-preserved : goal.loop-step-preserved
 loop-step-preserved g c =

@@ -18,12 +18,12 @@ returns-in-None c =
 pub loop-line-preserved : goal.loop-line-preserved
 loop-line-preserved c = record {
   steps =
-    let read : step_of (words_of c.in-Some.line.now) ≡ Some (step_view c.in-Some-2.step) = sym c.in_ok-step.ensures ∙ ap (option_map step_view) c.in-Some-2.is in
-    let front : List Step = map step_view c.loop-line.steps.items in
-    let all = rw c.in-Some.ensures.cut at c.loop-line.invariant.steps in
-    rw (c.in_ok-push-in-Some-2.ensures.items, map_push step_view c.loop-line.steps.items c.in-Some-2.step) (steps_more front _ _ _ read ∙ all);
+      let read : step_of (words_of c.in-Some.line.now) ≡ Some (step_view c.in-Some-2.step) = sym c.in_ok-step.ensures ∙ ap (option_map step_view) c.in-Some-2.is in
+      let front : List Step = map step_view c.loop-line.steps.items in
+      let all = rw c.in-Some.ensures.cut at c.loop-line.invariant.steps in
+      rw (c.in_ok-push-in-Some-2.ensures.items, map_push step_view c.loop-line.steps.items c.in-Some-2.step) (steps_more front _ _ _ read ∙ all);
   count = omega (arith, c.in_ok-push-in-Some-2.ensures.len, ap length c.in-Some.ensures.cut, c.loop-line.invariant.count);
-  few = omega (arith, c.in_ok-push-in-Some-2.ensures.len, c.if-len-eq-MOST_STEPS.false, c.len.ensures, c.loop-line.invariant.few)
+  few = omega (arith, c.in_ok-push-in-Some-2.ensures.len, c.if-len-eq-MOST_STEPS.false, c.len.ensures, c.loop-line.invariant.few);
 }
 
 pub returns : goal.returns

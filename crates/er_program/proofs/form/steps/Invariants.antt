@@ -9,7 +9,7 @@ abbrev pub invariant-loop-line : goal.invariant-loop-line
 invariant-loop-line l = record {
   steps : with_front (map step_view l.steps.items) (steps_of (lines_of l.rest)) ≡ steps_of (lines_of l.text);
   count : vec_len l.steps + length (lines_of l.rest) ≡ length (lines_of l.text);
-  few : vec_len l.steps ≤ 4096
+  few : vec_len l.steps ≤ 4096;
 }
 
 abbrev pub decreases-loop-line : goal.decreases-loop-line

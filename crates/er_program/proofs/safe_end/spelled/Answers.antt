@@ -1,4 +1,4 @@
-use Rattle.std.proofs.Common.{ℕ, ◌≡◌, length, ap, arith}
+use Rattle.std.proofs.Common.{◌≡◌, length, ap, arith}
 use Rattle.sapdu.specs.Reading.{view}
 use Rattle.er_program.proofs.Spellings.{spelling_length}
 use Rattle.er_program.proofs.safe_end.spelled.Goals as goal

@@ -1,0 +1,200 @@
+/* Deframing throughput of the library hdlc_frames beside a plain C deframer, in one run.
+ *
+ * Two streams of frames are read, one that has no escaped octets ("clean") and one of whose content every
+ * second octet is escaped ("escaped"), each in pieces of 1, 64 and 4,096 octets. For each the best of some
+ * rounds is printed in MiB of stream a second, and the ratio of the library to plain C. Both must find the
+ * same number of frames, or the run fails.
+ */
+#include <stdint.h>
+#include <stdio.h>
+#include <stdlib.h>
+#include <string.h>
+#include <time.h>
+
+/* Of the library: the number of frames in a stream that is read in pieces. */
+extern uint64_t hdlc_frames_c_count(const uint8_t *stream, size_t length, uint32_t piece);
+
+#define FLAG 0x7e
+#define ESCAPE 0x7d
+#define CAPACITY 1033
+#define ROUNDS 7
+
+/* ---- the plain C deframer: one state machine, the check sequence through a table as the octets come */
+
+static uint16_t table[256];
+
+static void make_table(void) {
+  for (unsigned place = 0; place < 256; place++) {
+    uint16_t shifted = (uint16_t)place;
+    for (int bit = 0; bit < 8; bit++)
+      shifted = (uint16_t)(shifted & 1 ? shifted >> 1 ^ 0x8408 : shifted >> 1);
+    table[place] = shifted;
+  }
+}
+
+enum found { NOTHING, FRAME, BAD_FCS, TOO_SHORT, TOO_LONG, ABORTED };
+
+struct deframer {
+  int begun;
+  int escaping;
+  size_t length;
+  uint16_t check;
+  uint8_t octets[CAPACITY];
+};
+
+static void restart(struct deframer *d) {
+  d->begun = 1;
+  d->escaping = 0;
+  d->length = 0;
+  d->check = 0xffff;
+}
+
+static enum found close_frame(struct deframer *d) {
+  enum found found;
+  if (d->escaping)
+    found = ABORTED;
+  else if (d->length == 0)
+    found = NOTHING;
+  else if (d->length == CAPACITY)
+    found = TOO_LONG;
+  else if (d->length < 4)
+    found = TOO_SHORT;
+  else
+    found = d->check == 0xf0b8 ? FRAME : BAD_FCS;
+  restart(d);
+  return found;
+}
+
+static size_t feed(struct deframer *d, const uint8_t *piece, size_t length, enum found *found) {
+  for (size_t i = 0; i < length; i++) {
+    uint8_t octet = piece[i];
+    if (octet == FLAG) {
+      *found = close_frame(d);
+      if (*found != NOTHING)
+        return i + 1;
+      continue;
+    }
+    if (!d->begun)
+      continue;
+    if (d->escaping) {
+      d->escaping = 0;
+      octet ^= 0x20;
+    } else if (octet == ESCAPE) {
+      d->escaping = 1;
+      continue;
+    }
+    if (d->length < CAPACITY) {
+      d->octets[d->length++] = octet;
+      d->check = (uint16_t)(d->check >> 8 ^ table[(d->check ^ octet) & 0xff]);
+    }
+  }
+  *found = NOTHING;
+  return length;
+}
+
+static uint64_t plain_count(const uint8_t *stream, size_t length, uint32_t piece) {
+  static struct deframer d;
+  memset(&d, 0, sizeof d);
+  uint64_t count = 0;
+  size_t at = 0;
+  while (at < length) {
+    size_t end = at - at % piece + piece;
+    if (end > length)
+      end = length;
+    enum found found;
+    at += feed(&d, stream + at, end - at, &found);
+    count += found == FRAME;
+  }
+  return count;
+}
+
+/* ---- the streams */
+
+static uint32_t number = 1;
+
+static uint8_t random_octet(void) {
+  number = number * 1664525u + 1013904223u;
+  return (uint8_t)(number >> 24);
+}
+
+static size_t put_octet(uint8_t *out, size_t at, uint8_t octet) {
+  if (octet == FLAG || octet == ESCAPE) {
+    out[at++] = ESCAPE;
+    octet ^= 0x20;
+  }
+  out[at++] = octet;
+  return at;
+}
+
+/* frames with bodies of 260 octets, as a full data block of the line has, until the stream is full */
+static size_t make_stream(uint8_t *out, size_t room, int escaped) {
+  size_t at = 0;
+  out[at++] = FLAG;
+  while (at + 2 * 263 + 1 <= room) {
+    uint16_t check = 0xffff;
+    for (int i = 0; i < 261; i++) {
+      uint8_t octet = random_octet();
+      if (octet == FLAG || octet == ESCAPE)
+        octet = 0;
+      if (escaped && i % 2 == 1)
+        octet = octet & 1 ? FLAG : ESCAPE;
+      check = (uint16_t)(check >> 8 ^ table[(check ^ octet) & 0xff]);
+      at = put_octet(out, at, octet);
+    }
+    check ^= 0xffff;
+    at = put_octet(out, at, (uint8_t)(check & 0xff));
+    at = put_octet(out, at, (uint8_t)(check >> 8));
+    out[at++] = FLAG;
+  }
+  return at;
+}
+
+/* ---- the measure */
+
+static double seconds(void) {
+  struct timespec now;
+  clock_gettime(CLOCK_MONOTONIC, &now);
+  return (double)now.tv_sec + (double)now.tv_nsec * 1e-9;
+}
+
+typedef uint64_t counter(const uint8_t *, size_t, uint32_t);
+
+static double rate(counter *run, const uint8_t *stream, size_t length, uint32_t piece, uint64_t *frames) {
+  double begin = seconds();
+  *frames = run(stream, length, piece);
+  return (double)length / (1 << 20) / (seconds() - begin);
+}
+
+int main(void) {
+  const size_t room = (size_t)8 << 20;
+  static const uint32_t pieces[] = {1, 64, 4096};
+  static const char *names[] = {"clean", "escaped"};
+  uint8_t *stream = malloc(room);
+  if (stream == NULL)
+    return 1;
+  make_table();
+  printf("%-8s %6s %8s %12s %12s %6s\n", "stream", "piece", "frames", "plain MiB/s", "this MiB/s", "ratio");
+  for (int kind = 0; kind < 2; kind++) {
+    size_t length = make_stream(stream, room, kind);
+    for (int k = 0; k < 3; k++) {
+      double plain = 0, ours = 0;
+      uint64_t expected = 0, frames = 0;
+      /* by turns, so that both meet the same machine */
+      for (int round = 0; round < ROUNDS; round++) {
+        double one = rate(plain_count, stream, length, pieces[k], &expected);
+        double other = rate(hdlc_frames_c_count, stream, length, pieces[k], &frames);
+        if (one > plain)
+          plain = one;
+        if (other > ours)
+          ours = other;
+        if (frames != expected || frames == 0) {
+          fprintf(stderr, "frames differ: %llu and %llu\n", (unsigned long long)expected, (unsigned long long)frames);
+          return 1;
+        }
+      }
+      printf("%-8s %6u %8llu %12.0f %12.0f %6.2f\n", names[kind], pieces[k], (unsigned long long)frames, plain, ours, ours / plain);
+    }
+  }
+  free(stream);
+  return 0;
+}

@@ -1,0 +1,3 @@
+pub mod DivisionLaws
+pub mod TableLaws
+pub mod KnownAnswers

@@ -1,0 +1,5 @@
+use Rattle.hdlc_fcs.proofs.TableLaws.{table_at}
+use Rattle.hdlc_fcs.proofs.sequence.entry.Goals as goal
+
+pub returns : goal.returns
+returns c = table_at c.args.octet c.ranges.octet.fits

@@ -1,0 +1,10 @@
+pub mod KnownAnswers
+pub mod StreamLaws
+pub mod PieceLaws
+pub mod DeframingLaws
+pub mod BufferLaws
+pub mod CutLaws
+pub mod FirstCloseLaws
+pub mod SpellingLaws
+pub mod WritingLaws
+pub mod ControlLaws

@@ -1,0 +1,11 @@
+pub mod Framing
+pub mod Spelling
+pub mod Deframing
+pub mod Lines
+pub mod Marks
+pub mod Shown
+pub mod Resting
+pub mod Laws
+pub mod FirstClose
+pub mod Controls
+pub mod ControlOctets

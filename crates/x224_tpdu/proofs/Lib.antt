@@ -1,0 +1,4 @@
+pub mod Cutting
+pub mod RoundTrip
+pub mod Rows
+pub mod Spelled

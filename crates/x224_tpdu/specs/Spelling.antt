@@ -1,0 +1,104 @@
+-- TPDUs as octets (ITU-T X.224, clause 13, class 2, normal formats): the length indicator (LI), which
+-- counts the header octets behind it, the fixed part, parameters, and user data. The greatest lengths
+-- of user data are this profile's. A TPDU has several spellings where its parameters may be skipped.
+use Rattle.std.specs.Prelude.{ℕ, ◌≡◌, ◌+◌, ◌^◌, ◌<◌, ◌≤◌, if◌then◌else◌, Bool, false, List, [], ◌∷◌, ◌++◌, length, Option, None, MatchOption}
+use Rattle.er_base.specs.Octets.{two}
+use Rattle.x224_tpdu.specs.declared.kind.Kind.{Kind}
+use Rattle.x224_tpdu.specs.declared.kind.Kind.TheVariants.{Cr, Cc, Dr, Dc, Dt, Ak, Er}
+use Rattle.x224_tpdu.specs.declared.tpdu.Tpdu.{Tpdu}
+use Rattle.x224_tpdu.specs.declared.tpdu.Tpdu.TheVariants as code
+use Rattle.x224_tpdu.specs.Kinds.{least_user, most_user}
+use Rattle.x224_tpdu.specs.Parameters.{Parameter, spelled, first_refused, size_octet}
+
+-- a TPDU by its fields, user data last
+pub data Pdu : Type 0 where
+  connection_request : (credit dst src size : ℕ) → List ℕ → Pdu
+  connection_confirm : (credit dst src size : ℕ) → List ℕ → Pdu
+  disconnect_request : (dst src reason : ℕ) → List ℕ → Pdu
+  disconnect_confirm : (dst src : ℕ) → Pdu
+  data_tpdu : (dst : ℕ) → (last : Bool) → (number : ℕ) → List ℕ → Pdu
+  acknowledgement : (credit dst number : ℕ) → Pdu
+  tpdu_error : (dst cause : ℕ) → Pdu
+
+-- the TPDU that a value of the program is
+abbrev pub seen : Tpdu → Pdu
+seen (code.Cr credit dst src size user) = connection_request credit dst src size user.now
+seen (code.Cc credit dst src size user) = connection_confirm credit dst src size user.now
+seen (code.Dr dst src reason user) = disconnect_request dst src reason user.now
+seen (code.Dc dst src) = disconnect_confirm dst src
+seen (code.Dt dst last number user) = data_tpdu dst last number user.now
+seen (code.Ak credit dst number) = acknowledgement credit dst number
+seen (code.Er dst cause) = tpdu_error dst cause
+
+-- the kind of a TPDU
+abbrev pub kind_in : Pdu → Kind
+kind_in (connection_request credit dst src size user) = Cr
+kind_in (connection_confirm credit dst src size user) = Cc
+kind_in (disconnect_request dst src reason user) = Dr
+kind_in (disconnect_confirm dst src) = Dc
+kind_in (data_tpdu dst last number user) = Dt
+kind_in (acknowledgement credit dst number) = Ak
+kind_in (tpdu_error dst cause) = Er
+
+-- the fixed part of the header, LI left out; in DT the top bit before the number is EOT
+abbrev pub fixed_part : Pdu → List ℕ
+fixed_part (connection_request credit dst src size user) =
+    (0xE0 + credit) ∷ two dst ++ two src ++ 0x20 ∷ []
+fixed_part (connection_confirm credit dst src size user) =
+    (0xD0 + credit) ∷ two dst ++ two src ++ 0x20 ∷ []
+fixed_part (disconnect_request dst src reason user) = 0x80 ∷ two dst ++ two src ++ reason ∷ []
+fixed_part (disconnect_confirm dst src) = 0xC0 ∷ two dst ++ two src
+fixed_part (data_tpdu dst last number user) =
+    0xF0 ∷ two dst ++ ((if last then 0x80 else 0) + number) ∷ []
+fixed_part (acknowledgement credit dst number) = (0x60 + credit) ∷ two dst ++ number ∷ []
+fixed_part (tpdu_error dst cause) = 0x70 ∷ two dst ++ cause ∷ []
+
+-- the user data
+abbrev pub user_in : Pdu → List ℕ
+user_in (connection_request credit dst src size user) = user
+user_in (connection_confirm credit dst src size user) = user
+user_in (disconnect_request dst src reason user) = user
+user_in (data_tpdu dst last number user) = user
+user_in _ = []
+
+-- each field fits its bits, and the user data its bounds
+abbrev pub Fits : Pdu → Type 0
+Fits p = FitsBits p × (least_user (kind_in p) ≤ length (user_in p)) × (length (user_in p) ≤ most_user (kind_in p))
+  where
+    FitsBits : Pdu → Type 0
+    FitsBits (connection_request credit dst src size user) = (credit < 16) × (dst < 2 ^ 16) × (src < 2 ^ 16)
+    FitsBits (connection_confirm credit dst src size user) = (credit < 16) × (dst < 2 ^ 16) × (src < 2 ^ 16)
+    FitsBits (disconnect_request dst src reason user) = (dst < 2 ^ 16) × (src < 2 ^ 16) × (reason < 2 ^ 8)
+    FitsBits (disconnect_confirm dst src) = (dst < 2 ^ 16) × (src < 2 ^ 16)
+    FitsBits (data_tpdu dst last number user) = (dst < 2 ^ 16) × (number < 128)
+    FitsBits (acknowledgement credit dst number) = (credit < 16) × (dst < 2 ^ 16) × (number < 128)
+    FitsBits (tpdu_error dst cause) = (dst < 2 ^ 16) × (cause < 2 ^ 8)
+
+-- the TPDU size that the octet of C0 names, 07 to 0D; 128 where there is no C0
+abbrev pub NamesSize : Option ℕ → ℕ → Type 0
+NamesSize octet size = MatchOption octet (size ≡ 128) (λ k. (7 ≤ k) × (k ≤ 13) × (size ≡ 2 ^ k))
+
+-- these parameters may stand in this TPDU, and name its size where it has one
+abbrev pub HasParameters : Pdu → List Parameter → Type 0
+HasParameters p ps = (first_refused (kind_in p) false ps ≡ None) × NamesSizeOf p
+  where
+    NamesSizeOf : Pdu → Type 0
+    NamesSizeOf (connection_request credit dst src size user) = NamesSize (size_octet ps) size
+    NamesSizeOf (connection_confirm credit dst src size user) = NamesSize (size_octet ps) size
+    NamesSizeOf _ = Unit {0}
+
+-- the header without LI
+abbrev pub header : Pdu → List Parameter → List ℕ
+header p ps = fixed_part p ++ spelled ps
+
+-- the spelling of a TPDU with these parameters
+abbrev pub spelling : Pdu → List Parameter → List ℕ
+spelling p ps = length (header p ps) ∷ header p ps ++ user_in p
+
+-- these octets are a spelling of this TPDU, with some parameters
+pub record Spells (p : Pdu) (octets : List ℕ) : Type 0 where
+  pub parameters : List Parameter
+  pub fits : Fits p
+  pub may_stand : HasParameters p parameters
+  pub below_ff : length (header p parameters) < 0xFF
+  pub spelled_so : octets ≡ spelling p parameters

@@ -1,0 +1,35 @@
+-- The spelling that is written: in CR and CC the TPDU size (C0) alone as parameter, in the others none.
+use Rattle.std.specs.Prelude.{ℕ, ◌≡◌, ◌≢◌, ◌==◌, ◌⊎◌, if◌then◌else◌, List, [], ◌∷◌}
+use Rattle.x224_tpdu.specs.declared.kind.Kind.TheVariants.{Er}
+use Rattle.x224_tpdu.specs.Parameters.{Parameter}
+use Rattle.x224_tpdu.specs.Spelling.{Pdu, connection_request, connection_confirm, kind_in, Fits, spelling}
+
+-- a TPDU size that C0 can name
+abbrev pub IsSize : ℕ → Type 0
+IsSize n =
+    (n ≡ 128) ⊎ (n ≡ 256) ⊎ (n ≡ 512) ⊎ (n ≡ 1024) ⊎ (n ≡ 2048) ⊎ (n ≡ 4096) ⊎ (n ≡ 8192)
+
+-- the octet of C0 for a TPDU size
+abbrev pub size_code : ℕ → ℕ
+size_code n =
+    if n == 128 then 0x07 else if n == 256 then 0x08 else if n == 512 then 0x09 else if n == 1024 then 0x0A
+    else if n == 2048 then 0x0B else if n == 4096 then 0x0C else 0x0D
+
+-- the parameters that are written
+abbrev pub own_parameters : Pdu → List Parameter
+own_parameters (connection_request credit dst src size user) = record { code = 0xC0; value = size_code size ∷ [] } ∷ []
+own_parameters (connection_confirm credit dst src size user) = record { code = 0xC0; value = size_code size ∷ [] } ∷ []
+own_parameters _ = []
+
+-- the spelling that is written
+abbrev pub written : Pdu → List ℕ
+written p = spelling p (own_parameters p)
+
+-- a TPDU that can be read and isn't ER
+abbrev pub IsWritable : Pdu → Type 0
+IsWritable p = Fits p × HasSize p × (kind_in p ≢ Er)
+  where
+    HasSize : Pdu → Type 0
+    HasSize (connection_request credit dst src size user) = IsSize size
+    HasSize (connection_confirm credit dst src size user) = IsSize size
+    HasSize _ = Unit {0}
