@@ -1,18 +1,17 @@
 -- A run of steps one by one: the link, what came, and the lines that were written.
-use Rattle.std.proofs.Common.{◌≡◌, ℕ, ◌+◌, ◌<◌, ◌≤◌, List, [], ◌∷◌, ◌++◌, length, map, take, drop, get_or, Option, Some, None, Result, Ok, Err, refl, ap, sym, ◌∙◌, append_assoc, append-nil, arith}
-use Rattle.std.specs.List.{flat_map}
+use Rattle.std.proofs.Common.{◌≡◌, ℕ, ◌+◌, ◌<◌, ◌≤◌, List, [], ◌∷◌, ◌++◌, length, take, drop, get_or, Option, Result, Ok, Err, refl, ap, sym, ◌∙◌, append_assoc, append-nil, arith}
 use Rattle.std.proofs.lemmas.Grind.{flat_map-append}
 use Rattle.std.proofs.lemmas.List.{take_more, take_all, take-append-drop}
 use Rattle.er_world.specs.Deeds.{Sealing, Noted, sealings, sealings_of}
 use Rattle.er_world.specs.Links.{Link, Step, step, run}
 use Rattle.er_world.specs.Texts.{Scenario, first_link, drill_text, lines, noted_line, summary}
-use Rattle.er_program.specs.Outside.{Grew, GrewPart, Rose}
+use Rattle.er_program.specs.Outside.{Grew, GrewPart}
 use Rattle.er_program.specs.Pairs.{Holds}
 use Rattle.er_program.specs.KeptLinks.{KeptLink}
-use Rattle.er_program.specs.Drills.{Writes, Drills, FirstSteps, Went, WentOne, StepsOne, first_came}
+use Rattle.er_program.specs.Drills.{Writes, Drills, Went, WentOne, StepsOne}
 use Rattle.er_program.specs.declared.stop.Stop.{Stop}
 use Rattle.er_program.specs.declared.stop.Stop.TheVariants as stop
-use Rattle.er_program.proofs.Growth.{grew_nothing, grew_then, part_then, part_more}
+use Rattle.er_program.proofs.Growth.{grew_then, part_then, part_more}
 
 sealings-append : (xs ys : List Noted) → sealings (xs ++ ys) ≡ sealings xs ++ sealings ys
 sealings-append xs ys = flat_map-append (λ (n : Noted). sealings_of n.deed) xs ys

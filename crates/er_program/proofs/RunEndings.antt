@@ -1,12 +1,11 @@
 -- How a run ends, from how its parts end.
-use Rattle.std.proofs.Common.{◌≡◌, ◌⊎◌, inl, inr, ℕ, ◌≤◌, List, [], ◌∷◌, ◌++◌, take, Option, Some, None, Result, Ok, Err, refl, sym, ◌∙◌, ap, arith}
+use Rattle.std.proofs.Common.{◌≡◌, inl, inr, ℕ, ◌≤◌, List, [], take, Option, Some, None, Result, Ok, Err, refl}
 use Rattle.er_world.specs.Texts.{Scenario, lines}
-use Rattle.er_program.specs.Outside.{Grew, GrewPart, Rose, Kept, HasFile, file_of}
+use Rattle.er_program.specs.Outside.{Rose, Kept, HasFile}
 use Rattle.er_program.specs.Form.{scenario_of}
-use Rattle.er_program.specs.Drills.{FirstSteps, first_came}
-use Rattle.er_program.specs.Answers.{Answer, IsAnswer, Files, scenario_answer, fetch_line, usage_line}
-use Rattle.er_program.specs.Runs.{FirstLines}
-use Rattle.er_program.specs.Endings.{Lasts, WritesFirst, EndsFile, EndsUnfetched, Finished, Broken, Exhausted, Ends}
+use Rattle.er_program.specs.Drills.{first_came}
+use Rattle.er_program.specs.Answers.{Files, scenario_answer, fetch_line, usage_line}
+use Rattle.er_program.specs.Endings.{Lasts, WritesFirst, EndsFile, EndsUnfetched, Exhausted, Ends}
 use Rattle.er_program.specs.declared.stop.Stop.{Stop}
 use Rattle.er_program.specs.declared.stop.Stop.TheVariants as stop
 use Rattle.er_program.specs.declared.status.Status.{Status}

@@ -1,15 +1,15 @@
 -- What a run means by its status, from how it ended.
-use Rattle.std.proofs.Common.{◌≡◌, ◌⊎◌, inl, inr, ℕ, ◌≤◌, List, [], ◌∷◌, ◌++◌, All, Option, Some, None, refl, sym, ◌∙◌, ap, arith, append_assoc, subst}
+use Rattle.std.proofs.Common.{◌≡◌, inl, inr, ℕ, List, [], Option, Some, None, refl, ◌∙◌, ap, arith, subst}
 use Rattle.des_block.specs.declared.triple_key.TripleKey.{TripleKey}
 use Rattle.er_world.specs.Links.{opened, run}
 use Rattle.er_world.specs.Texts.{Scenario, drill_text, outcome}
-use Rattle.er_world.specs.Headline.{AreOctets, Delivered}
+use Rattle.er_world.specs.Headline.{Delivered}
 use Rattle.er_world.proofs.Membership.{authentic_always}
 use Rattle.er_world.proofs.Delivery.{delivers_always}
 use Rattle.er_program.specs.Outside.{Grew, GrewPart, Rose, HasFile}
 use Rattle.er_program.specs.Form.{scenario_of}
-use Rattle.er_program.specs.Answers.{Answer, IsAnswer, IsFetchedAnswer, HasFetched, Files, scenario_answer, fetched_answer, fetch_line, usage_line, form_line, memory_line}
-use Rattle.er_program.specs.Runs.{Means, IsDone, Drilled, IsMisused, IsUnfetched, IsOutOfForm, IsSinkFailed, IsOutOfMemory, IsAnswerBegun, IsMemoryBegun, AreFirstLines, IsComplete}
+use Rattle.er_program.specs.Answers.{Answer, HasFetched, Files, scenario_answer, fetched_answer, fetch_line, usage_line, form_line, memory_line}
+use Rattle.er_program.specs.Runs.{Means, IsSinkFailed, IsComplete}
 use Rattle.er_program.specs.Endings.{Finished, Broken, Exhausted, Exhausts}
 use Rattle.er_program.specs.declared.status.Status.{Status}
 use Rattle.er_program.proofs.Growth.{grew_then}

@@ -1,5 +1,5 @@
 -- Steps that were read, before those of the lines that are left.
-use Rattle.std.proofs.Common.{◌≡◌, ℕ, List, [], ◌∷◌, ◌++◌, length, map, Option, Some, None, refl, ap, sym, ◌∙◌, append_assoc, append-nil, arith, ◌≤◌, ◌<◌, true, false, nat_lt, if◌then◌else◌}
+use Rattle.std.proofs.Common.{◌≡◌, ℕ, List, [], ◌∷◌, ◌++◌, length, Option, Some, None, refl, ap, append_assoc, append-nil, ◌≤◌, ◌<◌, true, false, nat_lt, if◌then◌else◌}
 use Rattle.std.proofs.lemmas.Bool.{le-ltb, lt-ltb}
 use Rattle.er_base.specs.Words.{words_of}
 use Rattle.er_world.specs.Links.{Step}

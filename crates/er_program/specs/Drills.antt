@@ -1,7 +1,7 @@
 -- What a drill writes to a sink: its text, or a beginning of it.
-use Rattle.std.specs.Prelude.{◌≡◌, ℕ, ◌≤◌, ◌^◌, ◌+◌, List, [], ◌++◌, length, take, Option, Result, Ok, Err}
+use Rattle.std.specs.Prelude.{◌≡◌, ℕ, ◌≤◌, List, [], ◌++◌, take, Option, Result, Ok, Err}
 use Rattle.er_world.specs.Deeds.{Sealing, Noted, sealings}
-use Rattle.er_world.specs.Links.{Link, Step, step, run}
+use Rattle.er_world.specs.Links.{Step, step, run}
 use Rattle.er_world.specs.Texts.{Scenario, first_link, drill_text, lines}
 use Rattle.er_program.specs.Outside.{Grew, GrewPart, Rose}
 use Rattle.er_program.specs.Pairs.{Holds}

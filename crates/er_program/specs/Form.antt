@@ -1,6 +1,6 @@
 -- The one form of drill file that is read now (this profile): the line `drill 1 safe`, then `fixed 1 E R KEY KEY`, then at most
 -- 4,096 lines, each `send 1 S HEX` or `pass 1 S`. Spaces before, between and behind words are free.
-use Rattle.std.specs.Prelude.{ℕ, ◌==◌, ◌&&◌, nat_lt, not, Bool, false, if◌then◌else◌, List, [], ◌∷◌, length, take, drop, Option, Some, None, option_map, map, codes}
+use Rattle.std.specs.Prelude.{ℕ, ◌==◌, ◌&&◌, nat_lt, not, Bool, false, if◌then◌else◌, List, [], ◌∷◌, length, take, drop, Option, Some, None, option_map, codes}
 use Rattle.std.specs.Str.{bytes_eq}
 use Rattle.std.specs.Int.{from_be_bytes, w64}
 use Rattle.er_base.specs.declared.side.Side.{Side}

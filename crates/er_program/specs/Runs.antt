@@ -1,13 +1,11 @@
 -- What is claimed of a run of the program: each status with its cause, what the sink got, the names that were asked for (this profile).
-use Rattle.std.specs.Prelude.{◌≡◌, ◌≢◌, ◌⊎◌, ℕ, ◌≤◌, List, [], ◌∷◌, ◌++◌, length, take, All, Option, Some, None}
-use Rattle.er_world.specs.Deeds.{Noted}
-use Rattle.er_world.specs.Links.{Link}
+use Rattle.std.specs.Prelude.{◌≡◌, ◌⊎◌, ℕ, List, [], ◌++◌, Option, Some, None}
 use Rattle.er_world.specs.Texts.{Scenario, drill_text, outcome, lines}
 use Rattle.er_world.specs.Headline.{Authentic, Delivered}
 use Rattle.er_program.specs.Outside.{Grew, GrewPart, Rose, HasFile}
 use Rattle.er_program.specs.Form.{scenario_of}
 use Rattle.er_program.specs.Drills.{first_came}
-use Rattle.er_program.specs.Answers.{Answer, IsAnswer, Files, usage_line, form_line, memory_line, fetch_line, scenario_answer, names_of}
+use Rattle.er_program.specs.Answers.{Answer, IsAnswer, Files, usage_line, form_line, memory_line, fetch_line, scenario_answer}
 
 -- the closed list of statuses
 abbrev pub IsStatus : ℕ → Type 0

@@ -1,5 +1,5 @@
 -- The code's steps and scenario, as the plain data that the definitions speak of.
-use Rattle.std.specs.Prelude.{ℕ, List, map, Option, option_map}
+use Rattle.std.specs.Prelude.{map}
 use Rattle.er_world.specs.Links.{Step, Send, Pass}
 use Rattle.er_world.specs.Texts.{Scenario}
 use Rattle.er_program.specs.declared.scenario.Step.TheVariants as code
@@ -7,7 +7,6 @@ use Rattle.er_program.specs.declared.scenario.Step.{Step as CodeStep}
 use Rattle.er_program.specs.declared.scenario.Scenario.{Scenario as CodeScenario}
 use Rattle.er_program.specs.declared.scenario.Opening.{Opening as CodeOpening}
 use Rattle.er_program.specs.Form.{Opening}
-use Rattle.std.specs.Global.{Vec}
 
 abbrev pub step_view : CodeStep → Step
 step_view (code.Send side user) = Send side user

@@ -1,8 +1,6 @@
 -- The lemma on the first line, at what the two cuts gave.
-use Rattle.std.proofs.Common.{◌≡◌, ◌<◌, ◌==◌, true, false, List, ℕ, [], ◌∷◌, length, ◌∙◌, sym, arith, take, drop, refl}
-use Rattle.std.specs.List.{prefix_len}
+use Rattle.std.proofs.Common.{◌∙◌, sym}
 use Rattle.std.proofs.lemmas.Bool.{eqb-true, eqb-false}
-use Rattle.er_program.specs.Form.{is_of_line, lines_of}
 use Rattle.er_program.proofs.Lines.{no_line, cut_none, cut_some}
 use Rattle.er_program.proofs.form.next_line.Goals as goal
 

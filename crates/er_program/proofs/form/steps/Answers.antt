@@ -1,11 +1,11 @@
 -- One line more, a line that is no step, and the end of the text, by the lemmas on lists of steps.
-use Rattle.std.proofs.Common.{◌≡◌, ◌<◌, ◌≤◌, ◌+◌, ℕ, List, [], ◌∷◌, ◌++◌, map, length, vec_len, Option, Some, None, ap, sym, ◌∙◌, arith, option_map}
+use Rattle.std.proofs.Common.{◌≡◌, ◌≤◌, List, map, length, Some, None, ap, sym, ◌∙◌, arith, option_map}
 use Rattle.std.proofs.lemmas.List.{map_push}
 use Rattle.er_base.specs.Words.{words_of}
 use Rattle.er_world.specs.Links.{Step}
-use Rattle.er_program.specs.Form.{lines_of, steps_of, step_of}
+use Rattle.er_program.specs.Form.{lines_of, step_of}
 use Rattle.er_program.specs.Views.{step_view}
-use Rattle.er_program.proofs.StepLists.{with_front, steps_more, steps_none, steps_end, limited_some, limited_none, limited_many}
+use Rattle.er_program.proofs.StepLists.{steps_more, steps_none, steps_end, limited_some, limited_none}
 use Rattle.er_program.proofs.form.steps.Goals as goal
 
 pub returns-in-None : goal.returns-in-None

@@ -1,5 +1,5 @@
 -- The steps so far and those of what is left are those of the text, and each line so far gave one.
-use Rattle.std.proofs.Common.{◌≡◌, ◌+◌, ◌≤◌, ◌++◌, length, map, vec_len}
+use Rattle.std.proofs.Common.{◌≡◌, ◌+◌, ◌≤◌, length, map, vec_len}
 use Rattle.er_program.specs.Form.{lines_of, steps_of}
 use Rattle.er_program.specs.Views.{step_view}
 use Rattle.er_program.proofs.StepLists.{with_front}
