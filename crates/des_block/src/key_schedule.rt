@@ -12,7 +12,7 @@ use std::marker::Model;
 
 /// The key schedule of FIPS 46-3: the sixteen round keys of a key.
 ///
-/// To make it costs about as much as to encipher a block, so a caller that has many blocks under one key
+/// To make it takes about as long as to encipher two blocks, so a caller with many blocks under one key
 /// makes it once. In contracts it is the list of its round keys, each a list of 48 bits.
 #[derive(Drop)]
 pub struct KeySchedule {

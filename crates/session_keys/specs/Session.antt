@@ -5,10 +5,11 @@ use Rattle.bit_lists.specs.Bits.{bits, number}
 use Rattle.des_block.specs.Triple.{triple_encipher}
 use Rattle.des_block.specs.declared.triple_key.TripleKey.{TripleKey}
 
--- the left halves of both random numbers, and the right halves
+-- the left halves of both random numbers, Ra's first
 abbrev pub left_halves : ℕ → ℕ → List ℕ
 left_halves ra rb = take 32 (bits 64 ra) ++ take 32 (bits 64 rb)
 
+-- the right halves of both random numbers, Ra's first
 abbrev pub right_halves : ℕ → ℕ → List ℕ
 right_halves ra rb = drop 32 (bits 64 ra) ++ drop 32 (bits 64 rb)
 
