@@ -54,10 +54,12 @@ pub record Fed : Type 0 where
 abbrev pub one_more : Fed → Fed
 one_more f = record f { used = f.used + 1 }
 
+-- an octet that closes a frame ends the call; else the octets behind it follow
 abbrev pub fed_octet : Kept → Option Verdict → Fed → Fed
 fed_octet k None rest = one_more rest
 fed_octet k (Some v) rest = record { used = 1; verdict = Some v; kept = k }
 
+-- feeding a piece to a deframer that keeps k
 abbrev pub fed : Kept → List ℕ → Fed
 fed k [] = record { used = 0; verdict = None; kept = k }
 fed k (x ∷ xs) = fed_octet (after_octet k x) (verdict_at k x) (fed (after_octet k x) xs)

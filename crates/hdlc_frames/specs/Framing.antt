@@ -24,13 +24,13 @@ pub data Verdict : Type 0 where
   Frame : (address : ℕ) (body : List ℕ) → Verdict
   BadFcs TooShort TooLong Aborted : Verdict
 
--- the content for which octets stand; the flag says whether an escape stands just before them
+-- the content for which octets stand; `escaped` says whether an escape stands just before them
 unfoldable pub unescaped : List ℕ → Bool → List ℕ
 unescaped [] escaped = []
 unescaped (x ∷ xs) true = bit_xor x 0x20 ∷ unescaped xs false
 unescaped (x ∷ xs) false = if x == escape then unescaped xs true else x ∷ unescaped xs false
 
--- whether octets end in an escape that no earlier one escapes; the flag is as before
+-- whether octets end in an escape that no earlier one escapes; `escaped` is as before
 unfoldable pub ends_in_escape : List ℕ → Bool → Bool
 ends_in_escape [] escaped = escaped
 ends_in_escape (x ∷ xs) true = ends_in_escape xs false

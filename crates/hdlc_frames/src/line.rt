@@ -70,6 +70,7 @@ impl Line {
     }
 
     // Takes one octet.
+    #[inline(always)]
     fn step(&mut self, octet: u8) -> Option<Mark>
         ensures kept { kept_by self.new ≡ after_octet (kept_by self.old) octet }
         ensures verdict { option_map (marked self.new.octets) result ≡ verdict_at (kept_by self.old) octet }
@@ -85,6 +86,7 @@ impl Line {
     }
 
     // A flag came: the verdict on what it closes, if it closes anything.
+    #[inline(never)]
     fn close(&mut self) -> Option<Mark>
         ensures kept { kept_by self.new ≡ after_flag }
         ensures verdict { option_map (marked self.new.octets) result ≡ closing (kept_by self.old) }
@@ -104,6 +106,7 @@ impl Line {
     }
 
     // Takes an octet that is no flag.
+    #[inline(always)]
     fn take_inner(&mut self, octet: u8)
         ensures { kept_by self.new ≡ after_inner (kept_by self.old) octet }
     {
@@ -118,6 +121,7 @@ impl Line {
     }
 
     // Keeps one octet of content where the buffer has a place.
+    #[inline(always)]
     fn keep(&mut self, octet: u8)
         ensures { kept_by self.new ≡ record (kept_by self.old) { content = kept_content (kept_by self.old).content octet } }
     {

@@ -1,14 +1,12 @@
 -- Frames counted as they come.
-use Rattle.std.proofs.Common.{◌≡◌, ℕ, ◌+◌, ◌-◌, ◌≤◌, ◌<◌, cond, List, [], ◌∷◌, ◌++◌, length, take, drop, Option, None, Some, refl, sym, ◌∙◌, ap, arith, true, false}
-use Rattle.std.specs.Prelude.{option_map, count_by}
+use Rattle.std.proofs.Common.{◌≡◌, ℕ, ◌+◌, ◌-◌, ◌≤◌, ◌<◌, cond, List, [], ◌++◌, length, take, drop, Option, None, Some, refl, sym, ◌∙◌, ap, arith, true, false}
+use Rattle.std.specs.Prelude.{count_by}
 use Rattle.std.specs.Option.{option_to_list}
 use Rattle.std.proofs.Math.Seq.{take-add}
 use Rattle.std.proofs.lemmas.List.{take-take, length-take, length-take-le, length-drop}
 use Rattle.std.proofs.lemmas.List.Sums.{sum_by-append}
 use Rattle.hdlc_frames.specs.Framing.{Verdict, frames_of}
 use Rattle.hdlc_frames.specs.Deframing.{Kept, fed, kept_of, AddsToFrames}
-use Rattle.hdlc_frames.specs.Shown.{shown}
-use Rattle.hdlc_frames.specs.declared.found.Found.{Found}
 use Rattle.hdlc_frames.proofs.DeframingLaws.{fed_kept}
 use Rattle.hdlc_frames.proofs.StreamLaws.{frames_of-nothing}
 use Rattle.hdlc_frames_c.specs.FrameCount.{is_frame, frame_count, found_count}

@@ -1,10 +1,7 @@
-use Rattle.std.proofs.Common.{◌≡◌, ℕ, ◌+◌, ◌-◌, ◌<◌, ◌≤◌, List, length, take, drop, Option, None, Some, refl, sym, ◌∙◌, ap, arith}
+use Rattle.std.proofs.Common.{ℕ, ◌-◌, ◌<◌, ◌≤◌, List, length, take, drop, Option, arith}
 use Rattle.std.specs.Prelude.{option_map}
-use Rattle.std.proofs.lemmas.List.{length-take, length-drop}
-use Rattle.hdlc_frames.specs.Framing.{frames_of, Verdict}
-use Rattle.hdlc_frames.specs.Deframing.{kept_of, Kept}
+use Rattle.hdlc_frames.specs.Framing.{Verdict}
 use Rattle.hdlc_frames.specs.Shown.{shown}
-use Rattle.hdlc_frames_c.specs.FrameCount.{frame_count, found_count}
 use Rattle.hdlc_frames_c.proofs.CountLaws.{kept_on, count_on, nothing_yet, part_size, few_on}
 use Rattle.hdlc_frames_c.proofs.hdlc_frames_c_count.Goals as goal
 
