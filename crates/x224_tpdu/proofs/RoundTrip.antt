@@ -26,6 +26,7 @@ reads_the_spelled octets p (Ok tpdu) s r = spells_one octets (seen tpdu) p r s
 reads_the_spelled octets p (Err fault) s r = some_not_none _ fault (spelled_has_no_fault octets p s) r
 
 pub reading_is_reads : (octets : List ℕ) (result : Result Tpdu TpFault) → Reads octets result → reading octets ≡ answer_seen result
+unfolding reading
 reading_is_reads octets (Ok tpdu) r =
     let it = shown (seen tpdu) octets r in
     ap (λ (o : Option TpFault). fault_or o (value_of octets)) it.no_fault ∙ ap (λ (p : Pdu). Ok p) it.value

@@ -1,5 +1,6 @@
 -- Reading as a function of octets, for layers above whose steps are functions of octets. It defines
--- nothing of its own: the law `ReadingIsReads` says that it is what the spelling and the rules say.
+-- nothing of its own: the law `ReadingIsReads` says that it is what the spelling and the rules say, and
+-- layers above needn't look inside.
 use Rattle.std.specs.Prelude.{◌≡◌, ℕ, ◌+◌, ◌*◌, ◌%◌, ◌^◌, nat_le, List, slice_index, Option, None, Some, Result, Ok, Err}
 use Rattle.x224_tpdu.specs.declared.tpdu.Tpdu.{Tpdu}
 use Rattle.x224_tpdu.specs.declared.fault.TpFault.{TpFault}
@@ -50,7 +51,7 @@ fault_or (Some fault) p = Err fault
 fault_or None p = Ok p
 
 -- what reading octets answers
-abbrev pub reading : List ℕ → Result Pdu TpFault
+unfoldable pub reading : List ℕ → Result Pdu TpFault
 reading octets = fault_or (first_fault octets) (value_of octets)
 
 -- the answer of the program

@@ -4,6 +4,7 @@ ghost use Rattle.x224_tpdu.specs.declared.kind.Kind.TheVariants.{Cr, Cc, Dr, Dc,
 ghost use Rattle.x224_tpdu.specs.Kinds.{kind_of, least_user, most_user};
 ghost use Rattle.x224_tpdu.specs.Faults.{rule_4, rule_5, first_of, user_fault};
 ghost use Rattle.x224_tpdu.specs.Reading.{Reads};
+ghost use Rattle.x224_tpdu.specs.Function.{reading, answer_seen};
 ghost use Rattle.x224_tpdu.specs.Parts.{cut_of, IsCounted, IsOfKind, IsConnection, ReadsKind, ReadsBy};
 
 use crate::fault::TpFault;
@@ -24,7 +25,8 @@ use crate::tpdu::Tpdu;
 /// 7. `Value`: a TPDU size outside 07 to 0D, or a number of AK above 127.
 /// 8. `UserData`: too much, or none in DT.
 pub fn read<'a>(octets: &'a [u8]) -> Result<Tpdu<'a>, TpFault>
-    ensures { Reads octets.now result }
+    ensures exact { Reads octets.now result }
+    ensures function { reading octets.now ≡ answer_seen result }
 {
     let parts = cut(octets)?;
     read_parts(&parts)

@@ -6,6 +6,6 @@ use Rattle.tpdu_sweep.proofs.sweep.Sweep.try_octets.Goals as goal
 
 pub write_into-requires-clause-value : goal.write_into-requires-clause-value
 write_into-requires-clause-value c =
-    let spelled : Spells (seen c.in-Ok.tpdu) c.args.octets.now = rw c.in-Ok.is at c.read-answer.ensures in
+    let spelled : Spells (seen c.in-Ok.tpdu) c.args.octets.now = rw c.in-Ok.is at c.read-answer.ensures.exact in
     spelled_is_writable c.args.octets.now (seen c.in-Ok.tpdu) spelled
     (λ e. let t : c.is_error.result ≡ true = c.is_error.ensures.1 e in cc)
