@@ -16,6 +16,8 @@ mod room;
 mod side;
 #[cfg(test)]
 mod tests;
+mod text_fault;
+mod why;
 mod words;
 
 pub use cursor::Cursor;
@@ -26,4 +28,6 @@ pub use octets::Octets;
 pub use release::Release;
 pub use room::Room;
 pub use side::Side;
+pub use text_fault::TextFault;
+pub use why::Why;
 pub use words::next_word;

@@ -1,0 +1,44 @@
+ghost use Rattle.std.specs.Prelude.{◌≡◌};
+ghost use Rattle.er_base.specs.declared.text_fault.TextFault.TheVariants as fault;
+
+use crate::no_memory::NoMemory;
+use crate::why::Why;
+use std::alloc::{AllocError, AllocFailed};
+
+/// Why a text of this profile wasn't read.
+#[derive(Clone, Copy, Debug, PartialEq, Eq)]
+pub enum TextFault {
+    /// The text is refused.
+    At {
+        /// The first faulty line, from 1; 0 where it is the whole text.
+        line: usize,
+        /// The first fault of that line.
+        why: Why,
+    },
+    /// Want of memory.
+    NoMemory,
+}
+
+impl From<NoMemory> for TextFault {
+    ghost from_gives = { λ _ e. e ≡ fault.NoMemory };
+
+    fn from(_fault: NoMemory) -> TextFault {
+        TextFault::NoMemory
+    }
+}
+
+impl From<AllocError> for TextFault {
+    ghost from_gives = { λ _ e. e ≡ fault.NoMemory };
+
+    fn from(_fault: AllocError) -> TextFault {
+        TextFault::NoMemory
+    }
+}
+
+impl<T: Drop> From<AllocFailed<T>> for TextFault {
+    ghost from_gives = { λ _ e. e ≡ fault.NoMemory };
+
+    fn from(_fault: AllocFailed<T>) -> TextFault {
+        TextFault::NoMemory
+    }
+}

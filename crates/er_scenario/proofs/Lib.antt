@@ -1,0 +1,12 @@
+pub mod Ranges
+pub mod FirstLines
+pub mod BodyLines
+pub mod WholeReads
+pub mod LineTexts
+pub mod SpelledOctets
+pub mod SolidWords
+pub mod PrintedLines
+pub mod PrintedArguments
+pub mod PrintedSteps
+pub mod PrintedChoices
+pub mod PrintedTexts

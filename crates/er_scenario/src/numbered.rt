@@ -1,0 +1,10 @@
+use crate::step::Step;
+
+/// A step and the line of its file.
+#[derive(Debug, Drop)]
+pub struct Numbered {
+    /// The line, from 1.
+    pub line: usize,
+    /// The step.
+    pub step: Step,
+}
