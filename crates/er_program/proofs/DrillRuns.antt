@@ -1,126 +1,109 @@
--- A run of steps one by one: the link, what came, and the lines that were written.
-use Rattle.std.proofs.Common.{◌≡◌, ℕ, ◌+◌, ◌<◌, ◌≤◌, List, [], ◌∷◌, ◌++◌, length, take, drop, get_or, Option, Result, Ok, Err, refl, ap, sym, ◌∙◌, append_assoc, append-nil, arith}
-use Rattle.std.proofs.lemmas.Grind.{flat_map-append}
-use Rattle.std.proofs.lemmas.List.{take_more, take_all, take-append-drop}
-use Rattle.er_world.specs.Deeds.{Sealing, Noted, sealings, sealings_of}
-use Rattle.er_world.specs.Links.{Link, Step, step, run}
-use Rattle.er_world.specs.Texts.{Scenario, first_link, drill_text, lines, noted_line, summary}
-use Rattle.er_program.specs.Outside.{Grew, GrewPart}
-use Rattle.er_program.specs.Pairs.{Holds}
-use Rattle.er_program.specs.KeptLinks.{KeptLink}
-use Rattle.er_program.specs.Drills.{Writes, Drills, Went, WentOne, StepsOne}
+-- The loop of a drill: one step more, a step that breaks off, and the end.
+use Rattle.std.proofs.Common.{◌≡◌, ℕ, ◌+◌, ◌≤◌, List, [], ◌++◌, length, slice_get, Option, Some, Result, Ok, Err, ap, sym, ◌∙◌, append-nil, arith}
+use Rattle.er_scenario.specs.declared.numbered.Numbered.{Numbered}
+use Rattle.er_scenario.specs.declared.scenario.Scenario.{Scenario}
+use Rattle.er_world.specs.declared.world_fault.WorldFault.{WorldFault}
+use Rattle.er_world.specs.declared.world_fault.WorldFault.TheVariants.{NoLink, LinkTwice, Overfull, NoMemory}
+use Rattle.er_world.specs.Worlds.{World, Came}
+use Rattle.er_world.specs.Texts.{lines, summary}
+use Rattle.er_world.specs.Kept.{KeptWorld, Holds, world_of}
+use Rattle.er_program.specs.Outside.{Grew, GrewPart, Rose}
+use Rattle.er_program.specs.Answers.{Answer, fault_answer}
+use Rattle.er_program.specs.Runs.{first_steps, first_lines, fault_behind}
+use Rattle.er_program.specs.Drills.{Gives, TellsFault, Drills, drill_answer, Went, WentOne, FailedOne, HaltsOne}
+use Rattle.er_program.specs.declared.status.Status.{Status}
 use Rattle.er_program.specs.declared.stop.Stop.{Stop}
 use Rattle.er_program.specs.declared.stop.Stop.TheVariants as stop
 use Rattle.er_program.proofs.Growth.{grew_then, part_then, part_more}
-
-sealings-append : (xs ys : List Noted) → sealings (xs ++ ys) ≡ sealings xs ++ sealings ys
-sealings-append xs ys = flat_map-append (λ (n : Noted). sealings_of n.deed) xs ys
-
-pub lines-append : (number : ℕ) (xs ys : List Noted) → lines number (xs ++ ys) ≡ lines number xs ++ lines number ys
-lines-append number xs ys = flat_map-append (noted_line number) xs ys
-
--- a run of steps, and then of further ones
-abbrev pub then_run : List Sealing → Link × List Noted → List Step → Link × List Noted
-then_run sealed a ys = let b = run (sealed ++ sealings a.1) a.0 ys in (b.0, a.1 ++ b.1)
-
-pub run-append : (sealed : List Sealing) (l : Link) (xs ys : List Step) → run sealed l (xs ++ ys) ≡ then_run sealed (run sealed l xs) ys
-run-append sealed l [] ys = rw (append-nil sealed) refl
-run-append sealed l (x ∷ xs) ys =
-    let now : Link × List Noted = step sealed l x in
-    let next : List Sealing = sealed ++ sealings now.1 in
-    let mid : Link × List Noted = run next now.0 xs in
-    let last : Link × List Noted = run (next ++ sealings mid.1) mid.0 ys in
-    let pairs : sealed ++ sealings (now.1 ++ mid.1) ≡ next ++ sealings mid.1 =
-    ap (λ zs. sealed ++ zs) (sealings-append now.1 mid.1) ∙ sym (append_assoc sealed (sealings now.1) (sealings mid.1)) in
-    let tail : run next now.0 (xs ++ ys) ≡ (last.0, mid.1 ++ last.1) = run-append next now.0 xs ys in
-    rw (tail, pairs) (ap (λ (came : List Noted). (last.0, came)) (sym (append_assoc now.1 mid.1 last.1)))
-
--- what the first steps lead to
-abbrev first_run : Scenario → ℕ → Link × List Noted
-first_run s count = run [] (first_link s) (take count s.steps)
-
--- what the next step does there
-abbrev next_step : Scenario → ℕ → Step → Link × List Noted
-next_step s count st = step (sealings (first_run s count).1) (first_run s count).0 st
+use Rattle.er_program.proofs.DrillSteps.{first_run, next_move, run_more, lines_more, done_more, answer_fault, answer_end, behind, ahead}
 
 -- one step more
-run_more : (s : Scenario) (i : ℕ) (st : Step) → i < length s.steps → get_or s.steps i st ≡ st
-    → first_run s (i + 1) ≡ ((next_step s i st).0, (first_run s i).1 ++ (next_step s i st).1)
-run_more s i st inside item =
-    let more : take (i + 1) s.steps ≡ take i s.steps ++ st ∷ [] = take_more s.steps i st inside ∙ ap (λ x. take i s.steps ++ x ∷ []) item in
-    let both = run-append [] (first_link s) (take i s.steps) (st ∷ []) in
-    let none : (next_step s i st).1 ++ [] ≡ (next_step s i st).1 = append-nil (next_step s i st).1 in
-    ap (run [] (first_link s)) more ∙ both ∙ ap (λ (came : List Noted). ((next_step s i st).0, (first_run s i).1 ++ came)) none
-
-pub went_more : (s : Scenario) (i : ℕ) (st : Step) (k m : KeptLink) (a b c : Option (List ℕ)) (f g h : ℕ)
-    → Went s i k a b f g → i < length s.steps → get_or s.steps i st ≡ st
-    → ((sealed : List Sealing) → Holds k.kept sealed → WentOne sealed k st m b c g h)
+pub went_more : (s : Scenario) (i : ℕ) (x : Numbered) (k m : KeptWorld) (a b c : Option (List ℕ)) (f g h : ℕ)
+    → Went s i k a b f g → slice_get s.steps i ≡ Some x
+    → ((seen : List Came) → Holds k seen → WentOne seen k x.step m b c g h)
     → Went s (i + 1) m a c f h
-went_more s i st k m a b c f g h went inside item each =
-    let one = each (sealings (first_run s i).1) went.pairs in
-    let more = run_more s i st inside item in
-    let came : (first_run s (i + 1)).1 ≡ (first_run s i).1 ++ (next_step s i st).1 = ap (λ (r : Link × List Noted). r.1) more in
-    let link = rw went.link at one.link in
-    let pairs = rw went.link at one.pairs in
-    let printed = rw went.link at one.printed in
+went_more s i x k m a b c f g h went at each =
+    let one = each (first_run s i).1 went.holds in
+    let more = run_more s i x at in
+    let none = rw went.world at one.none in
+    let world = rw went.world at one.world in
+    let holds = rw went.world at one.holds in
+    let printed = rw (went.world, went.show) at one.printed in
     record {
-      link = link ∙ sym (ap (λ (r : Link × List Noted). r.0) more);
-      pairs = rw (came, sealings-append (first_run s i).1 (next_step s i st).1) pairs;
-      printed = rw (came, lines-append 1 (first_run s i).1 (next_step s i st).1)
-          (grew_then a b c (lines 1 (first_run s i).1) (lines 1 (next_step s i st).1) went.printed printed);
+      are_done = done_more s i x went.are_done at none;
+      world = world ∙ sym (ap (λ (r : World × List Came). r.0) more);
+      holds = rw (ap (λ (r : World × List Came). r.1) more) holds;
+      show = one.show ∙ went.show;
+      unspent = one.unspent;
+      printed = rw (lines_more s i x at) (grew_then a b c (first_lines s i) (lines s.show (next_move s i x.step).1) went.printed printed);
       later = omega (arith, went.later, one.later);
     }
 
--- the lines of the first steps stand at the front of the drill's text
-record Front (s : Scenario) (i : ℕ) : Type 0 where
-  pub rest : List ℕ
-  pub is : drill_text s ≡ lines 1 (first_run s i).1 ++ rest
+-- the sink failed in the lines of a step
+pub went_sink : (s : Scenario) (i : ℕ) (x : Numbered) (k : KeptWorld) (a b c : Option (List ℕ)) (f g h : ℕ)
+    → Went s i k a b f g → slice_get s.steps i ≡ Some x
+    → ((seen : List Came) → Holds k seen → FailedOne seen k x.step b c g h)
+    → GrewPart a c (drill_answer s).text × Rose f h
+went_sink s i x k a b c f g h went at each =
+    let one = each (first_run s i).1 went.holds in
+    let none = rw went.world at one.none in
+    let part = rw (went.world, went.show) at one.part in
+    let front = ahead s i x went.are_done at none in
+    let both : GrewPart a c (first_lines s i ++ lines s.show (next_move s i x.step).1) = part_then a b c _ _ went.printed part in
+    (rw front.is (part_more a c _ front.rest both), omega (arith, went.later, one.rose))
 
-front : (s : Scenario) (i : ℕ) → Front s i
-front s i =
-    let last : Link × List Noted = run (sealings (first_run s i).1) (first_run s i).0 (drop i s.steps) in
-    let both : run [] (first_link s) (take i s.steps ++ drop i s.steps) ≡ (last.0, (first_run s i).1 ++ last.1) = run-append [] (first_link s) (take i s.steps) (drop i s.steps) in
-    let whole : run [] (first_link s) s.steps ≡ (last.0, (first_run s i).1 ++ last.1) = ap (run [] (first_link s)) (sym (take-append-drop i s.steps)) ∙ both in
-    record {
-      rest = lines 1 last.1 ++ summary 1 last.0;
-      is = ap (λ (r : Link × List Noted). lines 1 r.1 ++ summary 1 r.0) whole
-          ∙ ap (λ xs. xs ++ summary 1 last.0) (lines-append 1 (first_run s i).1 last.1)
-          ∙ append_assoc (lines 1 (first_run s i).1) (lines 1 last.1) (summary 1 last.0);
-    }
+-- behind the lines of the first steps, an answer of their world was given
+then_gives : (s : Scenario) (i : ℕ) (k : KeptWorld) (last : Answer) (a b c : Option (List ℕ)) (f g h : ℕ) (r : Result Status Stop)
+    → Went s i k a b f g → drill_answer s ≡ behind (first_lines s i) last → Gives last b c g h r → Drills s a c f h r
+then_gives s i k last a b c f g h (Ok status) went is gives =
+    (gives.0 ∙ sym (ap (λ (x : Answer). x.status) is), rw is (grew_then a b c _ _ went.printed gives.1), omega (arith, went.later, gives.2))
+then_gives s i k last a b c f g h (Err stop.Sink) went is gives =
+    (rw is (part_then a b c _ _ went.printed gives.0), omega (arith, went.later, gives.1))
+then_gives s i k last a b c f g h (Err stop.NoMemory) went is gives =
+    let all : Grew a c (first_lines s i ++ []) = grew_then a b c (first_lines s i) [] went.printed gives.0 in
+    (record { count = i; are_done = went.are_done; grew = rw (append-nil (first_lines s i)) at all }, omega (arith, went.later, gives.1))
 
--- a step broke off: the sink failed in its lines, or memory ran out before them
-pub went_err : (s : Scenario) (i : ℕ) (st : Step) (k m : KeptLink) (a b c : Option (List ℕ)) (f g h : ℕ) (e : Stop)
-    → Went s i k a b f g → i < length s.steps → get_or s.steps i st ≡ st
-    → ((sealed : List Sealing) → Holds k.kept sealed → StepsOne sealed k st m b c g h (Err e))
-    → Drills s a c f h (Err e)
-went_err s i st k m a b c f g h stop.Sink went inside item each =
-    let one = rw went.link at (each (sealings (first_run s i).1) went.pairs) in
-    let more = run_more s i st inside item in
-    let came : (first_run s (i + 1)).1 ≡ (first_run s i).1 ++ (next_step s i st).1 = ap (λ (r : Link × List Noted). r.1) more in
-    let both : GrewPart a c (lines 1 (first_run s i).1 ++ lines 1 (next_step s i st).1) = part_then a b c _ _ went.printed one.0 in
-    let text : lines 1 (first_run s (i + 1)).1 ≡ lines 1 (first_run s i).1 ++ lines 1 (next_step s i st).1 =
-    ap (lines 1) came ∙ lines-append 1 (first_run s i).1 (next_step s i st).1 in
-    let ahead = front s (i + 1) in
-    (rw (ahead.is, text) (part_more a c _ ahead.rest both), omega (arith, went.later, one.1))
-went_err s i st k m a b c f g h stop.NoMemory went inside item each =
-    let one = each (sealings (first_run s i).1) went.pairs in
-    let all : Grew a c (lines 1 (first_run s i).1 ++ []) = grew_then a b c (lines 1 (first_run s i).1) [] went.printed one.0 in
-    (record { count = i; grew = rw (append-nil (lines 1 (first_run s i).1)) at all }, omega (arith, went.later, one.1))
+-- the step isn't done, and its fault was told
+told : (s : Scenario) (i : ℕ) (x : Numbered) (k : KeptWorld) (fault : WorldFault) (a b c : Option (List ℕ)) (f g h : ℕ) (r : Result Status Stop)
+    → Went s i k a b f g → slice_get s.steps i ≡ Some x → fault_behind (first_steps s i) x.step ≡ Some fault
+    → Gives (fault_answer x.line fault) b c g h r → Drills s a c f h r
+told s i x k fault a b c f g h r went at is gives =
+    then_gives s i k (fault_answer x.line fault) a b c f g h r went (answer_fault s i x fault went.are_done at is) gives
 
--- behind the last step, the text is the lines and the closing line
-whole : (s : Scenario) (i : ℕ) (k : KeptLink) (a b : Option (List ℕ)) (f g : ℕ) → Went s i k a b f g → length s.steps ≤ i
-    → drill_text s ≡ lines 1 (first_run s i).1 ++ summary 1 k.link
-whole s i k a b f g went over =
-    let all : take i s.steps ≡ s.steps = take_all i s.steps over in
-    rw (went.link, all) refl
+-- nothing came between
+still : (b c d : Option (List ℕ)) (g h j : ℕ) (last : Answer) (r : Result Status Stop) → Grew b c [] → g ≤ h → Gives last c d h j r → Gives last b d g j r
+still b c d g h j last (Ok status) same le gives = (gives.0, grew_then b c d [] last.text same gives.1, omega (arith, le, gives.2))
+still b c d g h j last (Err stop.Sink) same le gives = (part_then b c d [] last.text same gives.0, omega (arith, le, gives.1))
+still b c d g h j last (Err stop.NoMemory) same le gives = (grew_then b c d [] [] same gives.0, omega (arith, le, gives.1))
 
--- all steps were done, and the closing line was written or not
-pub went_end : (s : Scenario) (i : ℕ) (k : KeptLink) (a b c : Option (List ℕ)) (f g h : ℕ) (text : List ℕ) (r : Result (Unit {0}) Stop)
-    → Went s i k a b f g → length s.steps ≤ i → text ≡ summary 1 k.link → Writes text b c g h r → Drills s a c f h r
-went_end s i k a b c f g h text (Ok done) went over is writes =
-    (rw (whole s i k a b f g went over) (grew_then a b c _ _ went.printed (rw is at writes.0)), omega (arith, went.later, writes.1))
-went_end s i k a b c f g h text (Err stop.Sink) went over is writes =
-    (rw (whole s i k a b f g went over) (part_then a b c _ _ went.printed (rw is at writes.0)), omega (arith, went.later, writes.1))
-went_end s i k a b c f g h text (Err stop.NoMemory) went over is writes =
-    let all : Grew a c (lines 1 (first_run s i).1 ++ []) = grew_then a b c (lines 1 (first_run s i).1) [] went.printed writes.0 in
-    (record { count = i; grew = rw (append-nil (lines 1 (first_run s i).1)) at all }, omega (arith, went.later, writes.1))
+-- memory ran out in a step
+spent : (s : Scenario) (i : ℕ) (k : KeptWorld) (a b c d : Option (List ℕ)) (f g h j : ℕ) (r : Result Status Stop)
+    → Went s i k a b f g → Grew b c [] → g ≤ h → r ≡ Err stop.NoMemory → Grew c d [] → h ≤ j → Drills s a d f j r
+spent s i k a b c d f g h j r went same le is none later =
+    let all : Grew a d (first_lines s i ++ []) =
+    grew_then a b d (first_lines s i) [] went.printed (grew_then b c d [] [] same none) in
+    rw is (record { count = i; are_done = went.are_done; grew = rw (append-nil (first_lines s i)) at all }, omega (arith, went.later, le, later))
+
+-- a step wasn't done
+pub went_halt : (s : Scenario) (i : ℕ) (x : Numbered) (k : KeptWorld) (fault : WorldFault) (a b c d : Option (List ℕ)) (f g h j : ℕ) (r : Result Status Stop)
+    → Went s i k a b f g → slice_get s.steps i ≡ Some x
+    → ((seen : List Came) → Holds k seen → HaltsOne seen k x.step b c g h fault)
+    → TellsFault x.line fault c d h j r → Drills s a d f j r
+went_halt s i x k (NoLink n) a b c d f g h j r went at each tells =
+    let one = each (first_run s i).1 went.holds in
+    told s i x k (NoLink n) a b d f g j r went at (rw went.world at one.is) (still b c d g h j _ r one.printed one.later tells)
+went_halt s i x k (LinkTwice n) a b c d f g h j r went at each tells =
+    let one = each (first_run s i).1 went.holds in
+    told s i x k (LinkTwice n) a b d f g j r went at (rw went.world at one.is) (still b c d g h j _ r one.printed one.later tells)
+went_halt s i x k (Overfull n side most) a b c d f g h j r went at each tells =
+    let one = each (first_run s i).1 went.holds in
+    told s i x k (Overfull n side most) a b d f g j r went at (rw went.world at one.is) (still b c d g h j _ r one.printed one.later tells)
+went_halt s i x k NoMemory a b c d f g h j r went at each tells =
+    let one = each (first_run s i).1 went.holds in
+    spent s i k a b c d f g h j r went one.printed one.later tells.0 tells.1 tells.2
+
+-- all steps were done, and the closing lines were written or not
+pub went_end : (s : Scenario) (i : ℕ) (k : KeptWorld) (a b c : Option (List ℕ)) (f g h : ℕ) (r : Result Status Stop)
+    → Went s i k a b f g → length s.steps ≤ i → Gives (record { status = 0; text = summary (world_of k) }) b c g h r → Drills s a c f h r
+went_end s i k a b c f g h r went over gives =
+    then_gives s i k (record { status = 0; text = summary (first_run s i).0 }) a b c f g h r went (answer_end s i went.are_done over) (rw went.world at gives)

@@ -1,11 +1,8 @@
 pub mod Growth
 pub mod MemoryFiles
 pub mod WholeReads
-pub mod Lines
-pub mod StepLists
+pub mod DrillSteps
 pub mod DrillRuns
 pub mod RunEndings
-pub mod ScenarioOctets
+pub mod HoldsAlways
 pub mod RunMeanings
-pub mod Members
-pub mod Spellings

@@ -1,12 +1,6 @@
 pub mod Outside
 pub mod OutsideMemory
-pub mod Form
-pub mod Views
-pub mod Pairs
-pub mod KeptLinks
-pub mod Drills
 pub mod Answers
 pub mod Runs
+pub mod Drills
 pub mod Endings
-pub mod SafeDeeds
-pub mod PairKeys

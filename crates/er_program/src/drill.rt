@@ -1,64 +1,54 @@
-//! A drill: the steps of a scenario at its link, and the lines that come of them.
+//! A drill: the steps of a scenario in a world of links, and the lines that come of them.
 
-ghost use Rattle.std.specs.Prelude.{◌≡◌, ◌≢◌, [], List, OnOk, OnErr};
-ghost use Rattle.er_world.specs.Deeds.{Sealing};
-ghost use Rattle.er_program.specs.Pairs.{Holds};
-ghost use Rattle.er_program.specs.Views.{step_view, scenario_view};
-ghost use Rattle.er_program.specs.Drills.{Writes, Drills, StepsOne};
-ghost use Rattle.er_program.specs.KeptLinks.{Applied};
+ghost use Rattle.std.specs.Prelude.{◌≡◌, List, false};
+ghost use Rattle.er_scenario.specs.Printed.{IsInRange, CanBeRead};
+ghost use Rattle.er_world.specs.Worlds.{Came};
+ghost use Rattle.er_world.specs.Kept.{Holds};
+ghost use Rattle.er_program.specs.Drills.{Drills, StepsOne};
 
-use crate::link::Link;
-use crate::outside::{Failed, Sink};
-use crate::scenario::{Scenario, Step};
+use crate::endings::{closed, not_done, say};
+use crate::halt::Halt;
+use crate::outside::Sink;
+use crate::status::Status;
 use crate::stop::Stop;
-use er_base::NoMemory;
+use er_scenario::{Scenario, Step};
+use er_world::World;
 use std::alloc::Global;
 
-/// Writes a text, which may be empty.
-#[tactic(auto, using(crate::proofs::Growth::grew_nothing))]
-pub fn say<K: Sink>(text: &[u8], sink: &mut K) -> Result<(), Stop>
-    ensures writes { Writes text.now (K.held sink.old) (K.held sink.new) (K.faults sink.old) (K.faults sink.new) result }
-    ensures only { result ≢ Err Stop.NoMemory }
-{
-    if text.is_empty() {
-        return Ok(());
-    }
-    match sink.write(text) {
-        Ok(()) => Ok(()),
-        Err(Failed) => Err(Stop::Sink),
-    }
-}
-
-fn apply(alloc: Global, link: &mut Link, step: &Step, out: &mut Vec<u8>) -> Result<(), NoMemory>
-    ensures ok { OnOk result ((sealed : List Sealing) → Holds link.old.kept sealed
-        → Applied sealed link.old link.new (step_view step.now) out.old.items out.new.items) }
-    ensures err { OnErr result (out.new.items ≡ out.old.items) }
-{
-    match step {
-        Step::Send { side, user } => link.send(alloc, *side, user.as_slice(), out),
-        Step::Pass { side } => link.pass(alloc, *side, out),
-    }
-}
-
-fn step_once<K: Sink>(alloc: Global, link: &mut Link, step: &Step, sink: &mut K) -> Result<(), Stop>
-    ensures { (sealed : List Sealing) → Holds link.old.kept sealed
-        → StepsOne sealed link.old (step_view step.now) link.new (K.held sink.old) (K.held sink.new) (K.faults sink.old) (K.faults sink.new) result }
+// Does a step and writes its lines as soon as it is done.
+fn step_once<K: Sink>(
+    alloc: Global,
+    world: &mut World,
+    step: &Step,
+    sink: &mut K,
+) -> Result<(), Halt>
+    requires range { IsInRange step.now }
+    requires unspent { world.old.spent ≡ false }
+    ensures { (seen : List Came) → Holds world.old seen
+        → StepsOne seen world.old step.now world.new (K.held sink.old) (K.held sink.new) (K.faults sink.old) (K.faults sink.new) result }
 {
     let mut out = Vec::new(alloc);
-    apply(alloc, link, step, &mut out)?;
-    say(out.as_slice(), sink)
+    match world.apply(alloc, step, &mut out) {
+        Ok(()) => match say(out.as_slice(), sink) {
+            Ok(()) => Ok(()),
+            Err(_) => Err(Halt::Sink),
+        },
+        Err(fault) => Err(Halt::Fault(fault)),
+    }
 }
 
-/// Runs a scenario and writes its text.
-pub fn drill<K: Sink>(alloc: Global, scenario: &Scenario, sink: &mut K) -> Result<(), Stop>
-    ensures { Drills (scenario_view scenario.now) (K.held sink.old) (K.held sink.new) (K.faults sink.old) (K.faults sink.new) result }
+/// Does the steps of a scenario and writes what comes of them, to the end or up to the first step that isn't done.
+pub fn drill<K: Sink>(alloc: Global, scenario: &Scenario, sink: &mut K) -> Result<Status, Stop>
+    requires { CanBeRead scenario.now }
+    ensures { Drills scenario.now (K.held sink.old) (K.held sink.new) (K.faults sink.old) (K.faults sink.new) result }
 {
-    let opening = &scenario.opening;
-    let mut link = Link::opened(alloc, opening.engine, opening.rbc, opening.ke, opening.kr)?;
-    for step in &scenario.steps {
-        step_once(alloc, &mut link, step, sink)?;
+    let mut world = World::new(alloc, scenario.level, scenario.settings, scenario.show)?;
+    for numbered in scenario.steps.as_slice() {
+        match step_once(alloc, &mut world, &numbered.step, sink) {
+            Ok(()) => {}
+            Err(Halt::Sink) => return Err(Stop::Sink),
+            Err(Halt::Fault(fault)) => return not_done(alloc, numbered.line, fault, sink),
+        }
     }
-    let mut out = Vec::new(alloc);
-    link.summary(alloc, &mut out)?;
-    say(out.as_slice(), sink)
+    closed(alloc, &world, sink)
 }

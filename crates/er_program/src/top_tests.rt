@@ -1,15 +1,51 @@
 use crate::outside::{MemoryCabinet, MemorySink};
 use crate::{Status, run};
-use std::alloc::Global;
+use std::alloc::{AllocError, Global};
 use std::test::Fail;
 
-const ONE_SEALED_MESSAGE: &str = "drill 1 safe
-fixed 1 5 9 0123456789abcdef23456789abcdef01456789abcdef0123 0123456789abcdef23456789abcdef01456789abcdef0123
-send 1 e 41
-pass 1 e
-";
+const KEY: &str = "0123456789abcdef23456789abcdef01456789abcdef0123";
 
-fn words(alloc: Global, text: &[&str]) -> Result<Vec<String>, Fail> {
+const ONE_SEALED_MESSAGE: &str = "drill 1 safe;fixed 1 5 9 K K;send 1 e 41;pass 1 e;";
+
+// A file, and the status and the text of its drill, as the grammar and the tables of answers say.
+type Row = (&'static str, u8, &'static str);
+
+const ROWS: [Row; 7] = [
+    (
+        ONE_SEALED_MESSAGE,
+        0,
+        "1 r accepted 41;1 end passes 1 waiting 0 0;",
+    ),
+    ("", 3, "! line 1 header;"),
+    ("drill 1 safe;", 0, ""),
+    ("drill 1 safe;set window 8;", 3, "! line 2 value;"),
+    ("drill 1 safe;pass 1 e;", 3, "! line 2 nolink;"),
+    (
+        "drill 1 safe;fixed 1 5 9 K K;fixed 1 5 9 K K;",
+        3,
+        "! line 3 twice;",
+    ),
+    (
+        "drill 1 safe;fixed 1 5 9 K K;pass 1 r;fixed 1 5 9 K K;pass 1 e;",
+        3,
+        "1 r empty;! line 4 twice;",
+    ),
+];
+
+// A text in which each K stands for 48 digits, and each semicolon for LF.
+fn spelled_out(alloc: Global, text: &str) -> Result<Vec<u8>, AllocError> {
+    let mut octets = Vec::new(alloc);
+    for octet in text.as_bytes() {
+        match *octet {
+            b'K' => octets.extend_from_slice(KEY.as_bytes())?,
+            b';' => octets.push(b'\n')?,
+            other => octets.push(other)?,
+        }
+    }
+    Ok(octets)
+}
+
+fn words(alloc: Global, text: &[&str]) -> Result<Vec<String>, AllocError> {
     let mut words = Vec::new(alloc);
     for word in text {
         words.push(String::from_str(alloc, word)?)?;
@@ -18,25 +54,24 @@ fn words(alloc: Global, text: &[&str]) -> Result<Vec<String>, Fail> {
 }
 
 fn cabinet(alloc: Global, text: &str) -> Result<MemoryCabinet, Fail> {
+    let octets = spelled_out(alloc, text)?;
     let mut cabinet = MemoryCabinet::new(alloc);
-    cabinet.put("x", text.as_bytes())?;
+    cabinet.put("x", octets.as_slice())?;
     Ok(cabinet)
 }
 
 #[test]
-fn one_sealed_message(rt: HostRuntime) -> Result<(), Fail> {
+fn files_with_their_statuses_and_texts(rt: HostRuntime) -> Result<(), Fail> {
     let alloc = rt.alloc();
-    let mut cabinet = cabinet(alloc, ONE_SEALED_MESSAGE)?;
-    let mut sink = MemorySink::with_capacity(alloc, 1_000)?;
     let words = words(alloc, &["drill", "x"])?;
-    assert_eq!(rt;
-        run(alloc, words.as_slice(), &mut cabinet, &mut sink),
-        Status(0)
-    );
-    assert_eq!(rt;
-        sink.held(),
-        b"1 r accepted 41\n1 end passes 1 waiting 0 0\n".as_slice()
-    );
+    for (file, status, printed) in &ROWS {
+        let mut cabinet = cabinet(alloc, file)?;
+        let mut sink = MemorySink::with_capacity(alloc, 1_000)?;
+        let answer = run(alloc, words.as_slice(), &mut cabinet, &mut sink);
+        let text = spelled_out(alloc, printed)?;
+        assert_eq!(rt; answer, Status(*status));
+        assert_eq!(rt; sink.held(), text.as_slice());
+    }
     Ok(())
 }
 
@@ -46,10 +81,8 @@ fn words_that_fit_no_command(rt: HostRuntime) -> Result<(), Fail> {
     let mut cabinet = cabinet(alloc, ONE_SEALED_MESSAGE)?;
     let mut sink = MemorySink::with_capacity(alloc, 1_000)?;
     let words = words(alloc, &["drill"])?;
-    assert_eq!(rt;
-        run(alloc, words.as_slice(), &mut cabinet, &mut sink),
-        Status(1)
-    );
+    let answer = run(alloc, words.as_slice(), &mut cabinet, &mut sink);
+    assert_eq!(rt; answer, Status(1));
     assert_eq!(rt; sink.held(), b"! usage\n".as_slice());
     Ok(())
 }
@@ -61,25 +94,9 @@ fn a_fetch_that_fails(rt: HostRuntime) -> Result<(), Fail> {
     cabinet.fail(1)?;
     let mut sink = MemorySink::with_capacity(alloc, 1_000)?;
     let words = words(alloc, &["drill", "x"])?;
-    assert_eq!(rt;
-        run(alloc, words.as_slice(), &mut cabinet, &mut sink),
-        Status(2)
-    );
+    let answer = run(alloc, words.as_slice(), &mut cabinet, &mut sink);
+    assert_eq!(rt; answer, Status(2));
     assert_eq!(rt; sink.held(), b"! fetch x\n".as_slice());
-    Ok(())
-}
-
-#[test]
-fn a_file_out_of_form(rt: HostRuntime) -> Result<(), Fail> {
-    let alloc = rt.alloc();
-    let mut cabinet = cabinet(alloc, "drill 1 safe\n")?;
-    let mut sink = MemorySink::with_capacity(alloc, 1_000)?;
-    let words = words(alloc, &["drill", "x"])?;
-    assert_eq!(rt;
-        run(alloc, words.as_slice(), &mut cabinet, &mut sink),
-        Status(3)
-    );
-    assert_eq!(rt; sink.held(), b"! text\n".as_slice());
     Ok(())
 }
 
@@ -90,10 +107,21 @@ fn a_sink_that_fails_at_its_first_write(rt: HostRuntime) -> Result<(), Fail> {
     let mut sink = MemorySink::with_capacity(alloc, 1_000)?;
     sink.fail(1)?;
     let words = words(alloc, &["drill", "x"])?;
-    assert_eq!(rt;
-        run(alloc, words.as_slice(), &mut cabinet, &mut sink),
-        Status(5)
-    );
+    let answer = run(alloc, words.as_slice(), &mut cabinet, &mut sink);
+    assert_eq!(rt; answer, Status(5));
     assert_eq!(rt; sink.held(), b"".as_slice());
+    Ok(())
+}
+
+#[test]
+fn a_sink_that_fails_at_the_closing_line(rt: HostRuntime) -> Result<(), Fail> {
+    let alloc = rt.alloc();
+    let mut cabinet = cabinet(alloc, ONE_SEALED_MESSAGE)?;
+    let mut sink = MemorySink::with_capacity(alloc, 1_000)?;
+    sink.fail(2)?;
+    let words = words(alloc, &["drill", "x"])?;
+    let answer = run(alloc, words.as_slice(), &mut cabinet, &mut sink);
+    assert_eq!(rt; answer, Status(5));
+    assert_eq!(rt; sink.held(), b"1 r accepted 41\n".as_slice());
     Ok(())
 }

@@ -3,7 +3,6 @@ pub mod FirstLines
 pub mod BodyLines
 pub mod WholeReads
 pub mod LineTexts
-pub mod SpelledOctets
 pub mod SolidWords
 pub mod PrintedLines
 pub mod PrintedArguments

@@ -1,20 +1,21 @@
 -- Arguments that are printed are read as the same values.
-use Rattle.std.proofs.Common.{arith, ◌≡◌, ℕ, ◌≤◌, ◌<◌, ◌^◌, List, [], ◌∷◌, ◌++◌, ◌%◌, zero, suc, length, slice_index, take, drop, Ok, refl, ap, ◌∙◌, append_assoc, length-append, eq-eqb}
+use Rattle.std.proofs.Common.{arith, ◌≡◌, ℕ, ◌≤◌, ◌<◌, ◌^◌, inl, inr, false, List, [], ◌∷◌, ◌++◌, ◌%◌, zero, suc, length, slice_index, take, drop, Option, Some, None, Ok, refl, ap, ◌∙◌, append_assoc, length-append, eq-eqb, codes}
 use Rattle.std.specs.Fmt.{decimal}
 use Rattle.std.specs.Int.{from_be_bytes, w64}
-use Rattle.std.proofs.lemmas.Bool.{le-ltb, ne_eqb}
+use Rattle.std.specs.Str.{bytes_eq}
+use Rattle.std.proofs.lemmas.Bool.{cases_Bool, le-ltb, ne_eqb}
 use Rattle.std.proofs.lemmas.List.{take_at, drop_at, take_all}
 use Rattle.std.proofs.lemmas.Nat.{from_be_bytes-to_be_bytes_8}
 use Rattle.er_base.specs.declared.side.Side.{Side}
 use Rattle.er_base.specs.declared.side.Side.TheVariants.{E, R}
 use Rattle.er_base.specs.Octets.{eight}
-use Rattle.er_base.specs.Hexadecimal.{hex_of}
+use Rattle.er_base.specs.Hexadecimal.{octets_spelled, hex_of}
 use Rattle.er_base.proofs.Decimals.{number_of_word}
 use Rattle.er_base.proofs.Spellings.{read_back}
 use Rattle.des_block.specs.declared.triple_key.TripleKey.{TripleKey}
-use Rattle.er_scenario.specs.Arguments.{number_of, side_of, three_keys, octets_named, octets_in, key_of, text_of, mask_of}
-use Rattle.er_scenario.specs.Printed.{IsLink, IsKey, IsText, side_word, key_word}
-use Rattle.er_scenario.proofs.SolidWords.{IsSolid, solid_hex}
+use Rattle.er_scenario.specs.Arguments.{number_of, side_of, three_keys, octets_named, octets_in, key_of, optional_key_of, number_named, text_of, mask_of}
+use Rattle.er_scenario.specs.Printed.{IsLink, IsKey, IsOptionalKey, IsText, side_word, key_word, optional_key_word, number_word}
+use Rattle.er_scenario.proofs.SolidWords.{IsSolid, solid_codes, solid_hex}
 
 pub number_read : (least most n : ℕ) → least ≤ n → n ≤ most → n < 2 ^ 64 → number_of least most (decimal n) ≡ Ok n
 unfolding number_of
@@ -127,8 +128,44 @@ key_read key h =
     rw (octets_read (spelled key) (octet_at (spelled key) (spelled_octets key)), eq-eqb (length (spelled key)) 24 (length_spelled key))
     (ap (λ (k : TripleKey). Ok k) (three_read key h))
 
+none_or_some : (octets : List ℕ) → Some [] ≡ Some octets → 0 < length octets → ⊥
+none_or_some [] same some = omega arith
+none_or_some (x ∷ xs) same some = cc same
+
+-- a word that spells some octets is no `-`
+no_hyphen : (word octets : List ℕ) → octets_spelled word ≡ Some octets → 0 < length octets → bytes_eq word (codes "-") ≡ false
+unfolding octets_spelled
+no_hyphen word octets spells some =
+    elim (cases_Bool (bytes_eq word (codes "-"))) [
+      | inl t ↦ absurd (none_or_some octets (rw t at spells) some)
+      | inr f ↦ f
+    ]
+
+key_no_hyphen : (key : TripleKey) → bytes_eq (key_word key) (codes "-") ≡ false
+key_no_hyphen key =
+    let long = length_spelled key in
+    no_hyphen (key_word key) (spelled key) (read_back (spelled key) (octet_at (spelled key) (spelled_octets key))) (omega (arith, long))
+
+pub optional_key_read : (key : Option TripleKey) → IsOptionalKey key → optional_key_of (optional_key_word key) ≡ Ok key
+unfolding optional_key_of
+optional_key_read None h = refl
+optional_key_read (Some key) h = rw (key_no_hyphen key, key_read key h) refl
+
+pub random_read : (n : ℕ) → n < 2 ^ 64 → number_named (number_word n) ≡ Ok n
+unfolding number_named
+random_read n h =
+    rw (octets_read (eight n) (octet_at (eight n) (eight_octets n)), eq-eqb (length (eight n)) 8 (length_eight n))
+    (ap (λ (m : ℕ). Ok m) (number_eight n h))
+
 pub solid_key : (key : TripleKey) → IsSolid (key_word key)
 solid_key key = solid_hex (spelled key) (octet_at (spelled key) (spelled_octets key))
+
+pub solid_optional_key : (key : Option TripleKey) → IsSolid (optional_key_word key)
+solid_optional_key None = solid_codes (codes "-") refl refl
+solid_optional_key (Some key) = solid_key key
+
+pub solid_random : (n : ℕ) → IsSolid (number_word n)
+solid_random n = solid_hex (eight n) (octet_at (eight n) (eight_octets n))
 
 pub solid_mask : (mask : ℕ) → mask < 256 → IsSolid (hex_of (mask ∷ []))
 solid_mask mask h = solid_hex (mask ∷ []) (one_byte mask h)

@@ -3,19 +3,22 @@ use Rattle.std.proofs.Common.{arith, ◌≡◌, ℕ, ◌+◌, Bool, true, false,
 use Rattle.er_scenario.specs.declared.numbered.Numbered.{Numbered}
 use Rattle.er_scenario.specs.declared.choices.Choices.{Choices}
 use Rattle.er_scenario.specs.declared.step.Step.{Step}
-use Rattle.er_scenario.specs.declared.step.Step.TheVariants.{Fixed, Send, Pass, Lose, Repeat, Alter, Put, Copy, Release, Drain}
-use Rattle.er_scenario.specs.Steps.{step_of, fixed_from, fixed_of, send_of, pass_of, lose_of, repeat_of, alter_from, alter_of, put_of, copy_from, copy_of, release_of, drain_of}
+use Rattle.er_scenario.specs.declared.step.Step.TheVariants.{Fixed, Link, Send, Pass, Lose, Repeat, Alter, Put, Copy, Release, Drain}
+use Rattle.er_scenario.specs.Steps.{step_of, fixed_from, fixed_of, link_line_from, link_line_of, send_of, pass_of, lose_of, repeat_of, alter_from, alter_of, put_of, copy_from, copy_of, release_of, drain_of}
 use Rattle.er_scenario.specs.Files.{Said, Does, said_of, all_said, is_choice, choices_after, steps_in}
 use Rattle.er_scenario.specs.Printed.{IsInRange, AreInRange, step_words, step_lines}
 use Rattle.er_scenario.proofs.SolidWords.{solid_codes, solid_side, solid_decimal, solid_hex}
 use Rattle.er_scenario.proofs.PrintedLines.{IsLine, AreLines, rows_from}
-use Rattle.er_scenario.proofs.PrintedArguments.{number_read, link_read, side_read, text_read, mask_read, key_read, solid_key, solid_mask}
+use Rattle.er_scenario.proofs.PrintedArguments.{number_read, link_read, side_read, text_read, mask_read, key_read, optional_key_read, random_read, solid_key, solid_optional_key, solid_random, solid_mask}
 
 step_read : (late : Bool) (number : ℕ) (step : Step) → IsInRange step
     → said_of late (record { number = number; words = step_words step }) ≡ Ok (Does (record { line = number; step = step }))
-unfolding said_of step_of fixed_from fixed_of send_of pass_of lose_of repeat_of alter_from alter_of put_of copy_from copy_of release_of drain_of
+unfolding said_of step_of fixed_from fixed_of link_line_from link_line_of send_of pass_of lose_of repeat_of alter_from alter_of put_of copy_from copy_of release_of drain_of
 step_read late number (Fixed link engine rbc ke kr) h =
     rw (link_read link h.0, number_read 0 16777215 engine (omega arith) (omega (arith, h.1)) (omega (arith, h.1)), number_read 0 16777215 rbc (omega arith) (omega (arith, h.2)) (omega (arith, h.2)), key_read ke h.3, key_read kr h.4)
+    refl
+step_read late number (Link link engine rbc ke kr ra rb) h =
+    rw (link_read link h.0, number_read 0 16777215 engine (omega arith) (omega (arith, h.1)) (omega (arith, h.1)), number_read 0 16777215 rbc (omega arith) (omega (arith, h.2)) (omega (arith, h.2)), key_read ke h.3, optional_key_read kr h.4, random_read ra h.5, random_read rb h.6)
     refl
 step_read late number (Send link side text) h = rw (link_read link h.0, side_read side, text_read text h.1) refl
 step_read late number (Pass link side) h = rw (link_read link h, side_read side) refl
@@ -33,6 +36,7 @@ step_read late number (Drain link most) h = rw (link_read link h.0, number_read 
 -- and no step's line begins with `set`
 no_choice : (step : Step) → is_choice (step_words step) ≡ false
 no_choice (Fixed link engine rbc ke kr) = refl
+no_choice (Link link engine rbc ke kr ra rb) = refl
 no_choice (Send link side text) = refl
 no_choice (Pass link side) = refl
 no_choice (Lose link side) = refl
@@ -47,6 +51,10 @@ step_line : (step : Step) → IsInRange step → IsLine (step_words step)
 step_line (Fixed link engine rbc ke kr) h = (
   solid_codes (codes "fixed") refl refl,
   (solid_decimal link (omega (arith, h.0.1)), (solid_decimal engine (omega (arith, h.1)), (solid_decimal rbc (omega (arith, h.2)), (solid_key ke, (solid_key kr, tt))))),
+)
+step_line (Link link engine rbc ke kr ra rb) h = (
+  solid_codes (codes "link") refl refl,
+  (solid_decimal link (omega (arith, h.0.1)), (solid_decimal engine (omega (arith, h.1)), (solid_decimal rbc (omega (arith, h.2)), (solid_key ke, (solid_optional_key kr, (solid_random ra, (solid_random rb, tt))))))),
 )
 step_line (Send link side text) h = (
   solid_codes (codes "send") refl refl,

@@ -76,6 +76,22 @@ key_from octets = if length octets == 24 then Ok (three_keys octets) else Err He
 unfoldable pub key_of : List ℕ → Result TripleKey Why
 key_of word = octets_named word >>= key_from
 
+-- a key that is there
+abbrev pub some_key : TripleKey → Result (Option TripleKey) Why
+some_key key = Ok (Some key)
+
+-- KEY, or `-` where there is no key
+unfoldable pub optional_key_of : List ℕ → Result (Option TripleKey) Why
+optional_key_of word = if bytes_eq word (codes "-") then Ok None else (key_of word >>= some_key)
+
+-- eight octets are a number, the most significant octet first
+abbrev pub number_from : List ℕ → Result ℕ Why
+number_from octets = if length octets == 8 then Ok (from_be_bytes w64 octets) else Err Hex
+
+-- NUM16: 16 hexadecimal digits
+unfoldable pub number_named : List ℕ → Result ℕ Why
+number_named word = octets_named word >>= number_from
+
 -- at most 4,096 octets
 abbrev pub text_from : List ℕ → Result (List ℕ) Why
 text_from octets = if nat_lt 4096 (length octets) then Err Value else Ok octets

@@ -1,6 +1,6 @@
 -- The text of a scenario (this profile): the header, a `set` line for each value that isn't the default, and a line a step,
 -- each ended by LF. Where that text isn't too long, it is read as the same scenario, line numbers aside.
-use Rattle.std.specs.Prelude.{ℕ, ◌≡◌, ◌<◌, ◌≤◌, ◌^◌, ◌==◌, Bool, if◌then◌else◌, List, [], ◌∷◌, ◌++◌, length, map, slice_index, codes}
+use Rattle.std.specs.Prelude.{ℕ, ◌≡◌, ◌<◌, ◌≤◌, ◌^◌, ◌==◌, Bool, if◌then◌else◌, List, [], ◌∷◌, ◌++◌, length, map, slice_index, Option, Some, None, codes}
 use Rattle.std.specs.Fmt.{decimal}
 use Rattle.er_base.specs.declared.side.Side.{Side}
 use Rattle.er_base.specs.declared.side.Side.TheVariants.{E, R}
@@ -12,7 +12,7 @@ use Rattle.er_settings.specs.Ranges.{AllAllowed, usual_settings}
 use Rattle.er_scenario.specs.declared.level.Level.{Level}
 use Rattle.er_scenario.specs.declared.level.Level.TheVariants.{Safe}
 use Rattle.er_scenario.specs.declared.step.Step.{Step}
-use Rattle.er_scenario.specs.declared.step.Step.TheVariants.{Fixed, Send, Pass, Lose, Repeat, Alter, Put, Copy, Release, Drain}
+use Rattle.er_scenario.specs.declared.step.Step.TheVariants.{Fixed, Link, Send, Pass, Lose, Repeat, Alter, Put, Copy, Release, Drain}
 use Rattle.er_scenario.specs.declared.numbered.Numbered.{Numbered}
 use Rattle.er_scenario.specs.declared.scenario.Scenario.{Scenario}
 
@@ -24,6 +24,11 @@ IsLink n = (1 ≤ n) × (n ≤ 64)
 abbrev pub IsKey : TripleKey → Type 0
 IsKey key = (key.first < 2 ^ 64) × (key.second < 2 ^ 64) × (key.third < 2 ^ 64)
 
+-- and so is a key that is there
+abbrev pub IsOptionalKey : Option TripleKey → Type 0
+IsOptionalKey None = Unit {0}
+IsOptionalKey (Some key) = IsKey key
+
 -- at most 4,096 octets
 abbrev pub IsText : List ℕ → Type 0
 IsText text = (length text ≤ 4096) × ((k : ℕ) → k < length text → slice_index text k < 256)
@@ -31,6 +36,8 @@ IsText text = (length text ≤ 4096) × ((k : ℕ) → k < length text → slice
 -- a step whose numbers are in their ranges
 abbrev pub IsInRange : Step → Type 0
 IsInRange (Fixed link engine rbc ke kr) = IsLink link × (engine < 16777216) × (rbc < 16777216) × IsKey ke × IsKey kr
+IsInRange (Link link engine rbc ke kr ra rb) =
+    IsLink link × (engine < 16777216) × (rbc < 16777216) × IsKey ke × IsOptionalKey kr × (ra < 2 ^ 64) × (rb < 2 ^ 64)
 IsInRange (Send link side text) = IsLink link × IsText text
 IsInRange (Pass link side) = IsLink link
 IsInRange (Lose link side) = IsLink link
@@ -60,9 +67,20 @@ side_word R = codes "r"
 abbrev pub key_word : TripleKey → List ℕ
 key_word key = hex_of (eight key.first ++ eight key.second ++ eight key.third)
 
+-- KEY, or `-` where there is none
+abbrev pub optional_key_word : Option TripleKey → List ℕ
+optional_key_word None = codes "-"
+optional_key_word (Some key) = key_word key
+
+-- NUM16
+abbrev pub number_word : ℕ → List ℕ
+number_word n = hex_of (eight n)
+
 -- the words of a step's line
 abbrev pub step_words : Step → List (List ℕ)
 step_words (Fixed link engine rbc ke kr) = codes "fixed" ∷ decimal link ∷ decimal engine ∷ decimal rbc ∷ key_word ke ∷ key_word kr ∷ []
+step_words (Link link engine rbc ke kr ra rb) =
+    codes "link" ∷ decimal link ∷ decimal engine ∷ decimal rbc ∷ key_word ke ∷ optional_key_word kr ∷ number_word ra ∷ number_word rb ∷ []
 step_words (Send link side text) = codes "send" ∷ decimal link ∷ side_word side ∷ hex_of text ∷ []
 step_words (Pass link side) = codes "pass" ∷ decimal link ∷ side_word side ∷ []
 step_words (Lose link side) = codes "lose" ∷ decimal link ∷ side_word side ∷ []

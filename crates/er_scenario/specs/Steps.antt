@@ -5,9 +5,9 @@ use Rattle.std.specs.Prelude.{ℕ, if◌then◌else◌, List, [], ◌∷◌, Res
 use Rattle.std.specs.Str.{bytes_eq}
 use Rattle.er_base.specs.declared.why.Why.{Why}
 use Rattle.er_base.specs.declared.why.Why.TheVariants.{Word, Count}
-use Rattle.er_scenario.specs.Arguments.{◌>>=◌, link_of, etcs_number_of, sub_reason_of, most_of, place_of, side_of, key_of, text_of, mask_of}
+use Rattle.er_scenario.specs.Arguments.{◌>>=◌, link_of, etcs_number_of, sub_reason_of, most_of, place_of, side_of, key_of, optional_key_of, number_named, text_of, mask_of}
 use Rattle.er_scenario.specs.declared.step.Step.{Step}
-use Rattle.er_scenario.specs.declared.step.Step.TheVariants.{Fixed, Send, Pass, Lose, Repeat, Alter, Put, Copy, Release, Drain}
+use Rattle.er_scenario.specs.declared.step.Step.TheVariants.{Fixed, Link, Send, Pass, Lose, Repeat, Alter, Put, Copy, Release, Drain}
 
 -- fixed N E R KEY KEY, argument by argument
 unfoldable pub fixed_from : (n e r ke kr : List ℕ) → Result Step Why
@@ -23,6 +23,23 @@ fixed_from n e r ke kr = do
 unfoldable pub fixed_of : List (List ℕ) → Result Step Why
 fixed_of (n ∷ e ∷ r ∷ ke ∷ kr ∷ []) = fixed_from n e r ke kr
 fixed_of words = Err Count
+
+-- link N E R KEY KEY RA RB, argument by argument; the RBC's KEY may be `-`
+unfoldable pub link_line_from : (n e r ke kr ra rb : List ℕ) → Result Step Why
+link_line_from n e r ke kr ra rb = do
+  link ← link_of n
+  engine ← etcs_number_of e
+  rbc ← etcs_number_of r
+  engine_kmac ← key_of ke
+  rbc_kmac ← optional_key_of kr
+  rbc_random ← number_named ra
+  engine_random ← number_named rb
+  Ok (Link link engine rbc engine_kmac rbc_kmac rbc_random engine_random)
+
+-- its seven words
+unfoldable pub link_line_of : List (List ℕ) → Result Step Why
+link_line_of (n ∷ e ∷ r ∷ ke ∷ kr ∷ ra ∷ rb ∷ []) = link_line_from n e r ke kr ra rb
+link_line_of words = Err Count
 
 -- send N S HEX
 unfoldable pub send_of : List (List ℕ) → Result Step Why
@@ -115,6 +132,7 @@ drain_of words = Err Count
 unfoldable pub step_of : List ℕ → List (List ℕ) → Result Step Why
 step_of name words =
     if bytes_eq name (codes "fixed") then fixed_of words
+    else if bytes_eq name (codes "link") then link_line_of words
     else if bytes_eq name (codes "send") then send_of words
     else if bytes_eq name (codes "pass") then pass_of words
     else if bytes_eq name (codes "lose") then lose_of words

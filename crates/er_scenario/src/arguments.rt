@@ -1,9 +1,9 @@
 //! The arguments of the lines: each is read by itself, and answers its first fault.
 
 ghost use Rattle.std.specs.Prelude.{◌≡◌, ◌<◌, ◌≤◌, ◌^◌, ℕ, length, slice_index, IfOk};
-ghost use Rattle.er_scenario.specs.Arguments.{number_of, link_of, etcs_number_of, sub_reason_of, most_of, place_of, side_of, octets_named, three_keys, key_from, key_of, text_of, mask_from, mask_of};
+ghost use Rattle.er_scenario.specs.Arguments.{number_of, link_of, etcs_number_of, sub_reason_of, most_of, place_of, side_of, octets_named, three_keys, key_from, key_of, optional_key_of, number_from, number_named, text_of, mask_from, mask_of};
 ghost use Rattle.er_scenario.specs.Readings.{Gives};
-ghost use Rattle.er_scenario.specs.Printed.{IsLink, IsKey, IsText};
+ghost use Rattle.er_scenario.specs.Printed.{IsLink, IsKey, IsOptionalKey, IsText};
 
 use crate::line_fault::LineFault;
 use des_block::TripleKey;
@@ -20,6 +20,8 @@ const MOST_PASSES: u64 = 100_000;
 const MOST_TEXT_OCTETS: usize = 4_096;
 /// The octets of three keys.
 const KEY_OCTETS: usize = 24;
+/// The octets of a random number.
+const NUMBER_OCTETS: usize = 8;
 
 // A decimal number from `least` to `most`.
 #[tactic(auto, unfolding(crate::specs::Arguments::number_of))]
@@ -140,6 +142,42 @@ pub fn key(alloc: Global, word: &[u8]) -> Result<TripleKey, LineFault>
 {
     let octets = octets(alloc, word)?;
     Ok(keys(octets.as_slice())?)
+}
+
+/// Three keys, or `-` where there are none.
+#[tactic(auto, unfolding(crate::specs::Arguments::optional_key_of))]
+pub fn optional_key(alloc: Global, word: &[u8]) -> Result<Option<TripleKey>, LineFault>
+    ensures value { Gives result (optional_key_of word.now) }
+    ensures range { IfOk result (λ k. IsOptionalKey k) }
+{
+    if word == b"-".as_slice() {
+        return Ok(None);
+    }
+    Ok(Some(key(alloc, word)?))
+}
+
+// A number of eight octets.
+fn eight_octets(octets: &[u8]) -> Result<u64, Why>
+    ensures value { result ≡ number_from octets.now }
+    ensures range { IfOk result (λ n. n < 2 ^ 64) }
+{
+    if octets.len() != NUMBER_OCTETS {
+        return Err(Why::Hex);
+    }
+    let Some((number, _)) = octets.split_first_chunk::<8>() else {
+        return Err(Why::Hex);
+    };
+    Ok(u64::from_be_bytes(*number))
+}
+
+/// A random number, 16 hexadecimal digits.
+#[tactic(auto, unfolding(crate::specs::Arguments::number_named))]
+pub fn random_number(alloc: Global, word: &[u8]) -> Result<u64, LineFault>
+    ensures value { Gives result (number_named word.now) }
+    ensures range { IfOk result (λ n. n < 2 ^ 64) }
+{
+    let octets = octets(alloc, word)?;
+    Ok(eight_octets(octets.as_slice())?)
 }
 
 /// The octets of a message or a frame, at most 4,096.

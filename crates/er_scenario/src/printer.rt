@@ -1,11 +1,12 @@
 //! Prints a scenario as a drill file.
 
-ghost use Rattle.std.specs.Prelude.{◌≡◌, ◌≤◌, ◌∷◌, ◌++◌, length, map, string_bytes, IfOk, OnOk, OnErr};
+ghost use Rattle.std.specs.Prelude.{◌≡◌, ◌≤◌, [], ◌∷◌, ◌++◌, length, map, string_bytes, IfOk, OnOk, OnErr};
 ghost use Rattle.std.specs.Fmt.{decimal};
 ghost use Rattle.er_base.specs.Octets.{eight};
 ghost use Rattle.er_base.specs.Hexadecimal.{hex_of};
-ghost use Rattle.er_scenario.specs.Printed.{level_word, side_word, key_word, step_words, line_of, lines_text, set_lines, show_lines, choice_lines, step_lines, text_printed, CanBeRead};
+ghost use Rattle.er_scenario.specs.Printed.{level_word, side_word, key_word, optional_key_word, number_word, step_words, line_of, lines_text, set_lines, show_lines, choice_lines, step_lines, text_printed, CanBeRead};
 ghost use Rattle.er_scenario.specs.Laws.{IsReadAgain};
+ghost use Rattle.er_scenario.specs.declared.step.Step.TheVariants.{Fixed, Link, Alter, Copy, Release, Drain};
 
 use crate::level::Level;
 use crate::numbered::Numbered;
@@ -48,7 +49,7 @@ fn hexadecimal(alloc: Global, octets: &[u8]) -> Result<Vec<u8>, NoMemory>
 }
 
 #[tactic(auto, unfolding(er_base::specs::Octets::eight))]
-fn key_octets(number: u64) -> [u8; 8]
+fn number_octets(number: u64) -> [u8; 8]
     ensures { result ≡ eight number }
 {
     number.to_be_bytes()
@@ -58,10 +59,25 @@ fn key(alloc: Global, key: &TripleKey) -> Result<Vec<u8>, NoMemory>
     ensures { IfOk result (λ word. word.items ≡ key_word key.now) }
 {
     let mut octets = Vec::new(alloc);
-    octets.extend_from_slice(&key_octets(key.first))?;
-    octets.extend_from_slice(&key_octets(key.second))?;
-    octets.extend_from_slice(&key_octets(key.third))?;
+    octets.extend_from_slice(&number_octets(key.first))?;
+    octets.extend_from_slice(&number_octets(key.second))?;
+    octets.extend_from_slice(&number_octets(key.third))?;
     hexadecimal(alloc, octets.as_slice())
+}
+
+fn optional_key(alloc: Global, optional: &Option<TripleKey>) -> Result<Vec<u8>, NoMemory>
+    ensures { IfOk result (λ word. word.items ≡ optional_key_word optional.now) }
+{
+    match optional {
+        None => Ok(Vec::from_slice(alloc, b"-".as_slice())?),
+        Some(present) => key(alloc, present),
+    }
+}
+
+fn random_number(alloc: Global, number: u64) -> Result<Vec<u8>, NoMemory>
+    ensures { IfOk result (λ word. word.items ≡ number_word number) }
+{
+    hexadecimal(alloc, &number_octets(number))
 }
 
 // Appends a line: its first word, the others, each behind a space, and LF.
@@ -78,6 +94,181 @@ fn put_line(name: &[u8], words: &[&[u8]], text: &mut Vec<u8>) -> Result<(), NoMe
     Ok(())
 }
 
+// Appends the line of a link between two ends that are connected.
+fn put_fixed(
+    alloc: Global,
+    link: u8,
+    ends: (u32, u32),
+    ke: &TripleKey,
+    kr: &TripleKey,
+    text: &mut Vec<u8>,
+) -> Result<(), NoMemory>
+    ensures { OnOk result (text.new.items ≡ text.old.items ++ line_of (step_words (Fixed link ends.0 ends.1 ke.now kr.now))) }
+{
+    let link = digits(alloc, link as u64)?;
+    let engine = digits(alloc, ends.0 as u64)?;
+    let rbc = digits(alloc, ends.1 as u64)?;
+    let ke = key(alloc, ke)?;
+    let kr = key(alloc, kr)?;
+    put_line(
+        b"fixed",
+        &[
+            link.as_bytes(),
+            engine.as_bytes(),
+            rbc.as_bytes(),
+            ke.as_slice(),
+            kr.as_slice(),
+        ],
+        text,
+    )
+}
+
+// Appends the line of a link whose engine calls.
+fn put_link(
+    alloc: Global,
+    link: u8,
+    ends: (u32, u32),
+    ke: &TripleKey,
+    kr: &Option<TripleKey>,
+    randoms: (u64, u64),
+    text: &mut Vec<u8>,
+) -> Result<(), NoMemory>
+    ensures { OnOk result (text.new.items
+        ≡ text.old.items ++ line_of (step_words (Link link ends.0 ends.1 ke.now kr.now randoms.0 randoms.1))) }
+{
+    let link = digits(alloc, link as u64)?;
+    let engine = digits(alloc, ends.0 as u64)?;
+    let rbc = digits(alloc, ends.1 as u64)?;
+    let ke = key(alloc, ke)?;
+    let kr = optional_key(alloc, kr)?;
+    let ra = random_number(alloc, randoms.0)?;
+    let rb = random_number(alloc, randoms.1)?;
+    put_line(
+        b"link",
+        &[
+            link.as_bytes(),
+            engine.as_bytes(),
+            rbc.as_bytes(),
+            ke.as_slice(),
+            kr.as_slice(),
+            ra.as_slice(),
+            rb.as_slice(),
+        ],
+        text,
+    )
+}
+
+// Appends a line of a link and a side alone.
+fn put_side(
+    alloc: Global,
+    name: &[u8],
+    link: u8,
+    side: Side,
+    text: &mut Vec<u8>,
+) -> Result<(), NoMemory>
+    ensures { OnOk result (text.new.items ≡ text.old.items ++ line_of (name.now ∷ decimal link ∷ side_word side ∷ [])) }
+{
+    let link = digits(alloc, link as u64)?;
+    put_line(name, &[link.as_bytes(), side_octets(side)], text)
+}
+
+// Appends a line of a link, a side and octets.
+fn put_octets(
+    alloc: Global,
+    name: &[u8],
+    link: u8,
+    side: Side,
+    octets: &[u8],
+    text: &mut Vec<u8>,
+) -> Result<(), NoMemory>
+    ensures { OnOk result (text.new.items ≡ text.old.items ++ line_of (name.now ∷ decimal link ∷ side_word side ∷ hex_of octets.now ∷ [])) }
+{
+    let link = digits(alloc, link as u64)?;
+    let octets = hexadecimal(alloc, octets)?;
+    put_line(
+        name,
+        &[link.as_bytes(), side_octets(side), octets.as_slice()],
+        text,
+    )
+}
+
+// Appends the line of an alteration.
+fn put_alter(
+    alloc: Global,
+    link: u8,
+    side: Side,
+    place: u64,
+    mask: u8,
+    text: &mut Vec<u8>,
+) -> Result<(), NoMemory>
+    ensures { OnOk result (text.new.items ≡ text.old.items ++ line_of (step_words (Alter link side place mask))) }
+{
+    let link = digits(alloc, link as u64)?;
+    let place = digits(alloc, place)?;
+    let mask = hexadecimal(alloc, &[mask])?;
+    put_line(
+        b"alter",
+        &[
+            link.as_bytes(),
+            side_octets(side),
+            place.as_bytes(),
+            mask.as_slice(),
+        ],
+        text,
+    )
+}
+
+// Appends the line of a copy.
+fn put_copy(
+    alloc: Global,
+    from: (u8, Side),
+    to: (u8, Side),
+    text: &mut Vec<u8>,
+) -> Result<(), NoMemory>
+    ensures { OnOk result (text.new.items ≡ text.old.items ++ line_of (step_words (Copy from.0 from.1 to.0 to.1))) }
+{
+    let link = digits(alloc, from.0 as u64)?;
+    let to_link = digits(alloc, to.0 as u64)?;
+    put_line(
+        b"copy",
+        &[
+            link.as_bytes(),
+            side_octets(from.1),
+            to_link.as_bytes(),
+            side_octets(to.1),
+        ],
+        text,
+    )
+}
+
+// Appends the line of a release.
+fn put_release(
+    alloc: Global,
+    link: u8,
+    side: Side,
+    sub: u8,
+    text: &mut Vec<u8>,
+) -> Result<(), NoMemory>
+    ensures { OnOk result (text.new.items ≡ text.old.items ++ line_of (step_words (Release link side sub))) }
+{
+    let link = digits(alloc, link as u64)?;
+    let sub = digits(alloc, sub as u64)?;
+    put_line(
+        b"release",
+        &[link.as_bytes(), side_octets(side), sub.as_bytes()],
+        text,
+    )
+}
+
+// Appends the line of a drain.
+fn put_drain(alloc: Global, link: u8, most: u32, text: &mut Vec<u8>) -> Result<(), NoMemory>
+    ensures { OnOk result (text.new.items ≡ text.old.items ++ line_of (step_words (Drain link most))) }
+{
+    let link = digits(alloc, link as u64)?;
+    let most = digits(alloc, most as u64)?;
+    put_line(b"drain", &[link.as_bytes(), most.as_bytes()], text)
+}
+
 // Appends the line of a step.
 fn put_step(alloc: Global, step: &Step, text: &mut Vec<u8>) -> Result<(), NoMemory>
     ensures { OnOk result (text.new.items ≡ text.old.items ++ line_of (step_words step.now)) }
@@ -89,115 +280,43 @@ fn put_step(alloc: Global, step: &Step, text: &mut Vec<u8>) -> Result<(), NoMemo
             rbc,
             ke,
             kr,
-        } => {
-            let link = digits(alloc, *link as u64)?;
-            let engine = digits(alloc, *engine as u64)?;
-            let rbc = digits(alloc, *rbc as u64)?;
-            let ke = key(alloc, ke)?;
-            let kr = key(alloc, kr)?;
-            put_line(
-                b"fixed",
-                &[
-                    link.as_bytes(),
-                    engine.as_bytes(),
-                    rbc.as_bytes(),
-                    ke.as_slice(),
-                    kr.as_slice(),
-                ],
-                text,
-            )
-        }
+        } => put_fixed(alloc, *link, (*engine, *rbc), ke, kr, text),
+        Step::Link {
+            link,
+            engine,
+            rbc,
+            ke,
+            kr,
+            ra,
+            rb,
+        } => put_link(alloc, *link, (*engine, *rbc), ke, kr, (*ra, *rb), text),
         Step::Send {
             link,
             side,
             text: octets,
-        } => {
-            let link = digits(alloc, *link as u64)?;
-            let octets = hexadecimal(alloc, octets.as_slice())?;
-            put_line(
-                b"send",
-                &[link.as_bytes(), side_octets(*side), octets.as_slice()],
-                text,
-            )
-        }
+        } => put_octets(alloc, b"send", *link, *side, octets.as_slice(), text),
         Step::Put {
             link,
             side,
             text: octets,
-        } => {
-            let link = digits(alloc, *link as u64)?;
-            let octets = hexadecimal(alloc, octets.as_slice())?;
-            put_line(
-                b"put",
-                &[link.as_bytes(), side_octets(*side), octets.as_slice()],
-                text,
-            )
-        }
-        Step::Pass { link, side } => {
-            let link = digits(alloc, *link as u64)?;
-            put_line(b"pass", &[link.as_bytes(), side_octets(*side)], text)
-        }
-        Step::Lose { link, side } => {
-            let link = digits(alloc, *link as u64)?;
-            put_line(b"lose", &[link.as_bytes(), side_octets(*side)], text)
-        }
-        Step::Repeat { link, side } => {
-            let link = digits(alloc, *link as u64)?;
-            put_line(b"repeat", &[link.as_bytes(), side_octets(*side)], text)
-        }
+        } => put_octets(alloc, b"put", *link, *side, octets.as_slice(), text),
+        Step::Pass { link, side } => put_side(alloc, b"pass", *link, *side, text),
+        Step::Lose { link, side } => put_side(alloc, b"lose", *link, *side, text),
+        Step::Repeat { link, side } => put_side(alloc, b"repeat", *link, *side, text),
         Step::Alter {
             link,
             side,
             place,
             mask,
-        } => {
-            let link = digits(alloc, *link as u64)?;
-            let place = digits(alloc, *place)?;
-            let mask = hexadecimal(alloc, &[*mask])?;
-            put_line(
-                b"alter",
-                &[
-                    link.as_bytes(),
-                    side_octets(*side),
-                    place.as_bytes(),
-                    mask.as_slice(),
-                ],
-                text,
-            )
-        }
+        } => put_alter(alloc, *link, *side, *place, *mask, text),
         Step::Copy {
             link,
             side,
             to_link,
             to_side,
-        } => {
-            let link = digits(alloc, *link as u64)?;
-            let to_link = digits(alloc, *to_link as u64)?;
-            put_line(
-                b"copy",
-                &[
-                    link.as_bytes(),
-                    side_octets(*side),
-                    to_link.as_bytes(),
-                    side_octets(*to_side),
-                ],
-                text,
-            )
-        }
-        Step::Release { link, side, sub } => {
-            let link = digits(alloc, *link as u64)?;
-            let sub = digits(alloc, *sub as u64)?;
-            put_line(
-                b"release",
-                &[link.as_bytes(), side_octets(*side), sub.as_bytes()],
-                text,
-            )
-        }
-        Step::Drain { link, most } => {
-            let link = digits(alloc, *link as u64)?;
-            let most = digits(alloc, *most as u64)?;
-            put_line(b"drain", &[link.as_bytes(), most.as_bytes()], text)
-        }
+        } => put_copy(alloc, (*link, *side), (*to_link, *to_side), text),
+        Step::Release { link, side, sub } => put_release(alloc, *link, *side, *sub, text),
+        Step::Drain { link, most } => put_drain(alloc, *link, *most, text),
     }
 }
 

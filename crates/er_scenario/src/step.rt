@@ -17,6 +17,23 @@ pub enum Step {
         /// The radio block centre's session keys.
         kr: TripleKey,
     },
+    /// Opens a link between two ends that aren't connected yet.
+    Link {
+        /// The link, 1 to 64.
+        link: u8,
+        /// The engine's ETCS number, below 2^24.
+        engine: u32,
+        /// The radio block centre's ETCS number, below 2^24.
+        rbc: u32,
+        /// The engine's KMAC.
+        ke: TripleKey,
+        /// The radio block centre's KMAC for this engine, or None where it has none.
+        kr: Option<TripleKey>,
+        /// The radio block centre's random number.
+        ra: u64,
+        /// The engine's random number.
+        rb: u64,
+    },
     /// The user at a side sends octets.
     Send {
         /// The link, 1 to 64.

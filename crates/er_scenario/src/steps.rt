@@ -1,11 +1,14 @@
 //! The lines that are steps: each reads the words behind its first one.
 
 ghost use Rattle.std.specs.Prelude.{map, IfOk};
-ghost use Rattle.er_scenario.specs.Steps.{fixed_from, fixed_of, send_of, pass_of, lose_of, repeat_of, alter_from, alter_of, put_of, copy_from, copy_of, release_of, drain_of, step_of};
+ghost use Rattle.er_scenario.specs.Steps.{fixed_from, fixed_of, link_line_from, link_line_of, send_of, pass_of, lose_of, repeat_of, alter_from, alter_of, put_of, copy_from, copy_of, release_of, drain_of, step_of};
 ghost use Rattle.er_scenario.specs.Readings.{Gives};
 ghost use Rattle.er_scenario.specs.Printed.{IsInRange};
 
-use crate::arguments::{etcs_number, key, link, mask, most_passes, place, side, sub_reason, text};
+use crate::arguments::{
+    etcs_number, key, link, mask, most_passes, optional_key, place, random_number, side,
+    sub_reason, text,
+};
 use crate::line_fault::LineFault;
 use crate::step::Step;
 use er_base::Why;
@@ -59,6 +62,67 @@ fn fixed(alloc: Global, words: &[&[u8]]) -> Result<Step, LineFault>
         rbc_word,
         engine_key_word,
         rbc_key_word,
+    )
+}
+
+#[tactic(auto, unfolding(crate::specs::Steps::link_line_from))]
+fn link_line_with(
+    alloc: Global,
+    link_word: &[u8],
+    engine_word: &[u8],
+    rbc_word: &[u8],
+    engine_kmac_word: &[u8],
+    rbc_kmac_word: &[u8],
+    rbc_random_word: &[u8],
+    engine_random_word: &[u8],
+) -> Result<Step, LineFault>
+    ensures step { Gives result (link_line_from link_word.now engine_word.now rbc_word.now engine_kmac_word.now rbc_kmac_word.now rbc_random_word.now engine_random_word.now) }
+    ensures range { IfOk result (λ step. IsInRange step) }
+{
+    let link = link(link_word)?;
+    let engine = etcs_number(engine_word)?;
+    let rbc = etcs_number(rbc_word)?;
+    let ke = key(alloc, engine_kmac_word)?;
+    let kr = optional_key(alloc, rbc_kmac_word)?;
+    let ra = random_number(alloc, rbc_random_word)?;
+    let rb = random_number(alloc, engine_random_word)?;
+    Ok(Step::Link {
+        link,
+        engine,
+        rbc,
+        ke,
+        kr,
+        ra,
+        rb,
+    })
+}
+
+#[tactic(auto, unfolding(crate::specs::Steps::link_line_of))]
+fn link_line(alloc: Global, words: &[&[u8]]) -> Result<Step, LineFault>
+    ensures step { Gives result (link_line_of (map (λ w. w.now) words.now)) }
+    ensures range { IfOk result (λ step. IsInRange step) }
+{
+    let [
+        link_word,
+        engine_word,
+        rbc_word,
+        engine_kmac_word,
+        rbc_kmac_word,
+        rbc_random_word,
+        engine_random_word,
+    ] = words
+    else {
+        return Err(LineFault::Refused(Why::Count));
+    };
+    link_line_with(
+        alloc,
+        link_word,
+        engine_word,
+        rbc_word,
+        engine_kmac_word,
+        rbc_kmac_word,
+        rbc_random_word,
+        engine_random_word,
     )
 }
 
@@ -231,6 +295,8 @@ pub fn read_step(alloc: Global, name: &[u8], words: &[&[u8]]) -> Result<Step, Li
 {
     if name == b"fixed".as_slice() {
         fixed(alloc, words)
+    } else if name == b"link".as_slice() {
+        link_line(alloc, words)
     } else if name == b"send".as_slice() {
         send(alloc, words)
     } else if name == b"pass".as_slice() {

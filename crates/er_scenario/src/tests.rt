@@ -7,20 +7,23 @@ use std::test::Fail;
 
 const KEY: &str = "0123456789abcdef23456789abcdef01456789abcdef0123";
 
+const RANDOM: &str = "0123456789abcdef";
+
 const KEYS: TripleKey = TripleKey {
     first: 0x0123_4567_89AB_CDEF,
     second: 0x2345_6789_ABCD_EF01,
     third: 0x4567_89AB_CDEF_0123,
 };
 
-// A text in which each K stands for 48 digits.
-fn with_keys(alloc: Global, text: &str) -> Result<Vec<u8>, AllocError> {
+// A text in which each K stands for 48 digits, each R for 16, and each semicolon for LF.
+fn spelled_out(alloc: Global, text: &str) -> Result<Vec<u8>, AllocError> {
     let mut octets = Vec::new(alloc);
     for octet in text.as_bytes() {
-        if *octet == b'K' {
-            octets.extend_from_slice(KEY.as_bytes())?;
-        } else {
-            octets.push(*octet)?;
+        match *octet {
+            b'K' => octets.extend_from_slice(KEY.as_bytes())?,
+            b'R' => octets.extend_from_slice(RANDOM.as_bytes())?,
+            b';' => octets.push(b'\n')?,
+            other => octets.push(other)?,
         }
     }
     Ok(octets)
@@ -39,7 +42,7 @@ const SEALED_MESSAGE: &str = "drill 1 safe\nfixed 1 5 9 K K\nsend 1 e 41\npass 1
 
 #[test]
 fn reads_and_prints_one_sealed_message(rt: HostRuntime) -> Result<(), Fail> {
-    let text = with_keys(rt.alloc(), SEALED_MESSAGE)?;
+    let text = spelled_out(rt.alloc(), SEALED_MESSAGE)?;
     let scenario = read(rt.alloc(), text.as_slice())?;
     assert_eq!(rt; scenario.level, Level::Safe);
     assert_eq!(rt; scenario.settings, Settings::usual());
@@ -88,11 +91,57 @@ fn reads_and_prints_one_sealed_message(rt: HostRuntime) -> Result<(), Fail> {
     Ok(())
 }
 
+#[test]
+fn reads_links_with_and_without_a_key(rt: HostRuntime) -> Result<(), Fail> {
+    let lines = "drill 1 safe;link 1 5 9 K - R FEDCBA9876543210;link 2 7 8 K K 0000000000000001 R";
+    let text = spelled_out(rt.alloc(), lines)?;
+    let scenario = read(rt.alloc(), text.as_slice())?;
+    let [keyless, keyed] = scenario.steps.as_slice() else {
+        return Ok(assert!(rt; false));
+    };
+    let Step::Link {
+        link: 1,
+        engine: 5,
+        rbc: 9,
+        ke,
+        kr: None,
+        ra: 0x0123_4567_89AB_CDEF,
+        rb: 0xFEDC_BA98_7654_3210,
+    } = &keyless.step
+    else {
+        return Ok(assert!(rt; false));
+    };
+    assert_eq!(rt; *ke, KEYS);
+    let Step::Link {
+        link: 2,
+        engine: 7,
+        rbc: 8,
+        ke,
+        kr: Some(kr),
+        ra: 1,
+        rb: 0x0123_4567_89AB_CDEF,
+    } = &keyed.step
+    else {
+        return Ok(assert!(rt; false));
+    };
+    assert_eq!(rt; *ke, KEYS);
+    assert_eq!(rt; *kr, KEYS);
+    Ok(())
+}
+
 // Each line as it is written and as it is printed, by hand from the table of lines.
 #[test]
 fn prints_each_line_as_it_is_written(rt: HostRuntime) -> Result<(), Fail> {
     let rows = [
         ("fixed 64 0 16777215 K K", "fixed 64 0 16777215 K K"),
+        (
+            "link 64 0 16777215 K - 0000000000000000 FFFFFFFFffffffff",
+            "link 64 0 16777215 K - 0000000000000000 ffffffffffffffff",
+        ),
+        (
+            "link 1 5 9 K K R 00000000000000aB",
+            "link 1 5 9 K K R 00000000000000ab",
+        ),
         (" send  1 e -  ", "send 1 e -"),
         ("send 1 r 0aFf", "send 1 r 0aff"),
         ("pass 1 e", "pass 1 e"),
@@ -122,245 +171,243 @@ fn prints_each_line_as_it_is_written(rt: HostRuntime) -> Result<(), Fail> {
     ];
     for (written, printed) in rows {
         let text = format!(in rt.alloc(); "drill 1 safe\n{written}")?;
-        let text = with_keys(rt.alloc(), text.as_str())?;
+        let text = spelled_out(rt.alloc(), text.as_str())?;
         let scenario = read(rt.alloc(), text.as_slice())?;
         let mut out = Vec::new(rt.alloc());
         print(rt.alloc(), &scenario, &mut out)?;
         let expected = format!(in rt.alloc(); "drill 1 safe\n{printed}\n")?;
-        let expected = with_keys(rt.alloc(), expected.as_str())?;
+        let expected = spelled_out(rt.alloc(), expected.as_str())?;
         assert_eq!(rt; out.as_slice(), expected.as_slice(), "{written}");
     }
     Ok(())
 }
 
-// First words that begin no line.
-const WORD_LINES: &str = "\
-foo
-link 1 5 9 K K 1122334455667788 0102030405060708
-wire 1
-take 1 e
-tick 5
-Pass 1 e
-drill 1 safe
-pass\r 1 e";
+// Faulty texts, each behind the line and the word of its first fault, by hand from the table of lines: the header, the
+// first words, the place of a `set`, and then each line with each fault that each of its arguments can have. A question
+// mark is a word that is faulty anywhere; it must not count.
+const FAULTS: &str = "\
+1 Header|
+1 Header|;  ;# a comment
+1 Header| # x;drill 1 safe
+3 Header|;# a comment;drill 2 safe
+1 Header|drill 1
+1 Header|drill 1 safe safe
+1 Header|drill 01 safe
+1 Header|drill 1 link
+1 Header|drill 1 full
+1 Header|Drill 1 safe
+1 Header|drill 1 safe\r
+1 Header|pass 1 e;drill 1 safe
+2 Word|drill 1 safe;drill 1 safe
+2 Word|drill 1 safe; # x
+2 Word|drill 1 safe;foo
+2 Word|drill 1 safe;wire 1
+2 Word|drill 1 safe;take 1 e
+2 Word|drill 1 safe;tick 5
+2 Word|drill 1 safe;Pass 1 e
+2 Word|drill 1 safe;pass\r 1 e
+2 Value|drill 1 safe;send 0 e 41;foo
+4 Word|drill 1 safe;pass 1 e;;foo;send 0 e 41
+4 Value|drill 1 safe;set window 1;# a comment;set window 8
+3 Count|drill 1 safe;pass 1 e;set window
+3 Late|drill 1 safe;pass 1 e;set window 7
+3 Late|drill 1 safe;pass 1 e;set window x
+3 Late|drill 1 safe;pass 1 e;set window 8
+3 Late|drill 1 safe;pass 1 e;set show 2
+3 Late|drill 1 safe;pass 1 e;set foo bar
+2 Count|drill 1 safe;fixed
+2 Count|drill 1 safe;fixed 1 5 9 K
+2 Count|drill 1 safe;fixed 1 5 9 K K 1
+2 Number|drill 1 safe;fixed a ? 9 K K
+2 Number|drill 1 safe;fixed 01 ? 9 K K
+2 Value|drill 1 safe;fixed 0 ? 9 K K
+2 Value|drill 1 safe;fixed 65 ? 9 K K
+2 Number|drill 1 safe;fixed 1 - ? K K
+2 Value|drill 1 safe;fixed 1 16777216 ? K K
+2 Number|drill 1 safe;fixed 1 5 - ? K
+2 Value|drill 1 safe;fixed 1 5 16777216 ? K
+2 Hex|drill 1 safe;fixed 1 5 9 - K
+2 Hex|drill 1 safe;fixed 1 5 9 R K
+2 Hex|drill 1 safe;fixed 1 5 9 K0 K
+2 Hex|drill 1 safe;fixed 1 5 9 K00 K
+2 Hex|drill 1 safe;fixed 1 5 9 xy K
+2 Hex|drill 1 safe;fixed 1 5 9 K -
+2 Hex|drill 1 safe;fixed 1 5 9 K R
+2 Hex|drill 1 safe;fixed 1 5 9 K K0
+2 Hex|drill 1 safe;fixed 1 5 9 K K00
+2 Hex|drill 1 safe;fixed 1 5 9 K xy
+2 Count|drill 1 safe;link
+2 Count|drill 1 safe;link 1 5 9 K K R
+2 Count|drill 1 safe;link 1 5 9 K K R R 1
+2 Number|drill 1 safe;link a ? 9 K K R R
+2 Number|drill 1 safe;link 01 ? 9 K K R R
+2 Value|drill 1 safe;link 0 ? 9 K K R R
+2 Value|drill 1 safe;link 65 ? 9 K K R R
+2 Number|drill 1 safe;link 1 - ? K K R R
+2 Value|drill 1 safe;link 1 16777216 ? K K R R
+2 Number|drill 1 safe;link 1 5 - ? K R R
+2 Value|drill 1 safe;link 1 5 16777216 ? K R R
+2 Hex|drill 1 safe;link 1 5 9 - K R R
+2 Hex|drill 1 safe;link 1 5 9 R K R R
+2 Hex|drill 1 safe;link 1 5 9 K00 K R R
+2 Hex|drill 1 safe;link 1 5 9 xy K R R
+2 Hex|drill 1 safe;link 1 5 9 K -- R R
+2 Hex|drill 1 safe;link 1 5 9 K R R R
+2 Hex|drill 1 safe;link 1 5 9 K K00 R R
+2 Hex|drill 1 safe;link 1 5 9 K xy R R
+2 Hex|drill 1 safe;link 1 5 9 K K - R
+2 Hex|drill 1 safe;link 1 5 9 K K 0123456789abcd R
+2 Hex|drill 1 safe;link 1 5 9 K K R0 R
+2 Hex|drill 1 safe;link 1 5 9 K K R00 R
+2 Hex|drill 1 safe;link 1 5 9 K K 0x23456789abcdef R
+2 Hex|drill 1 safe;link 1 5 9 K K R -
+2 Hex|drill 1 safe;link 1 5 9 K K R 0123456789abcd
+2 Hex|drill 1 safe;link 1 5 9 K K R R0
+2 Hex|drill 1 safe;link 1 5 9 K K R R00
+2 Hex|drill 1 safe;link 1 5 9 K K R 0x23456789abcdef
+2 Count|drill 1 safe;send
+2 Count|drill 1 safe;send 1 e
+2 Count|drill 1 safe;send 1 e 41 1
+2 Number|drill 1 safe;send a ? 41
+2 Number|drill 1 safe;send 01 ? 41
+2 Value|drill 1 safe;send 0 ? 41
+2 Value|drill 1 safe;send 65 ? 41
+2 Number|drill 1 safe;send 1 E ?
+2 Number|drill 1 safe;send 1 1 ?
+2 Hex|drill 1 safe;send 1 e 4
+2 Hex|drill 1 safe;send 1 e 0x41
+2 Hex|drill 1 safe;send 1 e --
+2 Count|drill 1 safe;pass
+2 Count|drill 1 safe;pass 1
+2 Count|drill 1 safe;pass 1 e 1
+2 Number|drill 1 safe;pass a ?
+2 Number|drill 1 safe;pass 01 ?
+2 Value|drill 1 safe;pass 0 ?
+2 Value|drill 1 safe;pass 65 ?
+2 Number|drill 1 safe;pass 1 E
+2 Number|drill 1 safe;pass 1 1
+2 Count|drill 1 safe;lose
+2 Count|drill 1 safe;lose 1
+2 Count|drill 1 safe;lose 1 e 1
+2 Number|drill 1 safe;lose a ?
+2 Number|drill 1 safe;lose 01 ?
+2 Value|drill 1 safe;lose 0 ?
+2 Value|drill 1 safe;lose 65 ?
+2 Number|drill 1 safe;lose 1 E
+2 Number|drill 1 safe;lose 1 1
+2 Count|drill 1 safe;repeat
+2 Count|drill 1 safe;repeat 1
+2 Count|drill 1 safe;repeat 1 e 1
+2 Number|drill 1 safe;repeat a ?
+2 Number|drill 1 safe;repeat 01 ?
+2 Value|drill 1 safe;repeat 0 ?
+2 Value|drill 1 safe;repeat 65 ?
+2 Number|drill 1 safe;repeat 1 E
+2 Number|drill 1 safe;repeat 1 1
+2 Count|drill 1 safe;alter
+2 Count|drill 1 safe;alter 1 e 0
+2 Count|drill 1 safe;alter 1 e 0 01 1
+2 Number|drill 1 safe;alter a ? 0 01
+2 Number|drill 1 safe;alter 01 ? 0 01
+2 Value|drill 1 safe;alter 0 ? 0 01
+2 Value|drill 1 safe;alter 65 ? 0 01
+2 Number|drill 1 safe;alter 1 E ? 01
+2 Number|drill 1 safe;alter 1 1 ? 01
+2 Number|drill 1 safe;alter 1 e 18446744073709551616 ?
+2 Number|drill 1 safe;alter 1 e -1 ?
+2 Hex|drill 1 safe;alter 1 e 0 0
+2 Hex|drill 1 safe;alter 1 e 0 g0
+2 Value|drill 1 safe;alter 1 e 0 -
+2 Value|drill 1 safe;alter 1 e 0 0101
+2 Value|drill 1 safe;alter 1 e 0 00
+2 Count|drill 1 safe;put
+2 Count|drill 1 safe;put 1 e
+2 Count|drill 1 safe;put 1 e 41 1
+2 Number|drill 1 safe;put a ? 41
+2 Number|drill 1 safe;put 01 ? 41
+2 Value|drill 1 safe;put 0 ? 41
+2 Value|drill 1 safe;put 65 ? 41
+2 Number|drill 1 safe;put 1 E ?
+2 Number|drill 1 safe;put 1 1 ?
+2 Hex|drill 1 safe;put 1 e 4
+2 Hex|drill 1 safe;put 1 e 0x41
+2 Hex|drill 1 safe;put 1 e --
+2 Count|drill 1 safe;copy
+2 Count|drill 1 safe;copy 1 e 2
+2 Count|drill 1 safe;copy 1 e 2 r 1
+2 Number|drill 1 safe;copy a ? 2 r
+2 Number|drill 1 safe;copy 01 ? 2 r
+2 Value|drill 1 safe;copy 0 ? 2 r
+2 Value|drill 1 safe;copy 65 ? 2 r
+2 Number|drill 1 safe;copy 1 E 0 r
+2 Number|drill 1 safe;copy 1 1 0 r
+2 Number|drill 1 safe;copy 1 e a ?
+2 Number|drill 1 safe;copy 1 e 01 ?
+2 Value|drill 1 safe;copy 1 e 0 ?
+2 Value|drill 1 safe;copy 1 e 65 ?
+2 Number|drill 1 safe;copy 1 e 2 E
+2 Number|drill 1 safe;copy 1 e 2 1
+2 Count|drill 1 safe;release
+2 Count|drill 1 safe;release 1 e
+2 Count|drill 1 safe;release 1 e 0 1
+2 Number|drill 1 safe;release a ? 0
+2 Number|drill 1 safe;release 01 ? 0
+2 Value|drill 1 safe;release 0 ? 0
+2 Value|drill 1 safe;release 65 ? 0
+2 Number|drill 1 safe;release 1 E 256
+2 Number|drill 1 safe;release 1 1 256
+2 Number|drill 1 safe;release 1 e e
+2 Value|drill 1 safe;release 1 e 256
+2 Count|drill 1 safe;drain
+2 Count|drill 1 safe;drain 1
+2 Count|drill 1 safe;drain 1 1 1
+2 Number|drill 1 safe;drain a 0
+2 Number|drill 1 safe;drain 01 0
+2 Value|drill 1 safe;drain 0 ?
+2 Value|drill 1 safe;drain 65 ?
+2 Number|drill 1 safe;drain 1 +1
+2 Value|drill 1 safe;drain 1 0
+2 Value|drill 1 safe;drain 1 100001
+2 Count|drill 1 safe;set
+2 Count|drill 1 safe;set window
+2 Count|drill 1 safe;set window 7 1
+2 Value|drill 1 safe;set foo 1
+2 Value|drill 1 safe;set foo ?
+2 Value|drill 1 safe;set WINDOW ?
+2 Number|drill 1 safe;set window x
+2 Value|drill 1 safe;set window 0
+2 Value|drill 1 safe;set window 8
+2 Number|drill 1 safe;set credit x
+2 Value|drill 1 safe;set credit 0
+2 Value|drill 1 safe;set credit 16
+2 Number|drill 1 safe;set size x
+2 Value|drill 1 safe;set size 127
+2 Value|drill 1 safe;set size 129
+2 Value|drill 1 safe;set size 2048
+2 Number|drill 1 safe;set t1 x
+2 Value|drill 1 safe;set t1 99
+2 Value|drill 1 safe;set t1 60001
+2 Number|drill 1 safe;set n2 x
+2 Value|drill 1 safe;set n2 0
+2 Value|drill 1 safe;set n2 11
+2 Number|drill 1 safe;set setup x
+2 Value|drill 1 safe;set setup 999
+2 Value|drill 1 safe;set setup 600001
+2 Number|drill 1 safe;set show x
+2 Value|drill 1 safe;set show 2";
 
-// Too few words, and one too many.
-const COUNT_LINES: &str = "\
-fixed
-fixed 1 5 9 K
-fixed 1 5 9 K K 1
-send
-send 1 e
-send 1 e 41 1
-pass
-pass 1
-pass 1 e 1
-lose
-lose 1
-lose 1 e 1
-repeat
-repeat 1
-repeat 1 e 1
-alter
-alter 1 e 0
-alter 1 e 0 01 1
-put
-put 1 e
-put 1 e 41 1
-copy
-copy 1 e 2
-copy 1 e 2 r 1
-release
-release 1 e
-release 1 e 0 1
-drain
-drain 1
-drain 1 1 1
-set
-set window
-set window 7 1";
-
-// Each argument that is a number or a side, where it is none.
-const NUMBER_LINES: &str = "\
-fixed a 5 9 K K
-fixed 01 5 9 K K
-fixed 1 - 9 K K
-fixed 1 5 - K K
-send a e 41
-send 01 e 41
-send 1 E 41
-send 1 1 41
-pass a e
-pass 01 e
-pass 1 E
-pass 1 1
-lose a e
-lose 01 e
-lose 1 E
-lose 1 1
-repeat a e
-repeat 01 e
-repeat 1 E
-repeat 1 1
-alter a e 0 01
-alter 01 e 0 01
-alter 1 E 0 01
-alter 1 1 0 01
-alter 1 e 18446744073709551616 01
-alter 1 e -1 01
-put a e 41
-put 01 e 41
-put 1 E 41
-put 1 1 41
-copy a e 2 r
-copy 01 e 2 r
-copy 1 E 2 r
-copy 1 1 2 r
-copy 1 e a r
-copy 1 e 01 r
-copy 1 e 2 E
-copy 1 e 2 1
-release a e 0
-release 01 e 0
-release 1 E 0
-release 1 1 0
-release 1 e e
-drain a 1
-drain 01 1
-drain 1 +1
-set window x
-set credit x
-set size x
-set t1 x
-set n2 x
-set setup x
-set show x";
-
-// Each argument out of its range.
-const VALUE_LINES: &str = "\
-fixed 0 ? 9 K K
-fixed 65 ? 9 K K
-fixed 1 16777216 ? K K
-fixed 1 5 16777216 ? K
-send 0 ? 41
-send 65 ? 41
-pass 0 ?
-pass 65 ?
-lose 0 ?
-lose 65 ?
-repeat 0 ?
-repeat 65 ?
-alter 0 ? 0 01
-alter 65 ? 0 01
-alter 1 e 0 -
-alter 1 e 0 0101
-alter 1 e 0 00
-put 0 ? 41
-put 65 ? 41
-copy 0 ? 2 r
-copy 65 ? 2 r
-copy 1 e 0 ?
-copy 1 e 65 ?
-release 0 ? 0
-release 65 ? 0
-release 1 e 256
-drain 0 ?
-drain 65 ?
-drain 1 0
-drain 1 100001
-set window 0
-set window 8
-set credit 0
-set credit 16
-set size 127
-set size 129
-set size 2048
-set t1 99
-set t1 60001
-set n2 0
-set n2 11
-set setup 999
-set setup 600001
-set show 2
-set foo 1
-set foo bar
-set WINDOW x";
-
-// Each HEX and KEY that is none.
-const HEX_LINES: &str = "\
-fixed 1 5 9 - ?
-fixed 1 5 9 0123456789abcdef ?
-fixed 1 5 9 K0 ?
-fixed 1 5 9 K00 ?
-fixed 1 5 9 xy ?
-fixed 1 5 9 K -
-fixed 1 5 9 K 0123456789abcdef
-fixed 1 5 9 K K0
-fixed 1 5 9 K K00
-fixed 1 5 9 K xy
-send 1 e 4
-send 1 e 0x41
-send 1 e --
-alter 1 e 0 0
-alter 1 e 0 g0
-put 1 e 4
-put 1 e 0x41
-put 1 e --";
-
-// Each line as the second of a file, with the fault word that the order of faults gives it, by hand from the table of
-// lines. What stands behind a faulty word is often faulty too.
 #[test]
 fn refuses_each_fault_in_each_place(rt: HostRuntime) -> Result<(), Fail> {
-    let tables = [
-        (WORD_LINES, Why::Word),
-        (COUNT_LINES, Why::Count),
-        (NUMBER_LINES, Why::Number),
-        (VALUE_LINES, Why::Value),
-        (HEX_LINES, Why::Hex),
-    ];
-    for (lines, why) in tables {
-        for line in lines.split('\n') {
-            let text = format!(in rt.alloc(); "drill 1 safe\n{line}\npass 1 e")?;
-            let text = with_keys(rt.alloc(), text.as_str())?;
-            let fault = fault_in(rt.alloc(), text.as_slice())?;
-            assert_eq!(rt; fault, Some((2, why)), "{line}");
-        }
-    }
-    Ok(())
-}
-
-// Whole files, with the line and the word of their first fault.
-#[test]
-fn names_the_first_faulty_line(rt: HostRuntime) -> Result<(), Fail> {
-    let rows = [
-        ("", 1, Why::Header),
-        ("\n  \n# a comment", 1, Why::Header),
-        ("\n# a comment\ndrill 2 safe", 3, Why::Header),
-        (" # x\ndrill 1 safe", 1, Why::Header),
-        ("drill 1", 1, Why::Header),
-        ("drill 1 safe safe", 1, Why::Header),
-        ("drill 01 safe", 1, Why::Header),
-        ("drill 1 link", 1, Why::Header),
-        ("drill 1 full", 1, Why::Header),
-        ("Drill 1 safe", 1, Why::Header),
-        ("drill 1 safe\r\n", 1, Why::Header),
-        ("pass 1 e\ndrill 1 safe", 1, Why::Header),
-        ("drill 1 safe\ndrill 1 safe", 2, Why::Word),
-        ("drill 1 safe\n # x", 2, Why::Word),
-        ("drill 1 safe\nsend 0 e 41\nfoo", 2, Why::Value),
-        ("drill 1 safe\npass 1 e\n\nfoo\nsend 0 e 41", 4, Why::Word),
-        ("drill 1 safe\npass 1 e\nset window 7", 3, Why::Late),
-        ("drill 1 safe\npass 1 e\nset foo bar", 3, Why::Late),
-        ("drill 1 safe\npass 1 e\nset window", 3, Why::Count),
-        (
-            "drill 1 safe\nset window 1\n# a comment\nset window 8",
-            4,
-            Why::Value,
-        ),
-    ];
-    for (text, line, why) in rows {
-        let fault = fault_in(rt.alloc(), text.as_bytes())?;
-        assert_eq!(rt; fault, Some((line, why)), "{text}");
+    for row in FAULTS.split('\n') {
+        let Some((expected, written)) = row.split_once('|') else {
+            return Ok(assert!(rt; false, "{row}"));
+        };
+        let text = spelled_out(rt.alloc(), written)?;
+        let Some((line, why)) = fault_in(rt.alloc(), text.as_slice())? else {
+            return Ok(assert!(rt; false, "{row}"));
+        };
+        let fault = format!(in rt.alloc(); "{line} {why:?}")?;
+        assert_eq!(rt; fault.as_str(), expected, "{row}");
     }
     Ok(())
 }

@@ -1,95 +1,103 @@
--- The heart of the law, on lists alone: where all that came is honest, and the pair that was verified is one of those that were
--- sealed before, the peer sent these octets.
-use Rattle.std.proofs.Common.{◌≡◌, ℕ, ◌||◌, Bool, true, false, inl, inr, List, [], ◌∷◌, ◌++◌, refl, sym, ◌∙◌}
-use Rattle.std.specs.List.{list_any}
-use Rattle.std.specs.Str.{bytes_eq}
-use Rattle.std.proofs.lemmas.Bool.{or_cases, and_parts, not-false}
+-- What came is backed: each thing alone, behind honest ones.
+use Rattle.std.proofs.Common.{◌≡◌, ℕ, true, false, List, ◌∷◌, ◌++◌, refl, sym, subst, ◌∙◌}
+use Rattle.std.proofs.lemmas.Bool.{or_parts, not-false}
 use Rattle.std.proofs.lemmas.List.Folds.{list_any-append}
-use Rattle.std.proofs.lemmas.Slice.Eq.{bytes_eq-Decides}
 use Rattle.er_base.specs.declared.side.Side.{Side}
 use Rattle.er_base.specs.declared.side.Side.TheVariants.{E, R}
 use Rattle.er_base.specs.Sides.{other}
 use Rattle.des_block.specs.declared.triple_key.TripleKey.{TripleKey}
-use Rattle.safety_automaton.specs.declared.role.Role.{Role}
-use Rattle.safety_automaton.specs.declared.role.Role.TheVariants.{Initiator, Responder}
-use Rattle.safety_automaton.specs.Safety.{flag_of, other_role, message_text}
-use Rattle.safety_automaton.proofs.Flags.{same_message, same_role}
-use Rattle.er_world.specs.Deeds.{Deed, Sent, Refused, Accepted, Released, Frame, NothingWaits, Noted, is_key, is_sealing, is_forged, sealings_of, sealings}
-use Rattle.er_world.specs.Headline.{Sends, WasSent, IsBacked, Authentic}
-use Rattle.er_world.proofs.Along.{Along, along-front, along-at, any_here, any_there}
+use Rattle.safety_automaton.specs.Safety.{Peering, flag_of, au2_text, au3_text, ar_text, message_text}
+use Rattle.er_world.specs.Deeds.{Deed, Verified, Connected, Accepted, Noted, noted, is_mistrust, mistrusts, was_sealed}
+use Rattle.er_world.specs.Links.{Opening}
+use Rattle.er_world.specs.Headline.{IsAuthentic, IsOwnPeering, HasOwnPeering}
+use Rattle.er_world.proofs.TextFlags.{au2_is, au3_is, ar_is}
+use Rattle.er_world.proofs.HonestDeeds.{role_of, Honest, AllHonest, set_up, was_sent, was_set_up, was_sealed_more}
 
--- the role of the end at each side
-abbrev pub role_of : Side → Role
-role_of E = Initiator
-role_of R = Responder
+-- the deed of a connection tells its peering
+own_at : (opening : Opening) (side : Side) (p q : Peering) (verified text : List ℕ)
+    → Connected p verified ≡ Connected q text → IsOwnPeering opening side p → IsOwnPeering opening side q
+own_at opening side p q verified text e own = let same : p ≡ q = cc in subst (λ x. IsOwnPeering opening side x) same own
 
-pub role-other : (side : Side) → role_of (other side) ≡ other_role (role_of side)
-role-other E = refl
-role-other R = refl
-
-same_side : (a b : Side) → role_of a ≡ role_of b → a ≡ b
-same_side E E e = refl
-same_side E R e = cc
-same_side R E e = cc
-same_side R R e = refl
-
--- a sealed text is that of a message from this side, a verified one that of a message from the other
-abbrev pub Honest : Side → Deed → Type 0
-Honest side (Sent user key text) = (to : ℕ) × (text ≡ message_text (flag_of (role_of side)) to user)
-Honest side (Accepted user key text) = (to : ℕ) × (text ≡ message_text (flag_of (role_of (other side))) to user)
-Honest side deed = Unit {0}
-
--- what came is honest, and is marked by comparing with what was sealed before
-pub record IsFine (seen : List Noted) (n : Noted) : Type 0 where
+-- what came is honest, authentic, and no connection of another's numbers
+pub record IsFine (opening : Opening) (before : List Noted) (n : Noted) : Type 0 where
   pub honest : Honest n.side n.deed
-  pub mark : n.forged ≡ is_forged (sealings seen) n.deed
+  pub authentic : IsAuthentic before n
+  pub own : HasOwnPeering opening n
 
--- one that sealed this pair is an Ok send of these octets at that side
-one_sealed : (side found : Side) (deed : Deed) (user : List ℕ) (key : TripleKey) (text : List ℕ) (to : ℕ)
-    → text ≡ message_text (flag_of (role_of side)) to user → Honest found deed
-    → list_any (is_sealing key text) (sealings_of deed) ≡ true → (found ≡ side) × Sends user deed
-one_sealed side found (Sent sent own sealed) user key text to is honest e =
-    elim (or_cases (is_sealing key text (record { key = own; text = sealed })) false e) [
-      | inl same ↦
-          let both = and_parts (is_key own key) (bytes_eq sealed text) same in
-          let texts : sealed ≡ text = (bytes_eq-Decides sealed text).0 both.1 in
-          let parts = same_message (flag_of (role_of found)) (flag_of (role_of side)) honest.0 to sent user (sym honest.1 ∙ texts ∙ is) in
-          (same_side found side (same_role (role_of found) (role_of side) parts.0), parts.1)
-      | inr none ↦ cc
-    ]
-one_sealed side found (Refused refusal) user key text to is honest e = cc
-one_sealed side found (Accepted got own verified) user key text to is honest e = cc
-one_sealed side found (Released release) user key text to is honest e = cc
-one_sealed side found (Frame octets) user key text to is honest e = cc
-one_sealed side found NothingWaits user key text to is honest e = cc
+-- neither a connection nor an accepted message
+abbrev pub IsPlain : Deed → Type 0
+IsPlain (Connected peering text) = ⊥
+IsPlain (Accepted user key text) = ⊥
+IsPlain deed = Unit {0}
 
--- if a message's text is among those that were sealed, it was sent from its side
-sent_before : (side : Side) (user : List ℕ) (key : TripleKey) (text : List ℕ) (to : ℕ) → text ≡ message_text (flag_of (role_of side)) to user
-    → (seen before : List Noted) → Along IsFine seen before → list_any (is_sealing key text) (sealings before) ≡ true → WasSent side user before
-sent_before side user key text to is seen [] fine e = cc
-sent_before side user key text to is seen (n ∷ before) fine e =
-    let parts : (list_any (is_sealing key text) (sealings_of n.deed) || list_any (is_sealing key text) (sealings before)) ≡ true =
-    sym (list_any-append (is_sealing key text) (sealings_of n.deed) (sealings before)) ∙ e in
-    elim (or_cases (list_any (is_sealing key text) (sealings_of n.deed)) (list_any (is_sealing key text) (sealings before)) parts) [
-      | inl here ↦ any_here (λ m. (m.side ≡ side) × Sends user m.deed) n before (one_sealed side n.side n.deed user key text to is fine.0.honest here)
-      | inr there ↦ any_there (λ m. (m.side ≡ side) × Sends user m.deed) n before (sent_before side user key text to is (seen ++ n ∷ []) before fine.1 there)
-    ]
+pub plain : (opening : Opening) (before : List Noted) (side : Side) (deed : Deed)
+    → IsPlain deed → Honest side deed → IsFine opening before (noted before side deed)
+plain opening before side (Connected peering text) is honest = absurd is
+plain opening before side (Accepted user key text) is honest = absurd is
+plain opening before side deed is honest =
+    record { honest = honest; authentic = record { mark = refl; backed = tt }; own = λ p text e. cc }
 
-backed : (before : List Noted) (side : Side) (deed : Deed) (forged : Bool) → Along IsFine [] before → Honest side deed
-    → forged ≡ is_forged (sealings before) deed → IsBacked before side deed forged
-backed before side (Accepted user key text) forged fine honest mark = λ no.
-    let found : list_any (is_sealing key text) (sealings before) ≡ true = not-false _ (sym mark ∙ no) in
-    sent_before (other side) user key text honest.0 honest.1 [] before fine found
-backed before side (Sent user key text) forged fine honest mark = tt
-backed before side (Refused refusal) forged fine honest mark = tt
-backed before side (Released release) forged fine honest mark = tt
-backed before side (Frame octets) forged fine honest mark = tt
-backed before side NothingWaits forged fine honest mark = tt
+-- an accepted message whose text has the other side's flag
+pub accepted : (opening : Opening) (before : List Noted) (side : Side) (user : List ℕ) (key : TripleKey) (to : ℕ) → AllHonest before
+    → IsFine opening before (noted before side (Accepted user key (message_text (flag_of (role_of (other side))) to user)))
+accepted opening before side user key to honest =
+    let text : List ℕ = message_text (flag_of (role_of (other side))) to user in
+    record {
+      honest = tt;
+      authentic = record { mark = refl; backed = λ no. was_sent (other side) key text to user refl before honest (not-false (was_sealed key text before) no) };
+      own = λ p text e. cc;
+    }
 
--- a list of what came that is fine all along is authentic
-pub authentic_from : (came : List Noted) → Along IsFine [] came → Authentic came
-authentic_from came fine before after n split =
-    let whole : Along IsFine [] (before ++ n ∷ after) = rw split at fine in
-    let front : Along IsFine [] before = along-front IsFine [] before after n whole in
-    let here : IsFine before n = along-at IsFine [] before after n whole in
-    record { mark = here.mark; backed = backed before n.side n.deed n.forged front here.honest here.mark }
+-- the AU2 of a connection was sealed, unless what was verified in the set-up of the engine is forged
+abbrev pub IsTrusted : List Noted → Peering → Type 0
+IsTrusted seen p = mistrusts E seen ≡ false → was_sealed p.session (au2_text true p.me p.peer 1 p.ra p.rb) seen ≡ true
+
+mistrusts_before : (seen more : List Noted) → mistrusts E (seen ++ more) ≡ false → (mistrusts E seen ≡ false) × (mistrusts E more ≡ false)
+mistrusts_before seen more none = or_parts (mistrusts E seen) (mistrusts E more) (sym (list_any-append (is_mistrust E) seen more) ∙ none)
+
+pub trusted_more : (seen more : List Noted) (p : Peering) → IsTrusted seen p → IsTrusted (seen ++ more) p
+trusted_more seen more p trusted = λ no.
+    was_sealed_more p.session (au2_text true p.me p.peer 1 p.ra p.rb) seen more (trusted (mistrusts_before seen more no).0)
+
+-- the engine verified the AU2 now
+pub trusted_now : (seen more : List Noted) (p : Peering)
+    → IsTrusted (seen ++ noted seen E (Verified p.session (au2_text true p.me p.peer 1 p.ra p.rb)) ∷ more) p
+trusted_now seen more p = λ no.
+    let text : List ℕ = au2_text true p.me p.peer 1 p.ra p.rb in
+    let n : Noted = noted seen E (Verified p.session text) in
+    let fresh : (is_mistrust E n ≡ false) × (mistrusts E more ≡ false) = or_parts (is_mistrust E n) (mistrusts E more) (mistrusts_before seen (n ∷ more) no).1 in
+    was_sealed_more p.session text seen (n ∷ more) (not-false (was_sealed p.session text seen) fresh.0)
+
+-- the responder is connected
+pub accepts : (opening : Opening) (before : List Noted) (p : Peering) → AllHonest before → IsOwnPeering opening R p
+    → IsFine opening before (noted before R (Connected p (au3_text false p.me p.ra p.rb)))
+accepts opening before p honest own =
+    let text : List ℕ = au3_text false p.me p.ra p.rb in
+    record {
+      honest = tt;
+      authentic = record {
+        mark = refl;
+        backed = λ no. was_set_up E p.session text (set_up false 3 text (au3_is false p.me p.ra p.rb) (λ e. cc)) before honest
+            (not-false (was_sealed p.session text before) (or_parts _ (mistrusts R before) no).0);
+      };
+      own = λ q other e. own_at opening R p q text other e own;
+    }
+
+-- the initiator is connected
+pub joins : (opening : Opening) (before : List Noted) (p : Peering) → AllHonest before → IsTrusted before p → IsOwnPeering opening E p
+    → IsFine opening before (noted before E (Connected p (ar_text true p.me)))
+joins opening before p honest trusted own =
+    let text : List ℕ = ar_text true p.me in
+    let au2 : List ℕ = au2_text true p.me p.peer 1 p.ra p.rb in
+    record {
+      honest = tt;
+      authentic = record {
+        mark = refl;
+        backed = λ no.
+            let parts = or_parts _ (mistrusts E before) no in (
+              was_set_up R p.session au2 (set_up true 18 au2 (au2_is true p.me p.peer 1 p.ra p.rb) (λ e. cc)) before honest (trusted parts.1),
+              was_set_up R p.session text (set_up true 9 text (ar_is true p.me) (λ e. cc)) before honest (not-false (was_sealed p.session text before) parts.0),
+            );
+      };
+      own = λ q other e. own_at opening E p q text other e own;
+    }

@@ -1,106 +1,198 @@
--- Every step of a link is fine all along: the ends keep their roles, what they do is honest, and what came is marked by comparing.
-use Rattle.std.proofs.Common.{◌≡◌, ℕ, List, [], ◌∷◌, ◌++◌, refl, sym, ap, ◌∙◌}
-use Rattle.std.proofs.lemmas.List.{append-nil}
-use Rattle.std.proofs.lemmas.List.Concat.{flat_map-append}
+-- Whatever is done to a link, all that comes of it is authentic, and each connection is one of the end's own numbers.
+use Rattle.std.proofs.Common.{◌≡◌, ℕ, List, [], ◌∷◌, ◌++◌, refl, subst, append_assoc}
+use Rattle.std.specs.List.{AllByRecursion}
+use Rattle.std.specs.Prelude.{nat_lt, length, if◌then◌else◌, Bool, true, false}
 use Rattle.er_base.specs.declared.side.Side.{Side}
 use Rattle.er_base.specs.declared.side.Side.TheVariants.{E, R}
 use Rattle.er_base.specs.Sides.{other}
-use Rattle.des_block.specs.declared.triple_key.TripleKey.{TripleKey}
-use Rattle.safety_automaton.specs.declared.role.Role.{Role}
-use Rattle.safety_automaton.specs.declared.role.Role.TheVariants.{Initiator, Responder}
-use Rattle.safety_automaton.specs.Safety.{Safety, SafeEvent, Say, Hear, SafeDeed, Seals, Refuses, Takes, Leaves, IsLeft, Ignores, flag_of, message_text}
+use Rattle.safety_automaton.specs.Safety.{Safety, SafeDeed, SafeEvent, Start, Say, Hear, Leave, initiator, responder}
 use Rattle.safety_automaton.specs.Safety.{step as safe_step}
-use Rattle.safety_automaton.proofs.Honest.{IsProper, proper_step}
-use Rattle.safety_automaton.proofs.Honest.{Honest as SafeHonest}
-use Rattle.er_world.specs.Deeds.{Deed, NothingWaits, Noted, Sealing, noted, notes, sealings_of, sealings, safe_deeds}
-use Rattle.er_world.specs.Links.{Link, opened, end_of, line_of, with_line, given, give, counted, pass, Step, Send, Pass, step, run}
-use Rattle.er_world.specs.Headline.{IsAuthenticAlways}
-use Rattle.er_world.proofs.Along.{Along, along-append}
-use Rattle.er_world.proofs.Backing.{role_of, role-other, Honest, IsFine, authentic_from}
+use Rattle.er_world.specs.Deeds.{Deed, NothingWaits, IsShort, Disturbed, LetGo, Noted, noted, notes, safe_deeds}
+use Rattle.er_world.specs.Links.{Link, Opening, OfFixed, OfKeys, entries_of, joined, opened, end_of, with_line, line_of, given, give, lets_go, counted, pass, lose, repeat, altered, alter, nothing_waits, disturbed, LinkStep, Send, Pass, Lose, Repeat, Alter, Put, Release, step, run, life}
+use Rattle.er_world.specs.Headline.{Authentic, HasOwnPeering}
+use Rattle.er_world.proofs.Along.{Along, along-append, along-at}
+use Rattle.er_world.proofs.HonestDeeds.{role_of, AllHonest, Honest}
+use Rattle.er_world.proofs.Backing.{IsFine, IsPlain, plain}
+use Rattle.er_world.proofs.Peerings.{Knows, knows_more, IsProper, proper_step}
 
--- each side's end has its role
-pub record IsSound (l : Link) : Type 0 where
-  pub e_role : l.e.role ≡ Initiator
-  pub r_role : l.r.role ≡ Responder
+-- an end of a link has its role, and knows what it should
+record IsSteady (opening : Opening) (seen : List Noted) (side : Side) (s : Safety) : Type 0 where
+  pub role_is : s.role ≡ role_of side
+  pub knows : Knows opening seen s.me s.phase side
+
+-- so both ends, and all that was seen is honest
+record IsSound (opening : Opening) (seen : List Noted) (l : Link) : Type 0 where
+  pub honest : AllHonest seen
+  pub e : IsSteady opening seen E l.e
+  pub r : IsSteady opening seen R l.r
 
 -- a step went well, after what was seen
-record Went (seen : List Noted) (a : Link × List Noted) : Type 0 where
-  pub sound : IsSound a.0
-  pub along : Along IsFine seen a.1
+record Went (opening : Opening) (seen : List Noted) (a : Link × List Noted) : Type 0 where
+  pub sound : IsSound opening (seen ++ a.1) a.0
+  pub along : Along (IsFine opening) seen a.1
 
--- honest deeds, one by one
-abbrev AllHonest : Side → List Deed → Type 0
-AllHonest side [] = Unit {0}
-AllHonest side (deed ∷ deeds) = Honest side deed × AllHonest side deeds
+honest_more : (seen more : List Noted) (opening : Opening) (from : List Noted)
+    → AllHonest seen → Along (IsFine opening) from more → AllHonest (seen ++ more)
+honest_more [] [] opening from honest fine = tt
+honest_more [] (n ∷ more) opening from honest fine = (fine.0.honest, honest_more [] more opening (from ++ n ∷ []) tt fine.1)
+honest_more (m ∷ seen) more opening from honest fine = (honest.0, honest_more seen more opening from honest.1 fine)
 
-pub sealings-push : (seen : List Noted) (n : Noted) → sealings (seen ++ n ∷ []) ≡ sealings seen ++ sealings_of n.deed
-sealings-push seen n =
-    flat_map-append (λ (m : Noted). sealings_of m.deed) seen (n ∷ []) ∙ ap (λ (x : List Sealing). sealings seen ++ x) (append-nil (sealings_of n.deed))
+steady_more : (opening : Opening) (seen more : List Noted) (side : Side) (s : Safety)
+    → IsSteady opening seen side s → IsSteady opening (seen ++ more) side s
+steady_more opening seen more side s steady = record { role_is = steady.role_is; knows = knows_more opening seen more s.me s.phase side steady.knows }
 
-along_notes : (side : Side) (deeds : List Deed) (seen : List Noted) → AllHonest side deeds → Along IsFine seen (notes (sealings seen) side deeds)
-along_notes side [] seen honest = tt
-along_notes side (deed ∷ deeds) seen honest =
-    let n : Noted = noted (sealings seen) side deed in
-    let rest : Along IsFine (seen ++ n ∷ []) (notes (sealings (seen ++ n ∷ [])) side deeds) = along_notes side deeds (seen ++ n ∷ []) honest.1 in
-    (record { honest = honest.0; mark = refl }, rw sealings-push at rest)
+steady_at : (opening : Opening) (seen : List Noted) (l : Link) (side : Side) → IsSound opening seen l → IsSteady opening seen side (end_of l side)
+steady_at opening seen l E sound = sound.e
+steady_at opening seen l R sound = sound.r
 
-role_at : (l : Link) (side : Side) → IsSound l → (end_of l side).role ≡ role_of side
-role_at l E sound = sound.e_role
-role_at l R sound = sound.r_role
+-- an end did this
+given_went : (opening : Opening) (seen : List Noted) (l : Link) (side : Side) (end : Safety) (deeds : List Deed) → IsSound opening seen l
+    → IsSteady opening (seen ++ notes seen side deeds) side end → Along (IsFine opening) seen (notes seen side deeds)
+    → Went opening seen (given seen l side end deeds)
+given_went opening seen l E end deeds sound steady fine = record {
+  sound = record { honest = honest_more seen _ opening seen sound.honest fine; e = steady; r = steady_more opening seen _ R l.r sound.r };
+  along = fine;
+}
+given_went opening seen l R end deeds sound steady fine = record {
+  sound = record { honest = honest_more seen _ opening seen sound.honest fine; e = steady_more opening seen _ E l.e sound.e; r = steady };
+  along = fine;
+}
 
-given_sound : (sealed : List Sealing) (l : Link) (side : Side) (end : Safety) (deeds : List Deed) → IsSound l → end.role ≡ role_of side
-    → IsSound (given sealed l side end deeds).0
-given_sound sealed l E end deeds sound is = record { e_role = is; r_role = sound.r_role }
-given_sound sealed l R end deeds sound is = record { e_role = sound.e_role; r_role = is }
+-- an end is given an event
+give_went : (opening : Opening) (seen : List Noted) (l : Link) (side : Side) (event : SafeEvent) → IsSound opening seen l
+    → Went opening seen (give seen l side event)
+give_went opening seen l side event sound =
+    let a : Safety × SafeDeed = safe_step l.keys (end_of l side) event in
+    let steady : IsSteady opening seen side (end_of l side) = steady_at opening seen l side sound in
+    let proper : IsProper opening seen side a = proper_step opening seen l.keys (end_of l side) side event steady.role_is sound.honest steady.knows in
+    given_went opening seen l side a.0 (safe_deeds a.1) sound (record { role_is = proper.role_is; knows = proper.knows }) proper.along
 
--- whatever is done to a line, the ends keep their roles
-pub line_sound : (l : Link) (side : Side) (frames : List (List ℕ)) → IsSound l → IsSound (with_line l side frames)
-line_sound l E frames sound = record { e_role = sound.e_role; r_role = sound.r_role }
-line_sound l R frames sound = record { e_role = sound.e_role; r_role = sound.r_role }
+-- a user is told to release
+lets_go_went : (opening : Opening) (seen : List Noted) (l : Link) (side : Side) (event : SafeEvent) → IsSound opening seen l
+    → Went opening seen (lets_go seen l side (safe_step l.keys (end_of l side) event))
+lets_go_went opening seen l side event sound =
+    let a : Safety × SafeDeed = safe_step l.keys (end_of l side) event in
+    let n : Noted = noted seen side LetGo in
+    let told : IsFine opening seen n = plain opening seen side LetGo tt tt in
+    let after : List Noted = seen ++ n ∷ [] in
+    let steady : IsSteady opening after side (end_of l side) = steady_more opening seen (n ∷ []) side (end_of l side) (steady_at opening seen l side sound) in
+    let proper : IsProper opening after side a =
+    proper_step opening after l.keys (end_of l side) side event steady.role_is (honest_more seen (n ∷ []) opening seen sound.honest (told, tt)) steady.knows in
+    let P : List Noted → Type 0 = λ came. Knows opening came a.0.me a.0.phase side in
+    given_went opening seen l side a.0 (LetGo ∷ safe_deeds a.1) sound
+    (record { role_is = proper.role_is; knows = subst P (append_assoc seen (n ∷ []) (notes after side (safe_deeds a.1))) proper.knows })
+    (told, proper.along)
 
-counted_sound : (l : Link) → IsSound l → IsSound (counted l)
-counted_sound l sound = record { e_role = sound.e_role; r_role = sound.r_role }
+-- whatever is done to a line, the ends are as they were
+line_sound : (opening : Opening) (seen : List Noted) (l : Link) (side : Side) (frames : List (List ℕ))
+    → IsSound opening seen l → IsSound opening seen (with_line l side frames)
+line_sound opening seen l E frames sound = record { honest = sound.honest; e = sound.e; r = sound.r }
+line_sound opening seen l R frames sound = record { honest = sound.honest; e = sound.e; r = sound.r }
 
--- an honest end's deeds are honest at its side
-honest_deeds : (side : Side) (key : TripleKey) (deed : SafeDeed) → SafeHonest (role_of side) deed → AllHonest side (safe_deeds key deed)
-honest_deeds side key (Seals user text octets) honest = (honest, (tt, tt))
-honest_deeds side key (Refuses refusal) honest = (tt, tt)
-honest_deeds side key (Takes user text) honest = ((honest.0, honest.1 ∙ ap (λ (r : Role). message_text (flag_of r) honest.0 user) (sym (role-other side))), tt)
-honest_deeds side key (Leaves release octets) honest = (tt, (tt, tt))
-honest_deeds side key (IsLeft release) honest = (tt, tt)
-honest_deeds side key Ignores honest = tt
-
-give_went : (seen : List Noted) (l : Link) (side : Side) (event : SafeEvent) → IsSound l → Went seen (give (sealings seen) l side event)
-give_went seen l side event sound =
-    let a : Safety × SafeDeed = safe_step (end_of l side) event in
-    let is : (end_of l side).role ≡ role_of side = role_at l side sound in
-    let proper : IsProper (role_of side) a = rw is at (proper_step (end_of l side) event) in
-    let key : TripleKey = (end_of l side).session in
+-- one thing came, and no end did it
+one_came : (opening : Opening) (seen : List Noted) (l : Link) (side : Side) (deed : Deed) → IsPlain deed → Honest side deed → IsSound opening seen l
+    → Went opening seen (l, notes seen side (deed ∷ []))
+one_came opening seen l side deed is honest sound =
+    let n : Noted = noted seen side deed in
+    let fine : Along (IsFine opening) seen (n ∷ []) = (plain opening seen side deed is honest, tt) in
     record {
-      sound = given_sound (sealings seen) l side a.0 (safe_deeds key a.1) sound proper.role_is;
-      along = along_notes side (safe_deeds key a.1) seen (honest_deeds side key a.1 proper.honest);
+      sound = record {
+        honest = honest_more seen (n ∷ []) opening seen sound.honest fine;
+        e = steady_more opening seen (n ∷ []) E l.e sound.e;
+        r = steady_more opening seen (n ∷ []) R l.r sound.r;
+      };
+      along = fine;
     }
 
-pass_went : (seen : List Noted) (l : Link) (side : Side) (frames : List (List ℕ)) → IsSound l → Went seen (pass (sealings seen) l side frames)
-pass_went seen l side [] sound = record { sound = sound; along = along_notes side (NothingWaits ∷ []) seen (tt, tt) }
-pass_went seen l side (frame ∷ frames) sound =
-    give_went seen (counted (with_line l side frames)) (other side) (Hear frame) (counted_sound (with_line l side frames) (line_sound l side frames sound))
+disturbed_went : (opening : Opening) (seen : List Noted) (l : Link) (side : Side) (frames : List (List ℕ)) → IsSound opening seen l
+    → Went opening seen (disturbed seen l side frames)
+disturbed_went opening seen l side frames sound =
+    one_came opening seen (with_line l side frames) side Disturbed tt tt (line_sound opening seen l side frames sound)
 
-step_went : (seen : List Noted) (l : Link) (s : Step) → IsSound l → Went seen (step (sealings seen) l s)
-step_went seen l (Send side user) sound = give_went seen l side (Say user) sound
-step_went seen l (Pass side) sound = pass_went seen l side (line_of l side) sound
+nothing_went : (opening : Opening) (seen : List Noted) (l : Link) (side : Side) → IsSound opening seen l → Went opening seen (nothing_waits seen l side)
+nothing_went opening seen l side sound = one_came opening seen l side NothingWaits tt tt sound
 
-sealings-append : (seen came : List Noted) → sealings (seen ++ came) ≡ sealings seen ++ sealings came
-sealings-append seen came = flat_map-append (λ (m : Noted). sealings_of m.deed) seen came
+counted_sound : (opening : Opening) (seen : List Noted) (l : Link) → IsSound opening seen l → IsSound opening seen (counted l)
+counted_sound opening seen l sound = record { honest = sound.honest; e = sound.e; r = sound.r }
 
-pub run_went : (steps : List Step) (seen : List Noted) (l : Link) → IsSound l → Along IsFine seen (run (sealings seen) l steps).1
-run_went [] seen l sound = tt
-run_went (s ∷ steps) seen l sound =
-    let now : Link × List Noted = step (sealings seen) l s in
-    let went : Went seen now = step_went seen l s sound in
-    let rest : Along IsFine (seen ++ now.1) (run (sealings (seen ++ now.1)) now.0 steps).1 = run_went steps (seen ++ now.1) now.0 went.sound in
-    along-append IsFine seen now.1 (run (sealings seen ++ sealings now.1) now.0 steps).1 went.along (rw sealings-append at rest)
+pass_went : (opening : Opening) (seen : List Noted) (l : Link) (side : Side) (frames : List (List ℕ)) → IsSound opening seen l
+    → Went opening seen (pass seen l side frames)
+pass_went opening seen l side [] sound = nothing_went opening seen l side sound
+pass_went opening seen l side (frame ∷ frames) sound =
+    give_went opening seen (counted (with_line l side frames)) (other side) (Hear frame)
+    (counted_sound opening seen (with_line l side frames) (line_sound opening seen l side frames sound))
 
-pub authentic_always : IsAuthenticAlways
-authentic_always engine rbc ke kr steps =
-    authentic_from (run [] (opened engine rbc ke kr) steps).1 (run_went steps [] (opened engine rbc ke kr) (record { e_role = refl; r_role = refl }))
+lose_went : (opening : Opening) (seen : List Noted) (l : Link) (side : Side) (frames : List (List ℕ)) → IsSound opening seen l
+    → Went opening seen (lose seen l side frames)
+lose_went opening seen l side [] sound = nothing_went opening seen l side sound
+lose_went opening seen l side (frame ∷ frames) sound = disturbed_went opening seen l side frames sound
+
+repeat_went : (opening : Opening) (seen : List Noted) (l : Link) (side : Side) (frames : List (List ℕ)) → IsSound opening seen l
+    → Went opening seen (repeat seen l side frames)
+repeat_went opening seen l side [] sound = nothing_went opening seen l side sound
+repeat_went opening seen l side (frame ∷ frames) sound = disturbed_went opening seen l side (frame ∷ frame ∷ frames) sound
+
+went_if : (opening : Opening) (seen : List Noted) (b : Bool) (x y : Link × List Noted)
+    → Went opening seen x → Went opening seen y → Went opening seen (if b then x else y)
+went_if opening seen true x y hx hy = hx
+went_if opening seen false x y hx hy = hy
+
+alter_went : (opening : Opening) (seen : List Noted) (l : Link) (side : Side) (place mask : ℕ) (frames : List (List ℕ)) → IsSound opening seen l
+    → Went opening seen (alter seen l side place mask frames)
+alter_went opening seen l side place mask [] sound = nothing_went opening seen l side sound
+alter_went opening seen l side place mask (frame ∷ frames) sound =
+    went_if opening seen (nat_lt place (length frame)) (disturbed seen l side (altered frame place mask ∷ frames)) (l, notes seen side (IsShort (length frame) ∷ []))
+    (disturbed_went opening seen l side (altered frame place mask ∷ frames) sound)
+    (one_came opening seen l side (IsShort (length frame)) tt tt sound)
+
+step_went : (opening : Opening) (seen : List Noted) (l : Link) (s : LinkStep) → IsSound opening seen l → Went opening seen (step seen l s)
+step_went opening seen l (Send side user) sound = give_went opening seen l side (Say user) sound
+step_went opening seen l (Pass side) sound = pass_went opening seen l side (line_of l side) sound
+step_went opening seen l (Lose side) sound = lose_went opening seen l side (line_of l side) sound
+step_went opening seen l (Repeat side) sound = repeat_went opening seen l side (line_of l side) sound
+step_went opening seen l (Alter side place mask) sound = alter_went opening seen l side place mask (line_of l side) sound
+step_went opening seen l (Put side frame) sound = disturbed_went opening seen l side (frame ∷ line_of l side) sound
+step_went opening seen l (Release side sub) sound = lets_go_went opening seen l side (Leave sub) sound
+
+run_fine : (opening : Opening) (steps : List LinkStep) (seen : List Noted) (l : Link)
+    → IsSound opening seen l → Along (IsFine opening) seen (run seen l steps).1
+run_fine opening [] seen l sound = tt
+run_fine opening (s ∷ steps) seen l sound =
+    let now : Link × List Noted = step seen l s in
+    let went : Went opening seen now = step_went opening seen l s sound in
+    along-append (IsFine opening) seen now.1 (run (seen ++ now.1) now.0 steps).1 went.along (run_fine opening steps (seen ++ now.1) now.0 went.sound)
+
+opened_went : (opening : Opening) → Went opening [] (opened opening)
+opened_went (OfFixed engine rbc ke kr) = record {
+  sound = record { honest = tt; e = record { role_is = refl; knows = tt }; r = record { role_is = refl; knows = tt } };
+  along = tt;
+}
+opened_went (OfKeys engine rbc ke kr ra rb) =
+    let l : Link = joined (initiator engine rbc ke rb) (responder rbc ra) (entries_of engine rbc kr) in
+    give_went (OfKeys engine rbc ke kr ra rb) [] l E Start
+    (record {
+      honest = tt;
+      e = record { role_is = refl; knows = λ ra' session. (refl, refl, refl) };
+      r = record { role_is = refl; knows = λ peer rb' session. (refl, refl) };
+    })
+
+life_fine : (opening : Opening) (steps : List LinkStep) → Along (IsFine opening) [] (life opening steps).1
+life_fine opening steps =
+    let first : Link × List Noted = opened opening in
+    let went : Went opening [] first = opened_went opening in
+    along-append (IsFine opening) [] first.1 (run first.1 first.0 steps).1 went.along (run_fine opening steps first.1 first.0 went.sound)
+
+-- whatever the steps, what came at a link is authentic
+pub authentic_life : (opening : Opening) (steps : List LinkStep) → Authentic (life opening steps).1
+authentic_life opening steps before after n split =
+    let whole : Along (IsFine opening) [] (before ++ n ∷ after) = rw split at (life_fine opening steps) in
+    let here : IsFine opening before n = along-at (IsFine opening) [] before after n whole in
+    here.authentic
+
+all_own : (opening : Opening) (seen came : List Noted) → Along (IsFine opening) seen came → AllByRecursion (HasOwnPeering opening) came
+all_own opening seen [] fine = tt
+all_own opening seen (n ∷ came) fine = (fine.0.own, all_own opening (seen ++ n ∷ []) came fine.1)
+
+-- whatever the steps, an end of a link connects as itself
+pub connects_life : (opening : Opening) (steps : List LinkStep) → AllByRecursion (HasOwnPeering opening) (life opening steps).1
+connects_life opening steps = all_own opening [] (life opening steps).1 (life_fine opening steps)

@@ -1,4 +1,11 @@
 pub mod Deeds
 pub mod Links
+pub mod Worlds
 pub mod Texts
 pub mod Headline
+pub mod Kept
+pub mod Pairs
+pub mod PairKeys
+pub mod Lines
+pub mod Ports
+pub mod WorldSteps

@@ -1,15 +1,16 @@
--- The text of a drill: a line for each thing that came and is printed, and the closing line of each link (this profile).
-use Rattle.std.specs.Prelude.{ℕ, Bool, true, false, List, [], ◌++◌, length, codes}
+-- The text of a drill: a line for each thing that came and is printed, and a closing line for each link (this profile).
+use Rattle.std.specs.Prelude.{ℕ, ◌+◌, Bool, true, false, if◌then◌else◌, List, [], ◌∷◌, ◌++◌, length, codes, Option, Some, None}
 use Rattle.std.specs.List.{flat_map}
 use Rattle.std.specs.Fmt.{decimal}
 use Rattle.er_base.specs.declared.release.Release.{Release}
 use Rattle.er_base.specs.declared.side.Side.{Side}
 use Rattle.er_base.specs.declared.side.Side.TheVariants.{E, R}
 use Rattle.er_base.specs.Hexadecimal.{hex_of}
-use Rattle.des_block.specs.declared.triple_key.TripleKey.{TripleKey}
-use Rattle.safety_automaton.specs.Safety.{Refusal, IsReleased, HasLength}
-use Rattle.er_world.specs.Deeds.{Deed, Sent, Refused, Accepted, Released, Frame, NothingWaits, Noted}
-use Rattle.er_world.specs.Links.{Link, Step, opened, run}
+use Rattle.safety_automaton.specs.Safety.{Refusal, IsReleased, IsNotConnected, HasLength}
+use Rattle.er_scenario.specs.declared.step.Step.{Step}
+use Rattle.er_world.specs.Deeds.{Deed, Sent, Refused, Sealed, Verified, Connected, Accepted, Released, Frame, NothingWaits, IsShort, Disturbed, LetGo, Noted}
+use Rattle.er_world.specs.Links.{Link}
+use Rattle.er_world.specs.Worlds.{World, Came, On, Drained, world_run}
 
 abbrev pub side_word : Side → List ℕ
 side_word E = codes "e"
@@ -31,6 +32,9 @@ by_word false = codes " local\n"
 unfoldable pub release_words : Release → List ℕ
 release_words release = decimal release.reason ++ (codes " " ++ decimal release.sub)
 
+unfoldable pub connected_line : ℕ → Side → ℕ → Bool → List ℕ
+connected_line number side peer forged = head number side ++ (codes " connected " ++ (decimal peer ++ forged_word forged))
+
 unfoldable pub accepted_line : ℕ → Side → List ℕ → Bool → List ℕ
 accepted_line number side user forged = head number side ++ (codes " accepted " ++ (hex_of user ++ forged_word forged))
 
@@ -39,47 +43,71 @@ released_line number side release = head number side ++ (codes " released " ++ (
 
 unfoldable pub refused_line : ℕ → Side → Refusal → List ℕ
 refused_line number side (IsReleased release) = head number side ++ (codes " refused released " ++ (release_words release ++ codes "\n"))
+refused_line number side IsNotConnected = head number side ++ codes " refused notconnected\n"
 refused_line number side (HasLength found) = head number side ++ (codes " refused length " ++ (decimal found ++ codes "\n"))
+
+unfoldable pub frame_line : ℕ → Side → List ℕ → List ℕ
+frame_line number side octets = head number side ++ (codes " frame " ++ (hex_of octets ++ codes "\n"))
 
 unfoldable pub empty_line : ℕ → Side → List ℕ
 empty_line number side = head number side ++ codes " empty\n"
 
--- the line of what came, where it has one: a send that was Ok and a frame have none
-abbrev pub line_of : ℕ → Side → Deed → Bool → List ℕ
-line_of number side (Sent user key text) forged = []
-line_of number side (Refused refusal) forged = refused_line number side refusal
-line_of number side (Accepted user key text) forged = accepted_line number side user forged
-line_of number side (Released release) forged = released_line number side release
-line_of number side (Frame octets) forged = []
-line_of number side NothingWaits forged = empty_line number side
+unfoldable pub short_line : ℕ → Side → ℕ → List ℕ
+short_line number side found = head number side ++ (codes " short " ++ (decimal found ++ codes "\n"))
 
-abbrev pub noted_line : ℕ → Noted → List ℕ
-noted_line number n = line_of number n.side n.deed n.forged
+-- the line of a drain
+unfoldable pub passes_line : ℕ → ℕ → List ℕ
+passes_line number passes = decimal number ++ (codes " passes " ++ (decimal passes ++ codes "\n"))
 
-abbrev pub lines : ℕ → List Noted → List ℕ
-lines number came = flat_map (noted_line number) came
+-- the line of what came, where it has one; frames are shown or not
+abbrev pub line_of : (show : Bool) → ℕ → Side → Deed → Bool → List ℕ
+line_of show number side (Sent user key text) forged = []
+line_of show number side (Refused refusal) forged = refused_line number side refusal
+line_of show number side (Sealed key text) forged = []
+line_of show number side (Verified key text) forged = []
+line_of show number side (Connected peering text) forged = connected_line number side peering.peer forged
+line_of show number side (Accepted user key text) forged = accepted_line number side user forged
+line_of show number side (Released release) forged = released_line number side release
+line_of show number side (Frame octets) forged = if show then frame_line number side octets else []
+line_of show number side NothingWaits forged = empty_line number side
+line_of show number side (IsShort found) forged = short_line number side found
+line_of show number side Disturbed forged = []
+line_of show number side LetGo forged = []
+
+abbrev pub noted_line : Bool → ℕ → Noted → List ℕ
+noted_line show number n = line_of show number n.side n.deed n.forged
+
+-- the lines of what came at one link
+abbrev pub link_lines : Bool → ℕ → List Noted → List ℕ
+link_lines show number came = flat_map (noted_line show number) came
+
+abbrev pub came_line : Bool → Came → List ℕ
+came_line show (On link noted) = noted_line show link noted
+came_line show (Drained link passes) = passes_line link passes
+
+-- the lines of what came in a world
+abbrev pub lines : Bool → List Came → List ℕ
+lines show came = flat_map (came_line show) came
 
 -- the closing line of a link
-unfoldable pub summary : ℕ → Link → List ℕ
-summary number l =
+unfoldable pub summary_line : ℕ → Link → List ℕ
+summary_line number l =
     (decimal number ++ (codes " end passes " ++ decimal l.passes))
     ++ ((codes " waiting " ++ decimal (length l.from_e)) ++ (codes " " ++ (decimal (length l.from_r) ++ codes "\n")))
 
--- what a drill file of one fixed link says: the two numbers, the two session keys, the steps
-pub record Scenario : Type 0 where
-  pub engine : ℕ
-  pub rbc : ℕ
-  pub ke : TripleKey
-  pub kr : TripleKey
-  pub steps : List Step
+abbrev pub place_line : ℕ → Option Link → List ℕ
+place_line number None = []
+place_line number (Some l) = summary_line number l
 
-abbrev pub first_link : Scenario → Link
-first_link s = opened s.engine s.rbc s.ke s.kr
+-- the closing lines of the places from this number on
+abbrev pub closing_from : ℕ → List (Option Link) → List ℕ
+closing_from number [] = []
+closing_from number (place ∷ places) = place_line number place ++ closing_from (number + 1) places
 
--- what came of the drill, and the link at its end
-abbrev pub outcome : Scenario → Link × List Noted
-outcome s = run [] (first_link s) s.steps
+-- the closing lines of a world: one for each link that was opened, their numbers rising
+unfoldable pub summary : World → List ℕ
+summary w = closing_from 0 w.links
 
--- DrillText: what the drill prints
-abbrev pub drill_text : Scenario → List ℕ
-drill_text s = lines 1 (outcome s).1 ++ summary 1 (outcome s).0
+-- DrillText: what a drill prints whose steps are all done
+abbrev pub drill_text : Bool → List Step → List ℕ
+drill_text show steps = lines show (world_run steps).1 ++ summary (world_run steps).0

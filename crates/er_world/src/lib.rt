@@ -1,7 +1,20 @@
 //! The world of a drill: links of two ends under a line that does what the steps say, and the text that comes of it.
-//!
-//! For now it has definitions and laws, for one link whose two ends are connected from the start (level safe): a link and its
-//! steps, the list of what came of them, the text, and what holds of every list of steps (this profile).
 #![tactic(auto)]
 
+mod action;
+mod finder;
 pub mod laws;
+mod lines;
+mod link;
+mod place;
+mod port;
+mod sealed_pairs;
+mod waiting;
+mod world;
+mod world_fault;
+
+pub use world::World;
+pub use world_fault::WorldFault;
+
+#[cfg(test)]
+mod tests;

@@ -1,7 +1,6 @@
 -- The two direction flags, and the text that a message is sealed in.
 use Rattle.std.proofs.Common.{◌≡◌, ℕ, Bool, true, false, List, refl}
-use Rattle.sapdu.proofs.Texts.{header_flag}
-use Rattle.sapdu.specs.Spelling.{Dt, header}
+use Rattle.sapdu.proofs.Texts.{same_dt_texts}
 use Rattle.safety_automaton.specs.Safety.{same_flag, message_text, flag_of, other_role}
 use Rattle.safety_automaton.specs.declared.role.Role.{Role}
 use Rattle.safety_automaton.specs.declared.role.Role.TheVariants.{Initiator, Responder}
@@ -16,12 +15,12 @@ same_flag-true true false e = cc
 same_flag-true false true e = cc
 same_flag-true false false e = refl
 
--- an end's own flag isn't its peer's
+-- a side's own flag isn't its peer's
 pub own_flag : (r : Role) → same_flag (flag_of r) (flag_of (other_role r)) ≡ false
 own_flag Initiator = refl
 own_flag Responder = refl
 
--- two ends with one flag have one role
+-- two sides with one flag have one role
 pub same_role : (a b : Role) → flag_of a ≡ flag_of b → a ≡ b
 same_role Initiator Initiator e = refl
 same_role Initiator Responder e = cc
@@ -33,6 +32,5 @@ pub same_message : (f g : Bool) (to to' : ℕ) (user user' : List ℕ)
     → message_text f to user ≡ message_text g to' user' → (f ≡ g) × (user ≡ user')
 unfolding message_text
 same_message f g to to' user user' e =
-    let headers : header (Dt user 0) f ≡ header (Dt user' 0) g = cc in
-    let users : user ≡ user' = cc in
-    (header_flag (Dt user 0) (Dt user' 0) f g headers, users)
+    let same = same_dt_texts user user' 0 0 f g to to' 0 0 0 0 e in
+    (same.0, same.2)

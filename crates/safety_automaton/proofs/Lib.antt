@@ -1,5 +1,10 @@
+pub mod Rows
+pub mod Lengths
 pub mod Flags
 pub mod Honest
+pub mod Sessions
+pub mod SetUp
+pub mod Releases
 pub mod Verified
-pub mod Rows
 pub mod Peers
+pub mod Sends

@@ -1,2 +1,5 @@
+pub mod Keys
 pub mod Safety
+pub mod Reports
+pub mod Kept
 pub mod Rules

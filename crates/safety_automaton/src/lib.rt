@@ -1,11 +1,26 @@
-//! The safety layer's automaton, after UNISIG SUBSET-037: what a received SaPDU, a send and a release do to one end of a
-//! safe connection. Octet values, the order of checks and the reasons are this profile's.
+//! The safety layer's automaton, after UNISIG SUBSET-037: one side of a safe connection, from the set-up, peer entity
+//! authentication, over the exchange of sealed messages to the release. Octet values, the order of checks and the reasons
+//! are this profile's.
 //!
-//! For now it has the safety model of an end whose session keys are fixed, and its rule, row by row, as laws of that model:
-//! what is accepted, what releases, what is refused. Which end a role is stands in `Role`.
+//! `Safe` is such a side. Each of its calls is a step of the safety model, whose table is in the contracts' definitions; what a
+//! step does, row by row, is stated as laws of the model in `laws`: what is accepted, what releases, when a side is connected.
+//! Keys come from a `KeyFinder`. Random numbers, timers and the transport are the task of the crates above. Nothing here takes
+//! memory.
 #![tactic(auto)]
 
+mod deed;
+mod key_finder;
 pub mod laws;
+mod phase;
 mod role;
+mod safe;
+mod safe_state;
+#[cfg(test)]
+mod tests;
+mod text;
 
+pub use deed::{SafeDeed, SealRefused};
+pub use key_finder::KeyFinder;
 pub use role::Role;
+pub use safe::Safe;
+pub use safe_state::SafeState;

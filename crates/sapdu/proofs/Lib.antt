@@ -1,3 +1,5 @@
+pub mod Eight
+pub mod Unfaulted
 pub mod Spelled
 pub mod Answered
 pub mod Ranges

@@ -1,53 +1,37 @@
 -- What is spelled is read back, what is read was spelled, and a list spells at most one SaPDU: a lemma for each kind, with
 -- the two flags as cases, and one for all kinds.
-use Rattle.std.proofs.Common.{arith, ◌≡◌, ℕ, zero, suc, ◌+◌, ◌-◌, ◌<◌, ◌≤◌, ◌%◌, ◌^◌, ◌==◌, ◌||◌, inl, inr, Bool, true, false, nat_lt, List, [], ◌∷◌, ◌++◌, length, take, drop, get_or, refl, ap, sym, ◌∙◌, Option, Some, None, Result, Ok, Err, length-append, take-append-drop, length-drop, length-take}
-use Rattle.std.proofs.lemmas.Bool.{cases_Bool, eqb-true, ltb-false, le-ltb, or_cases}
-use Rattle.std.proofs.lemmas.List.{take_at, drop_at, get_or-drop}
-use Rattle.std.proofs.lemmas.Nat.{from_be_bytes-to_be_bytes_8, be_bytes_8}
+use Rattle.std.proofs.Common.{arith, ◌≡◌, ℕ, suc, ◌+◌, ◌-◌, ◌<◌, ◌%◌, ◌^◌, ◌==◌, Bool, true, false, List, [], ◌∷◌, ◌++◌, length, take, drop, get_or, refl, ap, sym, ◌∙◌, Option, Some, None, Result, Ok, Err, length-append}
+use Rattle.std.proofs.lemmas.Bool.{le-ltb}
+use Rattle.std.proofs.lemmas.List.{take_at, drop_at}
 use Rattle.er_base.specs.Octets.{eight}
 use Rattle.sapdu.specs.declared.fault.SaFault.{SaFault}
-use Rattle.sapdu.specs.declared.fault.SaFault.TheVariants.{Short, Kind, Long}
-use Rattle.sapdu.specs.Spelling.{Pdu, Dt, Di, Fits, AreOctets, df, spelling, first_fault, fields_of, number_in, fault_within, answered, read_of, IsReadBack, IsSpelledBack, SpellsOne}
-
--- ---- eight octets
-
--- a number is spelled in eight octets
-pub length_eight : (n : ℕ) → length (eight n) ≡ 8
-unfolding eight
-length_eight n = refl
-
--- the number that eight octets spell is that of which they are the spelling
-pub number_in_eight : (n : ℕ) → n < 2 ^ 64 → number_in (eight n) ≡ n
-unfolding eight number_in
-number_in_eight n h = from_be_bytes-to_be_bytes_8 n h
-
--- eight octets are the spelling of their number
-pub eight_number_in : (octets : List ℕ) → length octets ≡ 8 → AreOctets octets → eight (number_in octets) ≡ octets
-unfolding eight number_in
-eight_number_in octets long all = be_bytes_8 octets _ long all refl
-
--- and their number is below 2 ^ 64
-pub number_in_small : (octets : List ℕ) → length octets ≡ 8 → AreOctets octets → number_in octets < 2 ^ 64
-unfolding number_in
-number_in_small octets long all =
-    let o0 : get_or octets 0 0 < 256 = all 0 in
-    let o1 : get_or octets 1 0 < 256 = all 1 in
-    let o2 : get_or octets 2 0 < 256 = all 2 in
-    let o3 : get_or octets 3 0 < 256 = all 3 in
-    let o4 : get_or octets 4 0 < 256 = all 4 in
-    let o5 : get_or octets 5 0 < 256 = all 5 in
-    let o6 : get_or octets 6 0 < 256 = all 6 in
-    let o7 : get_or octets 7 0 < 256 = all 7 in
-    omega arith
-
--- the first octets of a list are octets
-take_octets : (n : ℕ) (octets : List ℕ) → AreOctets octets → AreOctets (take n octets)
-take_octets zero octets all k = omega arith
-take_octets (suc n) [] all k = omega arith
-take_octets (suc n) (x ∷ xs) all zero = all 0
-take_octets (suc n) (x ∷ xs) all (suc k) = take_octets n xs (λ i. all (suc i)) k
+use Rattle.sapdu.specs.Spelling.{Pdu, Au1, Au2, Au3, Ar, Dt, Di, Fits, spelling, number_in, first_fault, fields_of, answered, read_of, IsReadBack, IsSpelledBack, SpellsOne}
+use Rattle.sapdu.proofs.Eight.{length_eight, length_two_numbers, number_in_eight, number_in_front, number_in_back, three_number}
+use Rattle.sapdu.proofs.Unfaulted.{IsSpelling, unfaulted}
 
 -- ---- what is spelled is read back
+
+-- an AU1
+read_au1 : (id feature rb : ℕ) (flag : Bool) → Fits (Au1 id feature rb) → read_of (spelling (Au1 id feature rb) flag) ≡ Ok (Au1 id feature rb, flag)
+read_au1 id feature rb false fits = rw (length_eight rb, three_number id, number_in_eight rb fits.octets.2) refl
+read_au1 id feature rb true fits = rw (length_eight rb, three_number id, number_in_eight rb fits.octets.2) refl
+
+-- an AU2
+read_au2 : (id feature ra mac : ℕ) (flag : Bool) → Fits (Au2 id feature ra mac) → read_of (spelling (Au2 id feature ra mac) flag) ≡ Ok (Au2 id feature ra mac, flag)
+read_au2 id feature ra mac false fits =
+    rw (length_two_numbers ra mac, three_number id, number_in_front ra (eight mac) fits.octets.2, number_in_back ra mac fits.octets.3) refl
+read_au2 id feature ra mac true fits =
+    rw (length_two_numbers ra mac, three_number id, number_in_front ra (eight mac) fits.octets.2, number_in_back ra mac fits.octets.3) refl
+
+-- an AU3
+read_au3 : (mac : ℕ) (flag : Bool) → mac < 2 ^ 64 → read_of (spelling (Au3 mac) flag) ≡ Ok (Au3 mac, flag)
+read_au3 mac false small = rw (length_eight mac, number_in_eight mac small) refl
+read_au3 mac true small = rw (length_eight mac, number_in_eight mac small) refl
+
+-- an AR
+read_ar : (mac : ℕ) (flag : Bool) → mac < 2 ^ 64 → read_of (spelling (Ar mac) flag) ≡ Ok (Ar mac, flag)
+read_ar mac false small = rw (length_eight mac, number_in_eight mac small) refl
+read_ar mac true small = rw (length_eight mac, number_in_eight mac small) refl
 
 -- the user octets and the MAC of a DT, by their places
 dt_fields : (user : List ℕ) (mac : ℕ) (n : ℕ) → mac < 2 ^ 64 → length user ≡ n → Dt (take n (user ++ eight mac)) (number_in (drop n (user ++ eight mac))) ≡ Dt user mac
@@ -79,6 +63,10 @@ read_di reason sub true = refl
 
 -- an SaPDU that fits is read back from its spelling
 pub read_spelling : IsReadBack
+read_spelling (Au1 id feature rb) flag fits = read_au1 id feature rb flag fits
+read_spelling (Au2 id feature ra mac) flag fits = read_au2 id feature ra mac flag fits
+read_spelling (Au3 mac) flag fits = read_au3 mac flag fits.octets
+read_spelling (Ar mac) flag fits = read_ar mac flag fits.octets
 read_spelling (Dt user mac) flag fits = read_dt user mac flag fits
 read_spelling (Di reason sub) flag fits = read_di reason sub flag
 
@@ -101,80 +89,6 @@ answered_ok (Some fault) octets pdu flag e = absurd (cc)
 answered_ok None octets pdu flag e =
     let pair : (fields_of (get_or octets 0 0) (drop 1 octets), (get_or octets 0 0 % 2 == 1)) ≡ (pdu, flag) = ap (value_or (pdu, flag)) e in
     record { none = refl; fields = ap (λ (r : Pdu × Bool). r.0) pair; flagged = ap (λ (r : Pdu × Bool). r.1) pair }
-
--- a length that is no fault is within the bounds
-within : (octet found least greatest : ℕ) → fault_within octet found (Some (least, greatest)) ≡ None → (least ≤ found) × (found ≤ greatest)
-within octet found least greatest e =
-    elim (cases_Bool (nat_lt found least)) [
-      | inl short ↦ let bad : Some (Short least found) ≡ None = rw short at e in absurd (cc)
-      | inr enough ↦
-          elim (cases_Bool (nat_lt greatest found)) [
-            | inl long ↦ let bad : Some (Long greatest found) ≡ None = rw (enough, long) at e in absurd (cc)
-            | inr good ↦ (ltb-false _ _ enough, ltb-false _ _ good)
-          ]
-    ]
-
--- octets behind a header octet that have no fault are the spelling of their fields
-abbrev IsSpelling : ℕ → List ℕ → Bool → Type 0
-IsSpelling octet rest flag = Fits (fields_of octet rest) × (octet ∷ rest ≡ spelling (fields_of octet rest) flag)
-
-dt_body : (rest : List ℕ) (n : ℕ) → AreOctets rest → 1 ≤ n → n ≤ 1023 → length rest ≡ n + 8
-    → Fits (Dt (take n rest) (number_in (drop n rest))) × (rest ≡ take n rest ++ eight (number_in (drop n rest)))
-dt_body rest n all some few long =
-    let user : length (take n rest) ≡ n = omega (arith, length-take n rest) in
-    let trailer : length (drop n rest) ≡ 8 = omega (arith, length-drop n rest) in
-    let behind : AreOctets (drop n rest) = λ k. rw (get_or-drop n rest k 0) (all (n + k)) in
-    let same : eight (number_in (drop n rest)) ≡ drop n rest = eight_number_in (drop n rest) trailer behind in (
-      record {
-        user = (omega arith, omega arith);
-        octets = (take_octets n rest all, number_in_small (drop n rest) trailer behind);
-      },
-      rw (same, take-append-drop n rest) refl,
-    )
-
-dt_unfaulted : (rest : List ℕ) (flag : Bool) → AreOctets rest → first_fault ((10 + df flag) ∷ rest) ≡ None → IsSpelling (10 + df flag) rest flag
-dt_unfaulted rest false all e =
-    let bounded = within 10 (length (10 ∷ rest)) 10 1032 e in
-    let parts = dt_body rest (length rest - 8) all (omega arith) (omega arith) (omega arith) in
-    (parts.0, ap (λ (r : List ℕ). 10 ∷ r) parts.1)
-dt_unfaulted rest true all e =
-    let bounded = within 11 (length (11 ∷ rest)) 10 1032 e in
-    let parts = dt_body rest (length rest - 8) all (omega arith) (omega arith) (omega arith) in
-    (parts.0, ap (λ (r : List ℕ). 11 ∷ r) parts.1)
-
-di_body : (rest : List ℕ) → length rest ≡ 2 → rest ≡ get_or rest 0 0 ∷ get_or rest 1 0 ∷ []
-di_body [] long = absurd (omega arith)
-di_body (a ∷ []) long = absurd (omega arith)
-di_body (a ∷ b ∷ []) long = refl
-di_body (a ∷ b ∷ c ∷ rest) long = absurd (omega arith)
-
-di_unfaulted : (rest : List ℕ) (flag : Bool) → AreOctets rest → first_fault ((16 + df flag) ∷ rest) ≡ None → IsSpelling (16 + df flag) rest flag
-di_unfaulted rest false all e =
-    let bounded = within 16 (length (16 ∷ rest)) 3 3 e in
-    (record { user = tt; octets = (all 0, all 1) }, ap (λ (r : List ℕ). 16 ∷ r) (di_body rest (omega arith)))
-di_unfaulted rest true all e =
-    let bounded = within 17 (length (17 ∷ rest)) 3 3 e in
-    (record { user = tt; octets = (all 0, all 1) }, ap (λ (r : List ℕ). 17 ∷ r) (di_body rest (omega arith)))
-
--- octets that have no fault are the spelling of their fields
-pub unfaulted : (octet : ℕ) (rest : List ℕ) → AreOctets rest → first_fault (octet ∷ rest) ≡ None → IsSpelling octet rest (octet % 2 == 1)
-unfaulted octet rest all =
-    elim (cases_Bool (octet == 10 || octet == 11)) [
-      | inl dt ↦
-          elim (or_cases _ _ dt) [
-            | inl a ↦ rw (eqb-true octet 10 a) (dt_unfaulted rest false all)
-            | inr b ↦ rw (eqb-true octet 11 b) (dt_unfaulted rest true all)
-          ]
-      | inr other ↦
-          elim (cases_Bool (octet == 16 || octet == 17)) [
-            | inl di ↦
-                elim (or_cases _ _ di) [
-                  | inl a ↦ rw (eqb-true octet 16 a) (di_unfaulted rest false all)
-                  | inr b ↦ rw (eqb-true octet 17 b) (di_unfaulted rest true all)
-                ]
-            | inr unknown ↦ λ e. let bad : Some (Kind octet) ≡ None = rw (other, unknown) at e in absurd (cc)
-          ]
-    ]
 
 -- octets that are read are the spelling of what was read
 pub spelling_read : IsSpelledBack

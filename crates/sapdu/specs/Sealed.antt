@@ -1,16 +1,23 @@
 -- The text that the MAC of an SaPDU seals (SUBSET-037, computation of the MAC): the length of what follows in two octets,
 -- the receiver's number DA in three, and the part m of the SaPDU. It isn't padded here.
-use Rattle.std.specs.Prelude.{ℕ, ◌^◌, ◌≡◌, ◌<◌, Bool, false, List, [], ◌∷◌, ◌++◌, length, replicate, refl}
-use Rattle.er_base.specs.Octets.{two, three}
-use Rattle.sapdu.specs.Spelling.{Pdu, Dt, Di, Fits, header, header_without_flag}
+use Rattle.std.specs.Prelude.{ℕ, ◌^◌, ◌≡◌, ◌<◌, Bool, true, false, List, [], ◌∷◌, ◌++◌, length, replicate, refl}
+use Rattle.er_base.specs.Octets.{two, three, eight}
+use Rattle.sapdu.specs.Spelling.{Pdu, Au1, Au2, Au3, Ar, Dt, Di, Fits, header, header_without_flag}
 
--- a DI has no MAC
+-- AU1 and DI have no MAC
 abbrev pub HasMac : Pdu → Type 0
-HasMac (Dt user mac) = Unit {0}
+HasMac (Au1 id feature rb) = ⊥
 HasMac (Di reason sub) = ⊥
+HasMac pdu = Unit {0}
 
--- the part m of an SaPDU with its flag, by the random numbers Ra and Rb: of a DT its header and user octets
+-- the part m of an SaPDU with its flag, by the random numbers Ra and Rb: of an AU2 its first 13 octets and Rb, of an AU3 its header
+-- and both random numbers, of an AR its header, of a DT its header and user octets
 abbrev pub sealed_part : Pdu → Bool → ℕ → ℕ → List ℕ
+sealed_part (Au1 id feature own) flag ra rb = []
+sealed_part (Au2 id feature own mac) flag ra rb =
+    header (Au2 id feature own mac) flag ∷ three id ++ feature ∷ eight own ++ eight rb
+sealed_part (Au3 mac) flag ra rb = header (Au3 mac) flag ∷ eight ra ++ eight rb
+sealed_part (Ar mac) flag ra rb = header (Ar mac) flag ∷ []
 sealed_part (Dt user mac) flag ra rb = header (Dt user mac) flag ∷ user
 sealed_part (Di reason sub) flag ra rb = []
 
@@ -22,18 +29,31 @@ addressed pdu flag da ra rb = three da ++ sealed_part pdu flag ra rb
 abbrev pub sealed_text : Pdu → Bool → ℕ → ℕ → ℕ → List ℕ
 sealed_text pdu flag da ra rb = two (length (addressed pdu flag da ra rb)) ++ addressed pdu flag da ra rb
 
--- the user octets of an SaPDU that has some
-abbrev pub user_of : Pdu → List ℕ
-user_of (Dt user mac) = user
-user_of (Di reason sub) = []
+-- what the text of an SaPDU seals beside its kind and flag
+pub data Content : Type 0 where
+  -- of an AU2: the responder's number, the safety feature, both random numbers
+  OfAu2 : (id feature ra rb : ℕ) → Content
+  -- of an AU3: both random numbers
+  OfAu3 : (ra rb : ℕ) → Content
+  -- of a DT: the user octets
+  OfDt : (user : List ℕ) → Content
+  -- of the others: nothing
+  OfNone : Content
+
+abbrev pub content_of : Pdu → ℕ → ℕ → Content
+content_of (Au1 id feature own) ra rb = OfNone
+content_of (Au2 id feature own mac) ra rb = OfAu2 id feature own rb
+content_of (Au3 mac) ra rb = OfAu3 ra rb
+content_of (Ar mac) ra rb = OfNone
+content_of (Dt user mac) ra rb = OfDt user
+content_of (Di reason sub) ra rb = OfNone
 
 -- the same kind, flag, receiver and content
 pub record SameSealed (p q : Pdu) (f g : Bool) (da da' ra ra' rb rb' : ℕ) : Type 0 where
   pub kind : header_without_flag p ≡ header_without_flag q
   pub flag : f ≡ g
   pub receiver : da ≡ da'
-  pub part : sealed_part p f ra rb ≡ sealed_part q g ra' rb'
-  pub user : user_of p ≡ user_of q
+  pub content : content_of p ra rb ≡ content_of q ra' rb'
 
 -- sealed texts that are equal, or equal after padding with zero octets, are those of the same content
 abbrev pub SealsOne : Type 0
@@ -49,3 +69,17 @@ known_text = refl
 
 pub known_longer_text : sealed_text (Dt (97 ∷ 98 ∷ 0 ∷ []) 0) false 9 0 0 ≡ 0 ∷ 7 ∷ 0 ∷ 0 ∷ 9 ∷ 10 ∷ 97 ∷ 98 ∷ 0 ∷ []
 known_longer_text = refl
+
+-- the set-up of engine 5 and the radio block centre 9, with Ra 0102030405060708 and Rb 1112131415161718 (hexadecimal)
+pub known_au2_text : sealed_text (Au2 9 1 0x0102030405060708 0) true 5 0 0x1112131415161718
+    ≡ 0 ∷ 24 ∷ 0 ∷ 0 ∷ 5 ∷ 0x25 ∷ 0 ∷ 0 ∷ 9 ∷ 1 ∷ 1 ∷ 2 ∷ 3 ∷ 4 ∷ 5 ∷ 6 ∷ 7 ∷ 8 ∷ 0x11 ∷ 0x12 ∷ 0x13 ∷ 0x14 ∷ 0x15 ∷ 0x16 ∷ 0x17 ∷ 0x18 ∷ []
+unfolding eight
+known_au2_text = refl
+
+pub known_au3_text : sealed_text (Au3 0) false 9 0x0102030405060708 0x1112131415161718
+    ≡ 0 ∷ 20 ∷ 0 ∷ 0 ∷ 9 ∷ 6 ∷ 1 ∷ 2 ∷ 3 ∷ 4 ∷ 5 ∷ 6 ∷ 7 ∷ 8 ∷ 0x11 ∷ 0x12 ∷ 0x13 ∷ 0x14 ∷ 0x15 ∷ 0x16 ∷ 0x17 ∷ 0x18 ∷ []
+unfolding eight
+known_au3_text = refl
+
+pub known_ar_text : sealed_text (Ar 0) true 5 0 0 ≡ 0 ∷ 4 ∷ 0 ∷ 0 ∷ 5 ∷ 0x13 ∷ []
+known_ar_text = refl

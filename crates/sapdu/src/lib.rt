@@ -1,8 +1,8 @@
 //! The SaPDUs of SUBSET-037, the messages of its safety layer: what octets spell which of them, how they are read and
 //! written, and the text of each that its MAC seals.
 //!
-//! DT and DI are here; every other header octet is a fault. Nothing here computes or tests a MAC: `cbc_mac` does the
-//! first, `safety_automaton` decides what is accepted.
+//! All six kinds are here: AU1, AU2, AU3 and AR of the set-up, DT, and DI; every other header octet is a fault. Nothing here
+//! computes or tests a MAC: `cbc_mac` does the first, `safety_automaton` decides what is accepted.
 #![tactic(auto)]
 
 mod fault;

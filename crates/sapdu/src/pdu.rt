@@ -1,6 +1,36 @@
 /// An SaPDU of SUBSET-037 without its direction flag.
 #[derive(Clone, Copy, Debug, PartialEq, Eq)]
 pub enum SaPdu<'a> {
+    /// Begins the set-up: the initiator's first message.
+    Au1 {
+        /// The initiator's ETCS number, below 2^24.
+        id: u32,
+        /// The safety feature; only 1 is used.
+        feature: u8,
+        /// The initiator's random number.
+        rb: u64,
+    },
+    /// The responder's answer to an AU1.
+    Au2 {
+        /// The responder's ETCS number, below 2^24.
+        id: u32,
+        /// The safety feature; only 1 is used.
+        feature: u8,
+        /// The responder's random number.
+        ra: u64,
+        /// The MAC of the sealed text.
+        mac: u64,
+    },
+    /// The initiator's answer to an AU2.
+    Au3 {
+        /// The MAC of the sealed text.
+        mac: u64,
+    },
+    /// Ends the set-up: the responder's answer to an AU3.
+    Ar {
+        /// The MAC of the sealed text.
+        mac: u64,
+    },
     /// Carries a message of the user.
     Dt {
         /// The user's octets, 1 to 1,023 of them.

@@ -1,71 +1,126 @@
+ghost use Rattle.std.specs.Prelude.{◌≤◌, length};
+ghost use Rattle.sapdu.specs.Spelling.{spelling, HasUserOctets, HasNumber};
+ghost use Rattle.sapdu.specs.Reading.{view};
+
 use crate::{SaFault, SaPdu, laws, read, write_into};
 use er_base::Room;
+use std::alloc::Global;
+use std::process::Abort;
 use std::test::Fail;
 
-const DT: [u8; 11] = [
-    0x0A, 0x61, 0x62, 0x01, 0x02, 0x03, 0x04, 0x05, 0x06, 0x07, 0x08,
-];
+// The octets were worked out by hand from the layouts of SUBSET-037: engine 5 calls the radio block
+// centre 9, with Rb 0102030405060708, Ra 1112131415161718 and MACs 2122232425262728 (hexadecimal).
 
-const DI: [u8; 3] = [0x11, 0x04, 0x01];
+const AU1: &[u8] = b"\x42\x00\x00\x05\x01\x01\x02\x03\x04\x05\x06\x07\x08";
 
-#[test]
-fn reads_each_kind(rt: HostRuntime) {
-    let dt = SaPdu::Dt {
-        user: &DT[1..3],
-        mac: 0x0102_0304_0506_0708,
-    };
-    assert_eq!(rt; read(&DT), Ok((dt, false)));
-    assert_eq!(rt; read(&DI), Ok((SaPdu::Di { reason: 4, sub: 1 }, true)));
-    laws::spelled_is_read();
-    laws::read_is_spelled();
-    laws::sealed_texts();
-}
+const AU2: &[u8] =
+    b"\x25\x00\x00\x09\x01\x11\x12\x13\x14\x15\x16\x17\x18\x21\x22\x23\x24\x25\x26\x27\x28";
 
-#[test]
-#[tactic(auto, using(crate::proofs::Spelled::length_eight))]
-fn writes_each_kind(rt: HostRuntime) -> Result<(), Fail> {
-    let mut out = Room::with_capacity(rt.alloc(), 14)?;
-    write_into(
-        &SaPdu::Dt {
-            user: b"ab",
-            mac: 0x0102_0304_0506_0708,
-        },
-        false,
-        &mut out,
-    );
-    assert_eq!(rt; out.held(), DT.as_slice());
-    write_into(&SaPdu::Di { reason: 4, sub: 1 }, true, &mut out);
-    assert_eq!(rt; out.held().len(), 14);
-    assert_eq!(rt; &out.held()[11..], DI.as_slice());
+const AU3: &[u8] = b"\x06\x21\x22\x23\x24\x25\x26\x27\x28";
+
+const AR: &[u8] = b"\x13\x21\x22\x23\x24\x25\x26\x27\x28";
+
+const DT: &[u8] = b"\x0A\x61\x62\x21\x22\x23\x24\x25\x26\x27\x28";
+
+const DI: &[u8] = b"\x11\x04\x01";
+
+const RA: u64 = 0x1112_1314_1516_1718;
+
+const RB: u64 = 0x0102_0304_0506_0708;
+
+const MAC: u64 = 0x2122_2324_2526_2728;
+
+// The octets are read as this SaPDU, and it is written as these octets.
+fn is_spelled(
+    rt: &impl Abort,
+    alloc: Global,
+    octets: &[u8],
+    pdu: &SaPdu,
+    flag: bool,
+) -> Result<(), Fail>
+    requires user { HasUserOctets (view pdu.now) }
+    requires number { HasNumber (view pdu.now) }
+    requires room { length (spelling (view pdu.now) flag) ≤ 21 }
+{
+    assert_eq!(rt; read(octets), Ok((*pdu, flag)));
+    let mut out = Room::with_capacity(alloc, 21)?;
+    write_into(pdu, flag, &mut out);
+    assert_eq!(rt; out.held(), octets);
     Ok(())
 }
 
 #[test]
-fn refuses_what_is_no_sapdu(rt: HostRuntime) {
-    let data = [0x0B; 1033];
-    let release = [0x10; 4];
-    let other = [0x0C; 3];
+#[tactic(auto, using(crate::proofs::Eight::length_eight, crate::proofs::Eight::length_two_numbers))]
+fn reads_and_writes_each_kind(rt: HostRuntime) -> Result<(), Fail> {
+    let alloc = rt.alloc();
+    let feature = 1;
+    let au1 = SaPdu::Au1 {
+        id: 5,
+        feature,
+        rb: RB,
+    };
+    is_spelled(&rt, alloc, AU1, &au1, false)?;
+    let au2 = SaPdu::Au2 {
+        id: 9,
+        feature,
+        ra: RA,
+        mac: MAC,
+    };
+    is_spelled(&rt, alloc, AU2, &au2, true)?;
+    is_spelled(&rt, alloc, AU3, &SaPdu::Au3 { mac: MAC }, false)?;
+    is_spelled(&rt, alloc, AR, &SaPdu::Ar { mac: MAC }, true)?;
+    let user = b"ab";
+    is_spelled(&rt, alloc, DT, &SaPdu::Dt { user, mac: MAC }, false)?;
+    is_spelled(&rt, alloc, DI, &SaPdu::Di { reason: 4, sub: 1 }, true)?;
+    laws::spelled_is_read();
+    laws::read_is_spelled();
+    laws::sealed_texts();
+    Ok(())
+}
+
+fn short(need: usize, found: usize) -> SaFault {
+    SaFault::Short { need, found }
+}
+
+fn long(max: usize, found: usize) -> SaFault {
+    SaFault::Long { max, found }
+}
+
+#[test]
+fn refuses_what_is_no_sapdu(rt: HostRuntime) -> Result<(), Fail> {
+    assert_eq!(rt; read(&[]).err(), Some(short(1, 0)));
     let faults = [
-        (&data[..0], SaFault::Short { need: 1, found: 0 }),
-        (&data[..1], SaFault::Short { need: 10, found: 1 }),
-        (&data[..9], SaFault::Short { need: 10, found: 9 }),
-        (
-            &data[..1033],
-            SaFault::Long {
-                max: 1032,
-                found: 1033,
-            },
-        ),
-        (&release[..1], SaFault::Short { need: 3, found: 1 }),
-        (&release[..2], SaFault::Short { need: 3, found: 2 }),
-        (&release[..4], SaFault::Long { max: 3, found: 4 }),
-        (&other[..1], SaFault::Kind(0x0C)),
-        (&other[..3], SaFault::Kind(0x0C)),
+        (0x42, 12, short(13, 12)),
+        (0x43, 14, long(13, 14)),
+        (0x24, 20, short(21, 20)),
+        (0x25, 22, long(21, 22)),
+        (0x06, 8, short(9, 8)),
+        (0x07, 10, long(9, 10)),
+        (0x12, 8, short(9, 8)),
+        (0x13, 10, long(9, 10)),
+        (0x0A, 9, short(10, 9)),
+        (0x0B, 1033, long(1032, 1033)),
+        (0x10, 2, short(3, 2)),
+        (0x11, 4, long(3, 4)),
+        (0xFF, 1, SaFault::Kind(0xFF)),
+        (0x0C, 13, SaFault::Kind(0x0C)),
     ];
-    for (octets, fault) in faults {
-        assert_eq!(rt; read(octets).err(), Some(fault), "{octets:?}");
+    for (header, found, fault) in faults {
+        let octets = vec![in rt.alloc(); header; found]?;
+        assert_eq!(rt; read(&octets).err(), Some(fault), "{header} {found}");
     }
-    assert!(rt; read(&data[..10]).is_ok());
-    assert!(rt; read(&data[..1032]).is_ok());
-    assert!(rt; read(&release[..3]).is_ok());
+    let lengths = [
+        (0x43, 13),
+        (0x24, 21),
+        (0x07, 9),
+        (0x12, 9),
+        (0x0B, 10),
+        (0x0A, 1032),
+        (0x10, 3),
+    ];
+    for (header, found) in lengths {
+        let octets = vec![in rt.alloc(); header; found]?;
+        assert!(rt; read(&octets).is_ok(), "{header} {found}");
+    }
+    Ok(())
 }

@@ -1,44 +1,41 @@
--- One step more, a step that breaks off, and the closing line, by the lemmas on runs of steps.
-use Rattle.std.proofs.Common.{◌≡◌, ◌<◌, ◌≤◌, ◌++◌, List, ℕ, length, map, get_or, sym, ◌∙◌, ap}
-use Rattle.std.proofs.lemmas.List.{get_or-map, length-map}
-use Rattle.std.proofs.lemmas.Result.{err_from_is_err_and}
-use Rattle.er_program.specs.declared.scenario.Step.{Step as CodeStep}
-use Rattle.er_world.specs.Texts.{summary}
-use Rattle.er_program.specs.Views.{step_view, scenario_view}
-use Rattle.er_program.proofs.DrillRuns.{went_more, went_err, went_end}
+-- One step more, a step that breaks off, and the end, by the lemmas on runs of steps.
+use Rattle.std.proofs.Common.{◌≡◌, ◌<◌, ◌≤◌, List, ℕ, length, get_or, slice_get, Some, refl, subst}
+use Rattle.std.proofs.lemmas.Option.{slice_get_read}
+use Rattle.er_scenario.specs.declared.numbered.Numbered.{Numbered}
+use Rattle.er_program.proofs.DrillSteps.{in_range_at}
+use Rattle.er_program.proofs.DrillRuns.{went_more, went_sink, went_halt, went_end}
 use Rattle.er_program.proofs.drill.drill.Goals as goal
 
--- the step at an index, among the steps as the definitions see them
-viewed_item : (xs ys : List CodeStep) (i : ℕ) (x : CodeStep) → xs ≡ ys → i < length xs → x ≡ get_or xs i x
-    → get_or (map step_view ys) i (step_view x) ≡ step_view x
-viewed_item xs ys i x same inside is =
-    let within : i < length ys = rw (← same) inside in
-    get_or-map step_view ys i x (step_view x) within ∙ ap step_view (ap (λ zs. get_or zs i x) (sym same) ∙ sym is)
+-- the step at an index, among those of the scenario
+item_at : (xs ys : List Numbered) (i : ℕ) (x : Numbered) → xs ≡ ys → i < length xs → x ≡ get_or xs i x → slice_get ys i ≡ Some x
+item_at xs ys i x same inside is = subst (λ (zs : List Numbered). slice_get zs i ≡ Some x) same (slice_get_read xs (length xs) i x refl inside is)
 
-viewed_inside : (xs ys : List CodeStep) (i : ℕ) → xs ≡ ys → i < length xs → i < length (map step_view ys)
-viewed_inside xs ys i same inside = rw (length-map ys step_view, ← same) inside
+pub step_once-requires-clause-range : goal.step_once-requires-clause-range
+step_once-requires-clause-range g c =
+    in_range_at c.args.scenario.now.steps c.loop-numbered.numbered-index c.numbered-item.result c.requires.steps
+    (item_at _ _ _ _ c.as_slice-numbered-items.ensures c.loop-numbered-test.true c.numbered-item.is)
 
-viewed_outside : (xs ys : List CodeStep) (i : ℕ) → xs ≡ ys → length xs ≤ i → length (map step_view ys) ≤ i
-viewed_outside xs ys i same outside = rw (length-map ys step_view, ← same) outside
+pub returns-in-Err-Sink : goal.returns-in-Err-Sink
+returns-in-Err-Sink g c =
+    went_sink _ _ c.numbered-item.result _ _ _ _ _ _ _ c.loop-numbered.invariant
+    (item_at _ _ _ _ c.as_slice-numbered-items.ensures c.loop-numbered-test.true c.numbered-item.is)
+    (rw c.in-Err-Sink.field-0-is at c.in-Err-Sink.ensures)
 
-pub returns-in_err-step_once : goal.returns-in_err-step_once
-returns-in_err-step_once g c =
-    let p = err_from_is_err_and c.from_residual-in_err-step_once.result c.from_residual-in_err-step_once.ensures.1 in
-    let inside = viewed_inside _ _ _ c.deref-step-items.ensures.value c.loop-step-test.true in
-    let item = viewed_item _ _ _ _ c.deref-step-items.ensures.value c.loop-step-test.true c.step-item.is in
-    rw (p.1, p.2) (went_err (scenario_view c.args.scenario.now) c.loop-step.step-index (step_view c.step-item.result) c.loop-step.link c.step_once.new.link
-    _ _ _ _ _ _ _ c.loop-step.invariant inside item c.in_err-step_once.ensures)
+pub returns-in-Err-Fault : goal.returns-in-Err-Fault
+returns-in-Err-Fault g c =
+    went_halt _ _ c.numbered-item.result _ _ _ _ _ _ _ _ _ _ _ c.loop-numbered.invariant
+    (item_at _ _ _ _ c.as_slice-numbered-items.ensures c.loop-numbered-test.true c.numbered-item.is)
+    (rw c.in-Err-Fault.field-0-is at c.in-Err-Fault.ensures)
+    (rw c.in-Err-Fault.field-0-is at c.not_done.ensures)
 
-pub loop-step-preserved : goal.loop-step-preserved
-loop-step-preserved g c =
-    went_more _ _ (step_view c.step-item.result) _ _ _ _ _ _ _ _ c.loop-step.invariant
-    (viewed_inside _ _ _ c.deref-step-items.ensures.value c.loop-step-test.true)
-    (viewed_item _ _ _ _ c.deref-step-items.ensures.value c.loop-step-test.true c.step-item.is)
-    c.in_ok-step_once.ensures
+pub loop-numbered-preserved : goal.loop-numbered-preserved
+loop-numbered-preserved g c =
+    went_more _ _ c.numbered-item.result _ _ _ _ _ _ _ _ c.loop-numbered.invariant
+    (item_at _ _ _ _ c.as_slice-numbered-items.ensures c.loop-numbered-test.true c.numbered-item.is)
+    c.in-Ok.ensures
 
 pub returns : goal.returns
 returns g c =
-    went_end _ _ _ _ _ _ _ _ _ _ _ c.loop-step.invariant
-    (viewed_outside _ _ _ c.deref-step-items.ensures.value c.loop-step-test.false)
-    (c.as_slice.ensures.value ∙ c.in_ok-summary.ensures.ok ∙ ap (λ xs. xs ++ summary 1 c.loop-step.link.link) c.new-out.ensures.items)
-    c.say.ensures.writes
+    went_end _ _ _ _ _ _ _ _ _ _ c.loop-numbered.invariant
+    (subst (λ (xs : List Numbered). length xs ≤ c.loop-numbered.numbered-index) c.as_slice-numbered-items.ensures c.loop-numbered-test.false)
+    c.closed.ensures

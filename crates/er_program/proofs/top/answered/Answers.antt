@@ -4,4 +4,4 @@ use Rattle.er_program.proofs.RunEndings.{ends_unfit}
 use Rattle.er_program.proofs.top.answered.Goals as goal
 
 pub returns-in-None-clause-ends : goal.returns-in-None-clause-ends
-returns-in-None-clause-ends g c = rw (sym c.in-None.ensures) (ends_unfit _ _ _ _ _ _ _ c.last.result c.last.ensures)
+returns-in-None-clause-ends g c = rw (sym c.in-None.ensures) (ends_unfit _ _ _ _ _ _ _ c.misused.result c.misused.ensures)

@@ -10,4 +10,4 @@ returns-in-Ok-clause-ends g c =
     (rw c.as_slice.ensures.value at c.drill_file.ensures)
 
 pub returns-in-Err-Failed-clause-ends : goal.returns-in-Err-Failed-clause-ends
-returns-in-Err-Failed-clause-ends g c = ends_unfetched _ _ _ _ _ _ _ _ _ (c.in-Err-Failed.ensures.failed (ap (λ (e : FetchFault). Err e) c.in-Err-Failed.field-0-is)) c.fetch_failed.ensures
+returns-in-Err-Failed-clause-ends g c = ends_unfetched _ _ _ _ _ _ _ _ _ (c.in-Err-Failed.ensures.failed (ap (λ (e : FetchFault). Err e) c.in-Err-Failed.field-0-is)) c.unfetched.ensures

@@ -1,12 +1,13 @@
 -- What the status means, by how the run ended.
-use Rattle.er_program.proofs.RunMeanings.{means_finished, means_broken, means_memory}
+use Rattle.er_program.proofs.HoldsAlways.{holds_always}
+use Rattle.er_program.proofs.RunMeanings.{means_finished, means_broken, means_spent}
 use Rattle.er_program.proofs.top.ran.Goals as goal
 
 pub returns-in-Ok-clause-means : goal.returns-in-Ok-clause-means
-returns-in-Ok-clause-means g c = means_finished _ _ _ _ _ _ _ _ _ c.in-Ok.ensures.ends
+returns-in-Ok-clause-means g c = means_finished holds_always _ _ _ _ _ _ _ _ _ c.in-Ok.ensures.ends
 
 pub returns-in-Err-Sink-clause-means : goal.returns-in-Err-Sink-clause-means
 returns-in-Err-Sink-clause-means g c = means_broken _ _ _ _ _ _ _ _ (rw c.in-Err-Sink.field-0-is at c.in-Err-Sink.ensures.ends)
 
 pub returns-in-Err-NoMemory-clause-means : goal.returns-in-Err-NoMemory-clause-means
-returns-in-Err-NoMemory-clause-means g c = means_memory _ _ _ _ _ _ _ _ _ _ _ (rw c.in-Err-NoMemory.field-0-is at c.in-Err-NoMemory.ensures.ends) c.out_of_memory.ensures
+returns-in-Err-NoMemory-clause-means g c = means_spent holds_always _ _ _ _ _ _ _ _ _ _ _ (rw c.in-Err-NoMemory.field-0-is at c.in-Err-NoMemory.ensures.ends) c.out_of_memory.ensures

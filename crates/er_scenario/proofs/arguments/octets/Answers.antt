@@ -1,5 +1,5 @@
 -- What was appended to no octets is what the word spells.
-use Rattle.er_scenario.proofs.SpelledOctets.{spelled_octets}
+use Rattle.er_base.proofs.SpelledOctets.{spelled_octets}
 use Rattle.er_scenario.proofs.arguments.octets.Goals as goal
 
 pub returns-in-Ok-clause-range : goal.returns-in-Ok-clause-range

@@ -1,6 +1,5 @@
--- The law, by its lemma.
-use Rattle.safety_automaton.proofs.Peers.{accepts_spelled}
+use Rattle.safety_automaton.proofs.Peers.{accepts_spelled, spelled_accepts}
 use Rattle.safety_automaton.proofs.laws.accepts_spelled.Goals as goal
 
-pub returns-clause-only : goal.returns-clause-only
-returns-clause-only c = accepts_spelled
+pub returns : goal.returns
+returns c = record { only = accepts_spelled; each = spelled_accepts }

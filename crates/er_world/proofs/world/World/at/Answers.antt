@@ -1,0 +1,13 @@
+use Rattle.er_world.specs.Lines.{action_step}
+use Rattle.er_world.proofs.WorldRows.{at_does, no_link_there}
+use Rattle.er_world.proofs.world.World.at.Goals as goal
+
+pub returns-in_default-clause-does : goal.returns-in_default-clause-does
+returns-in_default-clause-does c =
+    no_link_there _ c.args.self.now c.args.number c.index_mut.result.now c.self.view_is c.self.invariant c.requires c.index_mut.ensures.value c.in_default.is
+
+pub returns-clause-does : goal.returns-clause-does
+returns-clause-does c =
+    at_does _ c.args.self.now c.args.number (action_step c.args.side c.args.action.now) c.index_mut.result.now c.in-Some.link c.apply.new.self _ _
+    c.self.view_is c.self.invariant c.requires c.index_mut.ensures.value c.in-Some.is
+    (rw c.place-place.ensures at c.in_ok-apply.ensures)

@@ -1,0 +1,12 @@
+use Rattle.er_world.proofs.WorldRows.{drain_does, no_link_there}
+use Rattle.er_world.proofs.world.World.drain.Goals as goal
+
+pub returns-in_default-clause-does : goal.returns-in_default-clause-does
+returns-in_default-clause-does c =
+    no_link_there _ c.args.self.now c.args.number c.index_mut.result.now c.self.view_is c.self.invariant c.requires c.index_mut.ensures.value c.in_default.is
+
+pub returns-clause-does : goal.returns-clause-does
+returns-clause-does c =
+    drain_does _ c.args.self.now c.args.number c.args.most c.in_ok-passes.passes c.index_mut.result.now c.in-Some.link c.drain.new.self _ _ _
+    c.self.view_is c.self.invariant c.requires c.index_mut.ensures.value c.in-Some.is
+    c.in_ok-passes.ensures c.in_ok-print_passes.ensures.ok

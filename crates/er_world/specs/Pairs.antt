@@ -1,0 +1,10 @@
+-- What is kept of the pairs that the ends of a link sealed: which there are, not how often and not in what order (this profile).
+use Rattle.std.specs.Prelude.{◌≡◌, ◌||◌, ℕ, List}
+use Rattle.std.specs.List.{list_any}
+use Rattle.des_block.specs.declared.triple_key.TripleKey.{TripleKey}
+use Rattle.er_world.specs.Deeds.{Sealing, is_sealing}
+
+-- these pairs are kept too
+pub record Gains (more old new : List Sealing) : Type 0 where
+  pub same : (key : TripleKey) (text : List ℕ)
+      → list_any (is_sealing key text) new ≡ (list_any (is_sealing key text) old || list_any (is_sealing key text) more)

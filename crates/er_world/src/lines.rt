@@ -1,0 +1,288 @@
+//! The lines of a drill. Each is appended in one go: after want of memory `out` is as it was.
+
+ghost use Rattle.std.specs.Prelude.{◌≡◌, ◌++◌, if◌then◌else◌, [], codes, IfOk, OnOk, OnErr};
+ghost use Rattle.std.specs.Fmt.{decimal};
+ghost use Rattle.safety_automaton.specs.Safety.{IsReleased, IsNotConnected, HasLength};
+ghost use Rattle.safety_automaton.specs.Reports.{refusal_view};
+ghost use Rattle.er_world.specs.Texts.{side_word, head, forged_word, by_word, release_words, connected_line, accepted_line, released_line, refused_line, frame_line, empty_line, short_line, passes_line};
+
+use crate::place::Place;
+use er_base::{NoMemory, Release, Side, hex_word};
+use safety_automaton::SealRefused;
+use std::alloc::Global;
+
+/// The word of an end.
+fn side_octets(side: Side) -> &'static [u8]
+    ensures { result.now ≡ side_word side }
+{
+    match side {
+        Side::E => b"e",
+        Side::R => b"r",
+    }
+}
+
+/// The end of a line on what verified.
+fn forged_octets(forged: bool) -> &'static [u8]
+    ensures { result.now ≡ forged_word forged }
+{
+    if forged { b" forged\n" } else { b"\n" }
+}
+
+/// The end of a line on a release.
+fn by_octets(by_peer: bool) -> &'static [u8]
+    ensures { result.now ≡ by_word by_peer }
+{
+    if by_peer { b" peer\n" } else { b" local\n" }
+}
+
+/// Appends a number's decimal digits.
+fn put_number(alloc: Global, number: u64, line: &mut Vec<u8>) -> Result<(), NoMemory>
+    ensures { OnOk result (line.new.items ≡ line.old.items ++ decimal number) }
+{
+    let digits = number.to_string(alloc)?;
+    line.extend_from_slice(digits.as_bytes())?;
+    Ok(())
+}
+
+/// Appends a word and a number.
+pub fn put_count(
+    alloc: Global,
+    word: &[u8],
+    number: u64,
+    line: &mut Vec<u8>,
+) -> Result<(), NoMemory>
+    ensures { OnOk result (line.new.items ≡ line.old.items ++ (word.now ++ decimal number)) }
+{
+    line.extend_from_slice(word)?;
+    put_number(alloc, number, line)?;
+    Ok(())
+}
+
+/// Appends a reason and a sub-reason.
+#[tactic(auto, unfolding(crate::specs::Texts::release_words))]
+fn put_release(alloc: Global, release: &Release, line: &mut Vec<u8>) -> Result<(), NoMemory>
+    ensures { OnOk result (line.new.items ≡ line.old.items ++ release_words release.now) }
+{
+    put_number(alloc, release.reason as u64, line)?;
+    line.extend_from_slice(b" ")?;
+    put_number(alloc, release.sub as u64, line)?;
+    Ok(())
+}
+
+/// A new line that begins with the link's number and the end.
+#[tactic(auto, unfolding(crate::specs::Texts::head))]
+fn line_at(alloc: Global, place: Place) -> Result<Vec<u8>, NoMemory>
+    ensures { IfOk result (λ line. line.items ≡ head place.number place.side) }
+{
+    let mut line = Vec::new(alloc);
+    put_number(alloc, place.number as u64, &mut line)?;
+    line.extend_from_slice(b" ")?;
+    line.extend_from_slice(side_octets(place.side))?;
+    Ok(line)
+}
+
+/// Prints that an end is connected with the peer of an ETCS number.
+#[tactic(auto, unfolding(crate::specs::Texts::connected_line))]
+pub fn print_connected(
+    alloc: Global,
+    place: Place,
+    peer: u32,
+    forged: bool,
+    out: &mut Vec<u8>,
+) -> Result<(), NoMemory>
+    ensures ok { OnOk result (out.new.items ≡ out.old.items ++ connected_line place.number place.side peer forged) }
+    ensures err { OnErr result (out.new.items ≡ out.old.items) }
+{
+    let mut line = line_at(alloc, place)?;
+    line.extend_from_slice(b" connected ")?;
+    put_number(alloc, peer as u64, &mut line)?;
+    line.extend_from_slice(forged_octets(forged))?;
+    out.extend_from_slice(line.as_slice())?;
+    Ok(())
+}
+
+/// Prints that a message was accepted.
+#[tactic(auto, unfolding(crate::specs::Texts::accepted_line))]
+pub fn print_accepted(
+    alloc: Global,
+    place: Place,
+    user: &[u8],
+    forged: bool,
+    out: &mut Vec<u8>,
+) -> Result<(), NoMemory>
+    ensures ok { OnOk result (out.new.items ≡ out.old.items ++ accepted_line place.number place.side user.now forged) }
+    ensures err { OnErr result (out.new.items ≡ out.old.items) }
+{
+    let mut line = line_at(alloc, place)?;
+    line.extend_from_slice(b" accepted ")?;
+    hex_word(alloc, user, &mut line)?;
+    line.extend_from_slice(forged_octets(forged))?;
+    out.extend_from_slice(line.as_slice())?;
+    Ok(())
+}
+
+/// Prints that an end was released, by itself or by its peer.
+#[tactic(auto, unfolding(crate::specs::Texts::released_line))]
+pub fn print_released(
+    alloc: Global,
+    place: Place,
+    release: &Release,
+    out: &mut Vec<u8>,
+) -> Result<(), NoMemory>
+    ensures ok { OnOk result (out.new.items ≡ out.old.items ++ released_line place.number place.side release.now) }
+    ensures err { OnErr result (out.new.items ≡ out.old.items) }
+{
+    let mut line = line_at(alloc, place)?;
+    line.extend_from_slice(b" released ")?;
+    put_release(alloc, release, &mut line)?;
+    line.extend_from_slice(by_octets(release.by_peer))?;
+    out.extend_from_slice(line.as_slice())?;
+    Ok(())
+}
+
+/// Prints that a send was refused, since the end is released.
+#[tactic(auto, unfolding(crate::specs::Texts::refused_line))]
+fn print_refused_released(
+    alloc: Global,
+    place: Place,
+    release: &Release,
+    out: &mut Vec<u8>,
+) -> Result<(), NoMemory>
+    ensures ok { OnOk result (out.new.items ≡ out.old.items ++ refused_line place.number place.side (IsReleased release.now)) }
+    ensures err { OnErr result (out.new.items ≡ out.old.items) }
+{
+    let mut line = line_at(alloc, place)?;
+    line.extend_from_slice(b" refused released ")?;
+    put_release(alloc, release, &mut line)?;
+    line.extend_from_slice(b"\n")?;
+    out.extend_from_slice(line.as_slice())?;
+    Ok(())
+}
+
+/// The end of the line of a send that was refused, since the end isn't connected.
+fn refused_early_octets() -> &'static [u8]
+    ensures { result.now ≡ codes " refused notconnected\n" }
+{
+    b" refused notconnected\n"
+}
+
+/// Prints that a send was refused, since the end isn't connected.
+#[tactic(auto, unfolding(crate::specs::Texts::refused_line))]
+fn print_refused_early(alloc: Global, place: Place, out: &mut Vec<u8>) -> Result<(), NoMemory>
+    ensures ok { OnOk result (out.new.items ≡ out.old.items ++ refused_line place.number place.side IsNotConnected) }
+    ensures err { OnErr result (out.new.items ≡ out.old.items) }
+{
+    let mut line = line_at(alloc, place)?;
+    line.extend_from_slice(refused_early_octets())?;
+    out.extend_from_slice(line.as_slice())?;
+    Ok(())
+}
+
+/// Prints that a send was refused, since it has so many user octets.
+#[tactic(auto, unfolding(crate::specs::Texts::refused_line))]
+fn print_refused_length(
+    alloc: Global,
+    place: Place,
+    found: usize,
+    out: &mut Vec<u8>,
+) -> Result<(), NoMemory>
+    ensures ok { OnOk result (out.new.items ≡ out.old.items ++ refused_line place.number place.side (HasLength found)) }
+    ensures err { OnErr result (out.new.items ≡ out.old.items) }
+{
+    let mut line = line_at(alloc, place)?;
+    line.extend_from_slice(b" refused length ")?;
+    put_number(alloc, found as u64, &mut line)?;
+    line.extend_from_slice(b"\n")?;
+    out.extend_from_slice(line.as_slice())?;
+    Ok(())
+}
+
+/// Prints that a send was refused.
+pub fn print_refused(
+    alloc: Global,
+    place: Place,
+    refused: &SealRefused,
+    out: &mut Vec<u8>,
+) -> Result<(), NoMemory>
+    ensures ok { OnOk result (out.new.items ≡ out.old.items ++ refused_line place.number place.side (refusal_view refused.now)) }
+    ensures err { OnErr result (out.new.items ≡ out.old.items) }
+{
+    match refused {
+        SealRefused::Released(release) => print_refused_released(alloc, place, release, out),
+        SealRefused::NotConnected => print_refused_early(alloc, place, out),
+        SealRefused::Length(found) => print_refused_length(alloc, place, *found, out),
+    }
+}
+
+/// Prints a frame that an end sends, where frames are shown.
+#[tactic(auto, unfolding(crate::specs::Texts::frame_line))]
+pub fn print_frame(
+    alloc: Global,
+    place: Place,
+    octets: &[u8],
+    out: &mut Vec<u8>,
+) -> Result<(), NoMemory>
+    ensures ok { OnOk result (out.new.items ≡ out.old.items ++ (if place.show then frame_line place.number place.side octets.now else [])) }
+    ensures err { OnErr result (out.new.items ≡ out.old.items) }
+{
+    if !place.show {
+        return Ok(());
+    }
+    let mut line = line_at(alloc, place)?;
+    line.extend_from_slice(b" frame ")?;
+    hex_word(alloc, octets, &mut line)?;
+    line.extend_from_slice(b"\n")?;
+    out.extend_from_slice(line.as_slice())?;
+    Ok(())
+}
+
+/// Prints that no frame of this end waits.
+#[tactic(auto, unfolding(crate::specs::Texts::empty_line))]
+pub fn print_empty(alloc: Global, place: Place, out: &mut Vec<u8>) -> Result<(), NoMemory>
+    ensures ok { OnOk result (out.new.items ≡ out.old.items ++ empty_line place.number place.side) }
+    ensures err { OnErr result (out.new.items ≡ out.old.items) }
+{
+    let mut line = line_at(alloc, place)?;
+    line.extend_from_slice(b" empty\n")?;
+    out.extend_from_slice(line.as_slice())?;
+    Ok(())
+}
+
+/// Prints that the first waiting frame of this end has so many octets, too few for the step.
+#[tactic(auto, unfolding(crate::specs::Texts::short_line))]
+pub fn print_short(
+    alloc: Global,
+    place: Place,
+    found: usize,
+    out: &mut Vec<u8>,
+) -> Result<(), NoMemory>
+    ensures ok { OnOk result (out.new.items ≡ out.old.items ++ short_line place.number place.side found) }
+    ensures err { OnErr result (out.new.items ≡ out.old.items) }
+{
+    let mut line = line_at(alloc, place)?;
+    line.extend_from_slice(b" short ")?;
+    put_number(alloc, found as u64, &mut line)?;
+    line.extend_from_slice(b"\n")?;
+    out.extend_from_slice(line.as_slice())?;
+    Ok(())
+}
+
+/// Prints how many frames a drain of a link passed.
+#[tactic(auto, unfolding(crate::specs::Texts::passes_line))]
+pub fn print_passes(
+    alloc: Global,
+    number: u8,
+    passes: u32,
+    out: &mut Vec<u8>,
+) -> Result<(), NoMemory>
+    ensures ok { OnOk result (out.new.items ≡ out.old.items ++ passes_line number passes) }
+    ensures err { OnErr result (out.new.items ≡ out.old.items) }
+{
+    let mut line = Vec::new(alloc);
+    put_number(alloc, number as u64, &mut line)?;
+    line.extend_from_slice(b" passes ")?;
+    put_number(alloc, passes as u64, &mut line)?;
+    line.extend_from_slice(b"\n")?;
+    out.extend_from_slice(line.as_slice())?;
+    Ok(())
+}

@@ -1,0 +1,11 @@
+use Rattle.std.proofs.Common.{◌≡◌, ◌++◌, length, length-append, refl}
+use Rattle.er_base.specs.Octets.{eight}
+use Rattle.sapdu.proofs.Eight.{length_eight}
+use Rattle.safety_automaton.specs.Safety.{au3_text}
+use Rattle.safety_automaton.proofs.text.Text.of_au3.Goals as goal
+
+pub returns : goal.returns
+unfolding au3_text
+returns c =
+    let long : length (eight c.args.ra ++ eight c.args.rb) ≡ 16 = simp (length-append, length_eight) in
+    rw (c.put-3.ensures, c.put-2.ensures, c.put.ensures, c.addressed-text.ensures, c.with_flag.ensures, c.eight_of.ensures, c.eight_of-2.ensures, long) refl

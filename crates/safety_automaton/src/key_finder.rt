@@ -1,0 +1,15 @@
+ghost use Rattle.std.specs.Prelude.{List, ◌≡◌};
+ghost use Rattle.safety_automaton.specs.Keys.{Entry, key_of, AreDistinct};
+
+use des_block::TripleKey;
+
+/// Where a side of a safe connection finds the KMAC of a pair of ETCS numbers (UNISIG SUBSET-037).
+pub trait KeyFinder {
+    // the keys, no pair twice
+    ghost entries: { Self → List Entry };
+
+    /// The KMAC of an engine and a radio block centre, by their ETCS numbers, which are below 2^24. None where there is none.
+    fn find(&self, engine: u32, rbc: u32) -> Option<TripleKey>
+        ensures found { result ≡ key_of (entries self.now) engine rbc }
+        ensures distinct { AreDistinct (entries self.now) };
+}
