@@ -23,7 +23,7 @@ mod words;
 pub use cursor::Cursor;
 pub use hexadecimal::{HexFault, hex_word, octets_of};
 pub use no_memory::NoMemory;
-pub use numbers::decimal;
+pub use numbers::{decimal, decimal_word};
 pub use octets::Octets;
 pub use release::Release;
 pub use room::Room;

@@ -1,8 +1,11 @@
-ghost use Rattle.std.specs.Prelude.{◌≡◌, ◌<◌, length};
+ghost use Rattle.std.specs.Prelude.{◌≡◌, ◌<◌, ◌++◌, length, OnOk, OnErr};
 ghost use Rattle.std.specs.Char.{is_ascii_digit};
+ghost use Rattle.std.specs.Fmt.{decimal};
 ghost use Rattle.std.specs.List.{list_all};
 ghost use Rattle.er_base.specs.Numbers.{has_leading_zero, is_canonical, decimal_of};
 
+use crate::no_memory::NoMemory;
+use std::alloc::Global;
 use std::str;
 
 fn begins_with_zero(word: &[u8]) -> bool
@@ -42,4 +45,16 @@ pub fn decimal(word: &[u8]) -> Option<u64>
         return None;
     };
     text.parse::<u64>().ok()
+}
+
+/// Appends the decimal digits of a number, as [`decimal`] reads them.
+///
+/// After want of memory `out` is as it was.
+pub fn decimal_word(alloc: Global, number: u64, out: &mut Vec<u8>) -> Result<(), NoMemory>
+    ensures ok { OnOk result (out.new.items ≡ out.old.items ++ decimal number) }
+    ensures err { OnErr result (out.new.items ≡ out.old.items) }
+{
+    let digits = number.to_string(alloc)?;
+    out.extend_from_slice(digits.as_bytes())?;
+    Ok(())
 }

@@ -1,5 +1,5 @@
 ghost use Rattle.std.specs.Prelude.{◌≡◌};
-ghost use Rattle.er_base.specs.Sides.{other};
+ghost use Rattle.er_base.specs.Sides.{other, side_word};
 
 /// An end of a link.
 #[derive(Clone, Copy, Debug, PartialEq, Eq)]
@@ -18,6 +18,16 @@ impl Side {
         match self {
             Side::E => Side::R,
             Side::R => Side::E,
+        }
+    }
+
+    /// The word of this end in this profile's texts: `e` or `r`.
+    pub fn word(self) -> &'static [u8]
+        ensures { result.now ≡ side_word self }
+    {
+        match self {
+            Side::E => b"e",
+            Side::R => b"r",
         }
     }
 }

@@ -1,6 +1,6 @@
 use crate::{
-    Cursor, HexFault, NoMemory, Octets, Release, Room, Side, decimal, hex_word, laws, next_word,
-    octets_of,
+    Cursor, HexFault, NoMemory, Octets, Release, Room, Side, decimal, decimal_word, hex_word, laws,
+    next_word, octets_of,
 };
 use std::alloc::{AllocError, Global};
 use std::test::Fail;
@@ -123,9 +123,20 @@ fn prints_hexadecimal_words(rt: HostRuntime) -> Result<(), Fail> {
 }
 
 #[test]
+fn prints_decimal_words(rt: HostRuntime) -> Result<(), Fail> {
+    let mut out = Vec::new(rt.alloc());
+    decimal_word(rt.alloc(), 0, &mut out)?;
+    decimal_word(rt.alloc(), u64::MAX, &mut out)?;
+    assert_eq!(rt; out.as_slice(), b"018446744073709551615".as_slice());
+    Ok(())
+}
+
+#[test]
 fn names_the_other_end(rt: HostRuntime) {
     assert_eq!(rt; Side::E.other(), Side::R);
     assert_eq!(rt; Side::R.other(), Side::E);
+    assert_eq!(rt; Side::E.word(), b"e".as_slice());
+    assert_eq!(rt; Side::R.word(), b"r".as_slice());
     let release = Release {
         reason: 0,
         sub: 2,

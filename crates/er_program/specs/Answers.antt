@@ -14,7 +14,8 @@ use Rattle.er_scenario.specs.Files.{scenario_of}
 use Rattle.er_world.specs.declared.world_fault.WorldFault.{WorldFault}
 use Rattle.er_world.specs.declared.world_fault.WorldFault.TheVariants.{NoLink, LinkTwice, Overfull, NoMemory}
 use Rattle.er_world.specs.Worlds.{World, Came, new_world, move, fault_of}
-use Rattle.er_world.specs.Texts.{side_word, lines, summary}
+use Rattle.er_base.specs.Sides.{side_word}
+use Rattle.er_world.specs.Texts.{lines, summary}
 use Rattle.er_program.specs.Outside.{HasFile, Rose}
 
 pub record Answer : Type 0 where

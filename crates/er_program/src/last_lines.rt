@@ -1,11 +1,9 @@
 //! The last lines of a run, as octets.
 
-ghost use Rattle.std.specs.Prelude.{◌≡◌, ◌++◌, IfOk, OnOk};
-ghost use Rattle.std.specs.Fmt.{decimal};
-ghost use Rattle.er_world.specs.Texts.{side_word};
+ghost use Rattle.std.specs.Prelude.{◌≡◌, ◌++◌, IfOk};
 ghost use Rattle.er_program.specs.Answers.{why_word, fetch_line, fault_line, overfull_line};
 
-use er_base::{NoMemory, Side, Why};
+use er_base::{NoMemory, Side, Why, decimal_word};
 use std::alloc::Global;
 
 /// The word for why a file is refused.
@@ -25,24 +23,6 @@ pub fn why_octets(why: Why) -> &'static [u8]
     }
 }
 
-fn side_octets(side: Side) -> &'static [u8]
-    ensures { result.now ≡ side_word side }
-{
-    match side {
-        Side::E => b"e",
-        Side::R => b"r",
-    }
-}
-
-// Appends a number's decimal digits.
-fn put_number(alloc: Global, number: usize, line: &mut Vec<u8>) -> Result<(), NoMemory>
-    ensures { OnOk result (line.new.items ≡ line.old.items ++ decimal number) }
-{
-    let digits = number.to_string(alloc)?;
-    line.extend_from_slice(digits.as_bytes())?;
-    Ok(())
-}
-
 /// The line of a fetch that failed: `! fetch NAME`.
 pub fn fetch_line(alloc: Global, name: &str) -> Result<Vec<u8>, NoMemory>
     ensures { IfOk result (λ line. line.items ≡ fetch_line name.now) }
@@ -59,7 +39,7 @@ pub fn fault_line(alloc: Global, number: usize, word: &[u8]) -> Result<Vec<u8>, 
     ensures { IfOk result (λ line. line.items ≡ fault_line number word.now) }
 {
     let mut line = Vec::from_slice(alloc, b"! line ".as_slice())?;
-    put_number(alloc, number, &mut line)?;
+    decimal_word(alloc, number as u64, &mut line)?;
     line.extend_from_slice(b" ")?;
     line.extend_from_slice(word)?;
     line.extend_from_slice(b"\n")?;
@@ -72,11 +52,11 @@ pub fn overfull_line(alloc: Global, link: u8, side: Side, most: usize) -> Result
     ensures { IfOk result (λ line. line.items ≡ overfull_line link side most) }
 {
     let mut line = Vec::from_slice(alloc, b"! overfull ".as_slice())?;
-    put_number(alloc, link as usize, &mut line)?;
+    decimal_word(alloc, link as u64, &mut line)?;
     line.extend_from_slice(b" ")?;
-    line.extend_from_slice(side_octets(side))?;
+    line.extend_from_slice(side.word())?;
     line.extend_from_slice(b" ")?;
-    put_number(alloc, most, &mut line)?;
+    decimal_word(alloc, most as u64, &mut line)?;
     line.extend_from_slice(b"\n")?;
     Ok(line)
 }

@@ -14,7 +14,8 @@ use Rattle.er_base.proofs.Decimals.{number_of_word}
 use Rattle.er_base.proofs.Spellings.{read_back}
 use Rattle.des_block.specs.declared.triple_key.TripleKey.{TripleKey}
 use Rattle.er_scenario.specs.Arguments.{number_of, side_of, three_keys, octets_named, octets_in, key_of, optional_key_of, number_named, text_of, mask_of}
-use Rattle.er_scenario.specs.Printed.{IsLink, IsKey, IsOptionalKey, IsText, side_word, key_word, optional_key_word, number_word}
+use Rattle.er_base.specs.Sides.{side_word}
+use Rattle.er_scenario.specs.Printed.{IsLink, IsKey, IsOptionalKey, IsText, key_word, optional_key_word, number_word}
 use Rattle.er_scenario.proofs.SolidWords.{IsSolid, solid_codes, solid_hex}
 
 pub number_read : (least most n : ℕ) → least ≤ n → n ≤ most → n < 2 ^ 64 → number_of least most (decimal n) ≡ Ok n

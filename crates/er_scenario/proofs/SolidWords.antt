@@ -16,7 +16,7 @@ use Rattle.hex.proofs.HexLemmas.{decode_of-encode_lower, decode_of-ok, length-en
 use Rattle.er_base.specs.declared.side.Side.{Side}
 use Rattle.er_base.specs.declared.side.Side.TheVariants.{E, R}
 use Rattle.er_base.specs.Hexadecimal.{hex_of}
-use Rattle.er_scenario.specs.Printed.{side_word}
+use Rattle.er_base.specs.Sides.{side_word}
 
 -- each octet is above `#`
 abbrev pub AreSolid : List ℕ → Type 0

@@ -2,8 +2,7 @@
 -- each ended by LF. Where that text isn't too long, it is read as the same scenario, line numbers aside.
 use Rattle.std.specs.Prelude.{ℕ, ◌≡◌, ◌<◌, ◌≤◌, ◌^◌, ◌==◌, Bool, if◌then◌else◌, List, [], ◌∷◌, ◌++◌, length, map, slice_index, Option, Some, None, codes}
 use Rattle.std.specs.Fmt.{decimal}
-use Rattle.er_base.specs.declared.side.Side.{Side}
-use Rattle.er_base.specs.declared.side.Side.TheVariants.{E, R}
+use Rattle.er_base.specs.Sides.{side_word}
 use Rattle.er_base.specs.Octets.{eight}
 use Rattle.er_base.specs.Hexadecimal.{hex_of}
 use Rattle.des_block.specs.declared.triple_key.TripleKey.{TripleKey}
@@ -57,11 +56,6 @@ AreInRange (numbered ∷ steps) = IsInRange numbered.step × AreInRange steps
 pub record CanBeRead (scenario : Scenario) : Type 0 where
   pub settings : AllAllowed scenario.settings
   pub steps : AreInRange scenario.steps
-
--- S
-abbrev pub side_word : Side → List ℕ
-side_word E = codes "e"
-side_word R = codes "r"
 
 -- KEY
 abbrev pub key_word : TripleKey → List ℕ

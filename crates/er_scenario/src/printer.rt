@@ -3,8 +3,9 @@
 ghost use Rattle.std.specs.Prelude.{◌≡◌, ◌≤◌, [], ◌∷◌, ◌++◌, length, map, string_bytes, IfOk, OnOk, OnErr};
 ghost use Rattle.std.specs.Fmt.{decimal};
 ghost use Rattle.er_base.specs.Octets.{eight};
+ghost use Rattle.er_base.specs.Sides.{side_word};
 ghost use Rattle.er_base.specs.Hexadecimal.{hex_of};
-ghost use Rattle.er_scenario.specs.Printed.{level_word, side_word, key_word, optional_key_word, number_word, step_words, line_of, lines_text, set_lines, show_lines, choice_lines, step_lines, text_printed, CanBeRead};
+ghost use Rattle.er_scenario.specs.Printed.{level_word, key_word, optional_key_word, number_word, step_words, line_of, lines_text, set_lines, show_lines, choice_lines, step_lines, text_printed, CanBeRead};
 ghost use Rattle.er_scenario.specs.Laws.{IsReadAgain};
 ghost use Rattle.er_scenario.specs.declared.step.Step.TheVariants.{Fixed, Link, Alter, Copy, Release, Drain};
 
@@ -22,15 +23,6 @@ fn level_octets(level: Level) -> &'static [u8]
 {
     match level {
         Level::Safe => b"safe",
-    }
-}
-
-fn side_octets(side: Side) -> &'static [u8]
-    ensures { result.now ≡ side_word side }
-{
-    match side {
-        Side::E => b"e",
-        Side::R => b"r",
     }
 }
 
@@ -169,7 +161,7 @@ fn put_side(
     ensures { OnOk result (text.new.items ≡ text.old.items ++ line_of (name.now ∷ decimal link ∷ side_word side ∷ [])) }
 {
     let link = digits(alloc, link as u64)?;
-    put_line(name, &[link.as_bytes(), side_octets(side)], text)
+    put_line(name, &[link.as_bytes(), side.word()], text)
 }
 
 // Appends a line of a link, a side and octets.
@@ -187,7 +179,7 @@ fn put_octets(
     let octets = hexadecimal(alloc, octets)?;
     put_line(
         name,
-        &[link.as_bytes(), side_octets(side), octets.as_slice()],
+        &[link.as_bytes(), side.word(), octets.as_slice()],
         text,
     )
 }
@@ -210,7 +202,7 @@ fn put_alter(
         b"alter",
         &[
             link.as_bytes(),
-            side_octets(side),
+            side.word(),
             place.as_bytes(),
             mask.as_slice(),
         ],
@@ -233,9 +225,9 @@ fn put_copy(
         b"copy",
         &[
             link.as_bytes(),
-            side_octets(from.1),
+            from.1.word(),
             to_link.as_bytes(),
-            side_octets(to.1),
+            to.1.word(),
         ],
         text,
     )
@@ -255,7 +247,7 @@ fn put_release(
     let sub = digits(alloc, sub as u64)?;
     put_line(
         b"release",
-        &[link.as_bytes(), side_octets(side), sub.as_bytes()],
+        &[link.as_bytes(), side.word(), sub.as_bytes()],
         text,
     )
 }

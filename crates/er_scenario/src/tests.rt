@@ -257,12 +257,12 @@ const FAULTS: &str = "\
 2 Hex|drill 1 safe;link 1 5 9 K xy R R
 2 Hex|drill 1 safe;link 1 5 9 K K - R
 2 Hex|drill 1 safe;link 1 5 9 K K 0123456789abcd R
-2 Hex|drill 1 safe;link 1 5 9 K K R0 R
+2 Hex|drill 1 safe;link 1 5 9 K K Ra R
 2 Hex|drill 1 safe;link 1 5 9 K K R00 R
 2 Hex|drill 1 safe;link 1 5 9 K K 0x23456789abcdef R
 2 Hex|drill 1 safe;link 1 5 9 K K R -
 2 Hex|drill 1 safe;link 1 5 9 K K R 0123456789abcd
-2 Hex|drill 1 safe;link 1 5 9 K K R R0
+2 Hex|drill 1 safe;link 1 5 9 K K R Ra
 2 Hex|drill 1 safe;link 1 5 9 K K R R00
 2 Hex|drill 1 safe;link 1 5 9 K K R 0x23456789abcdef
 2 Count|drill 1 safe;send

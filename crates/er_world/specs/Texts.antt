@@ -4,17 +4,13 @@ use Rattle.std.specs.List.{flat_map}
 use Rattle.std.specs.Fmt.{decimal}
 use Rattle.er_base.specs.declared.release.Release.{Release}
 use Rattle.er_base.specs.declared.side.Side.{Side}
-use Rattle.er_base.specs.declared.side.Side.TheVariants.{E, R}
+use Rattle.er_base.specs.Sides.{side_word}
 use Rattle.er_base.specs.Hexadecimal.{hex_of}
 use Rattle.safety_automaton.specs.Safety.{Refusal, IsReleased, IsNotConnected, HasLength}
 use Rattle.er_scenario.specs.declared.step.Step.{Step}
 use Rattle.er_world.specs.Deeds.{Deed, Sent, Refused, Sealed, Verified, Connected, Accepted, Released, Frame, NothingWaits, IsShort, Disturbed, LetGo, Noted}
 use Rattle.er_world.specs.Links.{Link}
 use Rattle.er_world.specs.Worlds.{World, Came, On, Drained, world_run}
-
-abbrev pub side_word : Side → List ℕ
-side_word E = codes "e"
-side_word R = codes "r"
 
 -- the head of a line: the link's number and the end
 unfoldable pub head : ℕ → Side → List ℕ

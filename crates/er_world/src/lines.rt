@@ -4,22 +4,12 @@ ghost use Rattle.std.specs.Prelude.{◌≡◌, ◌++◌, if◌then◌else◌, []
 ghost use Rattle.std.specs.Fmt.{decimal};
 ghost use Rattle.safety_automaton.specs.Safety.{IsReleased, IsNotConnected, HasLength};
 ghost use Rattle.safety_automaton.specs.Reports.{refusal_view};
-ghost use Rattle.er_world.specs.Texts.{side_word, head, forged_word, by_word, release_words, connected_line, accepted_line, released_line, refused_line, frame_line, empty_line, short_line, passes_line};
+ghost use Rattle.er_world.specs.Texts.{head, forged_word, by_word, release_words, connected_line, accepted_line, released_line, refused_line, frame_line, empty_line, short_line, passes_line};
 
 use crate::place::Place;
-use er_base::{NoMemory, Release, Side, hex_word};
+use er_base::{NoMemory, Release, decimal_word, hex_word};
 use safety_automaton::SealRefused;
 use std::alloc::Global;
-
-/// The word of an end.
-fn side_octets(side: Side) -> &'static [u8]
-    ensures { result.now ≡ side_word side }
-{
-    match side {
-        Side::E => b"e",
-        Side::R => b"r",
-    }
-}
 
 /// The end of a line on what verified.
 fn forged_octets(forged: bool) -> &'static [u8]
@@ -35,15 +25,6 @@ fn by_octets(by_peer: bool) -> &'static [u8]
     if by_peer { b" peer\n" } else { b" local\n" }
 }
 
-/// Appends a number's decimal digits.
-fn put_number(alloc: Global, number: u64, line: &mut Vec<u8>) -> Result<(), NoMemory>
-    ensures { OnOk result (line.new.items ≡ line.old.items ++ decimal number) }
-{
-    let digits = number.to_string(alloc)?;
-    line.extend_from_slice(digits.as_bytes())?;
-    Ok(())
-}
-
 /// Appends a word and a number.
 pub fn put_count(
     alloc: Global,
@@ -54,7 +35,7 @@ pub fn put_count(
     ensures { OnOk result (line.new.items ≡ line.old.items ++ (word.now ++ decimal number)) }
 {
     line.extend_from_slice(word)?;
-    put_number(alloc, number, line)?;
+    decimal_word(alloc, number, line)?;
     Ok(())
 }
 
@@ -63,9 +44,9 @@ pub fn put_count(
 fn put_release(alloc: Global, release: &Release, line: &mut Vec<u8>) -> Result<(), NoMemory>
     ensures { OnOk result (line.new.items ≡ line.old.items ++ release_words release.now) }
 {
-    put_number(alloc, release.reason as u64, line)?;
+    decimal_word(alloc, release.reason as u64, line)?;
     line.extend_from_slice(b" ")?;
-    put_number(alloc, release.sub as u64, line)?;
+    decimal_word(alloc, release.sub as u64, line)?;
     Ok(())
 }
 
@@ -75,9 +56,9 @@ fn line_at(alloc: Global, place: Place) -> Result<Vec<u8>, NoMemory>
     ensures { IfOk result (λ line. line.items ≡ head place.number place.side) }
 {
     let mut line = Vec::new(alloc);
-    put_number(alloc, place.number as u64, &mut line)?;
+    decimal_word(alloc, place.number as u64, &mut line)?;
     line.extend_from_slice(b" ")?;
-    line.extend_from_slice(side_octets(place.side))?;
+    line.extend_from_slice(place.side.word())?;
     Ok(line)
 }
 
@@ -95,7 +76,7 @@ pub fn print_connected(
 {
     let mut line = line_at(alloc, place)?;
     line.extend_from_slice(b" connected ")?;
-    put_number(alloc, peer as u64, &mut line)?;
+    decimal_word(alloc, peer as u64, &mut line)?;
     line.extend_from_slice(forged_octets(forged))?;
     out.extend_from_slice(line.as_slice())?;
     Ok(())
@@ -191,7 +172,7 @@ fn print_refused_length(
 {
     let mut line = line_at(alloc, place)?;
     line.extend_from_slice(b" refused length ")?;
-    put_number(alloc, found as u64, &mut line)?;
+    decimal_word(alloc, found as u64, &mut line)?;
     line.extend_from_slice(b"\n")?;
     out.extend_from_slice(line.as_slice())?;
     Ok(())
@@ -261,7 +242,7 @@ pub fn print_short(
 {
     let mut line = line_at(alloc, place)?;
     line.extend_from_slice(b" short ")?;
-    put_number(alloc, found as u64, &mut line)?;
+    decimal_word(alloc, found as u64, &mut line)?;
     line.extend_from_slice(b"\n")?;
     out.extend_from_slice(line.as_slice())?;
     Ok(())
@@ -279,9 +260,9 @@ pub fn print_passes(
     ensures err { OnErr result (out.new.items ≡ out.old.items) }
 {
     let mut line = Vec::new(alloc);
-    put_number(alloc, number as u64, &mut line)?;
+    decimal_word(alloc, number as u64, &mut line)?;
     line.extend_from_slice(b" passes ")?;
-    put_number(alloc, passes as u64, &mut line)?;
+    decimal_word(alloc, passes as u64, &mut line)?;
     line.extend_from_slice(b"\n")?;
     out.extend_from_slice(line.as_slice())?;
     Ok(())
