@@ -5,7 +5,8 @@
 set -u
 cd "$(dirname "$0")/.." || exit 1
 program=$PWD/crates/euroradio/out/euroradio
-[ -x "$program" ] || (cd crates/euroradio && rt run > /dev/null 2>&1)
+rm -f "$program"
+(cd crates/euroradio && rt run > /dev/null 2>&1)
 [ -x "$program" ] || { echo "the program was not built"; exit 1; }
 command -v python3 > /dev/null || { echo "python3 is wanted, to measure memory"; exit 0; }
 work=$(mktemp -d)

@@ -1,9 +1,10 @@
 /* Deframing throughput of the library hdlc_frames beside a plain C deframer, in one run.
  *
- * Two streams of frames are read, one that has no escaped octets ("clean") and one of whose content every
- * second octet is escaped ("escaped"), each in pieces of 1, 64 and 4,096 octets. For each the best of some
- * rounds is printed in MiB of stream a second, and the ratio of the library to plain C. Both must find the
- * same number of frames, or the run fails.
+ * Four streams of frames are read: bodies of 260 octets none of which is escaped ("clean"), the same of random
+ * octets ("random"), the same with every second octet escaped ("escaped"), and frames of 4 octets of content, as
+ * those without information are ("short"); each in pieces of 1, 64 and 4,096 octets. For each the best of some
+ * rounds is printed in MiB of stream a second of processor time, and the ratio of the library to plain C. Both
+ * must find the same number of frames, or the run fails.
  */
 #include <stdint.h>
 #include <stdio.h>
@@ -17,7 +18,7 @@ extern uint64_t hdlc_frames_c_count(const uint8_t *stream, size_t length, uint32
 #define FLAG 0x7e
 #define ESCAPE 0x7d
 #define CAPACITY 1033
-#define ROUNDS 7
+#define ROUNDS 9
 
 /* ---- the plain C deframer: one state machine, the check sequence through a table as the octets come */
 
@@ -126,17 +127,22 @@ static size_t put_octet(uint8_t *out, size_t at, uint8_t octet) {
   return at;
 }
 
-/* frames with bodies of 260 octets, as a full data block of the line has, until the stream is full */
-static size_t make_stream(uint8_t *out, size_t room, int escaped) {
+enum kind { CLEAN, RANDOM, ESCAPED, SHORT, KINDS };
+
+static const char *const names[] = {"clean", "random", "escaped", "short"};
+
+/* frames with bodies of 260 octets, as a full data block of the line has, or of one, until the stream is full */
+static size_t make_stream(uint8_t *out, size_t room, enum kind kind) {
+  const int length = kind == SHORT ? 2 : 261;
   size_t at = 0;
   out[at++] = FLAG;
   while (at + 2 * 263 + 1 <= room) {
     uint16_t check = 0xffff;
-    for (int i = 0; i < 261; i++) {
+    for (int i = 0; i < length; i++) {
       uint8_t octet = random_octet();
-      if (octet == FLAG || octet == ESCAPE)
+      if (kind != RANDOM && (octet == FLAG || octet == ESCAPE))
         octet = 0;
-      if (escaped && i % 2 == 1)
+      if (kind == ESCAPED && i % 2 == 1)
         octet = octet & 1 ? FLAG : ESCAPE;
       check = (uint16_t)(check >> 8 ^ table[(check ^ octet) & 0xff]);
       at = put_octet(out, at, octet);
@@ -153,7 +159,7 @@ static size_t make_stream(uint8_t *out, size_t room, int escaped) {
 
 static double seconds(void) {
   struct timespec now;
-  clock_gettime(CLOCK_MONOTONIC, &now);
+  clock_gettime(CLOCK_PROCESS_CPUTIME_ID, &now);
   return (double)now.tv_sec + (double)now.tv_nsec * 1e-9;
 }
 
@@ -168,14 +174,13 @@ static double rate(counter *run, const uint8_t *stream, size_t length, uint32_t 
 int main(void) {
   const size_t room = (size_t)8 << 20;
   static const uint32_t pieces[] = {1, 64, 4096};
-  static const char *names[] = {"clean", "escaped"};
   uint8_t *stream = malloc(room);
   if (stream == NULL)
     return 1;
   make_table();
   printf("%-8s %6s %8s %12s %12s %6s\n", "stream", "piece", "frames", "plain MiB/s", "this MiB/s", "ratio");
-  for (int kind = 0; kind < 2; kind++) {
-    size_t length = make_stream(stream, room, kind);
+  for (int kind = 0; kind < KINDS; kind++) {
+    size_t length = make_stream(stream, room, (enum kind)kind);
     for (int k = 0; k < 3; k++) {
       double plain = 0, ours = 0;
       uint64_t expected = 0, frames = 0;

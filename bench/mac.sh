@@ -1,7 +1,8 @@
 #!/bin/sh
 # Measures the MAC of cbc_mac beside OpenSSL's DES-CBC and Botan's X9.19-MAC: sh bench/mac.sh
-# It builds the static library first, and installs the two libraries from Debian's packages where it may.
-# On a machine without them it says so and ends with status 0.
+# It builds the static library first. Where the two libraries are missing and it may, it installs them from
+# Debian's packages, and says so; where it may not, it says so and ends with status 0.
+# It measures processor time, the best of nine rounds; run it while little else runs, since caches are shared.
 set -eu
 cd "$(dirname "$0")/.."
 
@@ -25,6 +26,7 @@ has_libraries() {
 
 install_libraries() {
     command -v apt-get >/dev/null && [ "$(id -u)" = 0 ] || return 0
+    echo "mac.sh: OpenSSL's or Botan's library is missing; apt-get installs libssl-dev and libbotan"
     apt-get update -qq || return 0
     for package in libbotan-3-dev libbotan-2-dev; do
         if apt-cache show "$package" >/dev/null 2>&1; then

@@ -1,16 +1,18 @@
 #!/usr/bin/env bash
 # Runs the built program on each folder of tests/rows: `args` has its words, one a line; the folder's other files lie where it
-# runs; `stdout` and `status` are what it must print and end with. Closes with 'N passed, M failed'.
+# runs; `stdout` and `status` are what it must print and end with. Each file of examples/ has such a folder, example-NAME, and README's
+# tour is run too. Closes with 'N passed, M failed'.
 set -u
 cd "$(dirname "$0")/.." || exit 1
 top=$PWD
 program=$top/crates/euroradio/out/euroradio
 
-# `rt run` proves what isn't proved yet, builds the program, and runs it once: with no words it answers 1.
+# `rt run` proves what isn't proved yet, builds the program anew, and runs it once: with no words it answers 1.
+rm -f "$program"
 log=$(mktemp)
-(cd crates/euroradio && rt run > /dev/null 2> "$log")
+(cd crates/euroradio && rt run > "$log" 2>&1)
 if [ ! -x "$program" ]; then
-  cat "$log"
+  tail -40 "$log"
   rm -f "$log"
   echo "the program was not built"
   echo "0 passed, 1 failed"
@@ -20,22 +22,48 @@ rm -f "$log"
 
 passed=0
 failed=0
-for row in tests/rows/*/; do
-  name=$(basename "$row")
-  work=$(mktemp -d)
-  cp -r "$row". "$work"
-  mapfile -t words < "$row/args"
-  (cd "$work" && timeout 120 "$program" "${words[@]}" > printed.txt 2> errors.txt)
+
+# Runs the program in the folder $1 on the words that follow, and compares with the status and text there.
+judge() {
+  local name=$1 work=$2 status
+  shift 2
+  (cd "$work" && timeout 120 "$program" "$@" > printed.txt 2> errors.txt)
   status=$?
-  if [ "$status" = "$(cat "$row/status")" ] && cmp -s "$work/printed.txt" "$row/stdout"; then
+  if [ "$status" = "$(cat "$work/status")" ] && cmp -s "$work/printed.txt" "$work/stdout"; then
     passed=$((passed + 1))
   else
     failed=$((failed + 1))
-    echo "row $name: status $status, wanted $(cat "$row/status")"
-    diff "$work/printed.txt" "$row/stdout" | head -10 | cut -c1-200
+    echo "$name: status $status, wanted $(cat "$work/status")"
+    diff "$work/printed.txt" "$work/stdout" | head -10 | cut -c1-200
     head -5 "$work/errors.txt"
   fi
+}
+
+for row in tests/rows/*/; do
+  work=$(mktemp -d)
+  cp -r "$row". "$work"
+  case $row in */example-*) cp examples/* "$work" ;; esac
+  mapfile -t words < "$row/args"
+  judge "row $(basename "$row")" "$work" "${words[@]}"
   rm -rf "$work"
 done
+
+# Each file of examples/ has a row of its own.
+for example in examples/*; do
+  name=$(basename "$example")
+  if ! grep -qx "$name" "tests/rows/example-${name%.*}/args" 2> /dev/null; then
+    failed=$((failed + 1))
+    echo "examples/$name has no row"
+  fi
+done
+
+# The tour: the first block of README behind its heading is a drill file, the second what it prints.
+work=$(mktemp -d)
+awk -v work="$work" '/^## A tour/ { tour = 1 } tour && /^```/ { fence++; next }
+  tour && fence == 1 { print > (work "/scenario") } tour && fence == 3 { print > (work "/stdout") } fence > 3 { exit }' README.md
+echo 0 > "$work/status"
+judge "README's tour" "$work" drill scenario
+rm -rf "$work"
+
 echo "$passed passed, $failed failed"
 [ "$failed" -eq 0 ] && [ "$passed" -gt 0 ]

@@ -24,9 +24,9 @@ xor [] ys = []
 xor (x ∷ xs) [] = []
 xor (x ∷ xs) (y ∷ ys) = bit_xor x y ∷ xor xs ys
 
--- the bits turned to the left by n places
-abbrev pub turn : ℕ → List ℕ → List ℕ
-turn n xs = drop n xs ++ take n xs
+-- the left shift of FIPS 46-3: the bits moved to the left by n places, those that leave coming in behind
+abbrev pub left_shift : ℕ → List ℕ → List ℕ
+left_shift n xs = drop n xs ++ take n xs
 
 -- whether each number of a list is a bit
 unfoldable pub all_bits : List ℕ → Bool

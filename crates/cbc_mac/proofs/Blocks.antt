@@ -1,8 +1,9 @@
 -- The blocks of the padded text, as they are read from the text itself.
-use Rattle.std.proofs.Common.{◌≡◌, ℕ, ◌+◌, ◌-◌, ◌*◌, ◌/◌, ◌%◌, ◌^◌, ◌<◌, ◌≤◌, List, [], ◌++◌, length, take, drop, get_or, map, refl, sym, ap, ◌∙◌, arith, inl, inr}
+use Rattle.std.proofs.Common.{◌≡◌, ℕ, zero, suc, ◌+◌, ◌-◌, ◌*◌, ◌/◌, ◌%◌, ◌^◌, ◌<◌, ◌≤◌, List, [], ◌++◌, length, take, drop, get_or, map, refl, sym, ap, ◌∙◌, arith, inl, inr}
 use Rattle.std.specs.Prelude.{replicate, slice_index_or, min}
 use Rattle.std.specs.List.{range_with_len, flat_map}
-use Rattle.std.proofs.lemmas.List.{length-append, length-replicate, length-drop, drop-append-le, take-append-le, append_assoc, replicate-append-replicate, drop-replicate, take_all, length-take, length-take-le, get_or-take, get_or-drop, get_or_past, get_or-replicate, get_or_append_left, get_or-append_right}
+use Rattle.std.specs.Simd.{first_chunks}
+use Rattle.std.proofs.lemmas.List.{length-append, length-replicate, length-drop, drop-append-le, take-append-le, append_assoc, replicate-append-replicate, drop-replicate, take_all, length-take, length-take-le, take-take, drop-take, drop-drop, ext_get_or, get_or-take, get_or-drop, get_or_past, get_or-replicate, get_or_append_left, get_or-append_right}
 use Rattle.std.proofs.lemmas.Bool.{cases_lt}
 use Rattle.std.proofs.lemmas.List.FromFn.{get_or-map-range_with_len, length-map-range_with_len}
 use Rattle.bit_lists.specs.Bits.{bits}
@@ -48,9 +49,49 @@ whole_block_is text i h =
     block_is text i (omega arith)
     ∙ ap (flat_map (bits 8)) (take-append-le 8 (drop (8 * i) text) (replicate 8 0) (omega (arith, length-drop (8 * i) text)))
 
+-- the blocks of a front are the front of the blocks
+pub front_blocks : (text : List ℕ) (count : ℕ) → 8 * count ≤ length text → blocks (take (8 * count) text) ≡ take count (blocks (padded text))
+unfolding blocks
+front_blocks text count fits =
+    let front : List ℕ = take (8 * count) text in
+    let size : length front ≡ 8 * count = length-take-le (8 * count) text fits in
+    let few : length front / 8 ≡ count = omega arith in
+    let block : ℕ → List ℕ = λ n. flat_map (bits 8) (take 8 (drop (8 * n) front)) in
+    let whole : List (List ℕ) = blocks (padded text) in
+    let left : length (map block (range_with_len 0 (length front / 8))) ≡ count = length-map-range_with_len block 0 (length front / 8) ∙ few in
+    let right : length (take count whole) ≡ count = length-take-le count whole (omega (arith, length-blocks text)) in
+    ext_get_or [] (map block (range_with_len 0 (length front / 8))) (take count whole) (left ∙ sym right)
+    (λ i lt.
+    let within : i < count = omega arith in
+    let rest : ℕ = 8 * count - 8 * i in
+    let joined : 8 * i + rest ≡ 8 * count = omega arith in
+    let cut : drop (8 * i) front ≡ take rest (drop (8 * i) text) = rw joined at (drop-take (8 * i) rest text) in
+    let eight : take 8 (take rest (drop (8 * i) text)) ≡ take 8 (drop (8 * i) text) = take-take 8 rest (drop (8 * i) text) (omega arith) in
+    let at : get_or (map block (range_with_len 0 (length front / 8))) i [] ≡ flat_map (bits 8) (take 8 (drop (8 * i) front)) =
+    get_or-map-range_with_len block 0 (length front / 8) i i [] (omega arith) (omega arith) in
+    at ∙ ap (λ (xs : List ℕ). flat_map (bits 8) (take 8 xs)) cut ∙ ap (flat_map (bits 8)) eight
+    ∙ sym (get_or-take count whole i [] within ∙ whole_block_is text i (omega arith)))
+
+-- eight octets at a time, block by block
+pub get_or-first_chunks : (count : ℕ) (text : List ℕ) (i : ℕ) → i < count → get_or (first_chunks 8 count text) i [] ≡ take 8 (drop (8 * i) text)
+get_or-first_chunks zero text i h = absurd (omega arith)
+get_or-first_chunks (suc count) text zero h = refl
+get_or-first_chunks (suc count) text (suc i) h =
+    let more : 8 * suc i ≡ 8 + 8 * i = omega arith in
+    rw (more, ← drop-drop (8 * i) 8 text) (get_or-first_chunks count (drop 8 text) i (omega arith))
+
+-- a block of a text's whole blocks
+pub get_or-blocks : (text : List ℕ) (i : ℕ) → i < length text / 8 → slice_index_or (blocks text) i [] ≡ flat_map (bits 8) (take 8 (drop (8 * i) text))
+unfolding blocks
+get_or-blocks text i h = get_or-map-range_with_len (λ n. flat_map (bits 8) (take 8 (drop (8 * n) text))) 0 (length text / 8) i i [] h (omega arith)
+
+pub length-whole_blocks : (text : List ℕ) → length (blocks text) ≡ length text / 8
+unfolding blocks
+length-whole_blocks text = length-map-range_with_len (λ n. flat_map (bits 8) (take 8 (drop (8 * n) text))) 0 (length text / 8)
+
 -- ---- octets
--- what is copied over zeros: fewer than eight octets
-pub front_is : (rest : List ℕ) → length rest < 8 → rest ++ drop (length rest) (replicate 8 0) ≡ take 8 (rest ++ replicate 8 0)
+-- what is copied over zeros: up to eight octets
+pub front_is : (rest : List ℕ) → length rest ≤ 8 → rest ++ drop (length rest) (replicate 8 0) ≡ take 8 (rest ++ replicate 8 0)
 front_is rest short =
     let zeros : drop (length rest) (replicate {A = ℕ} 8 0) ≡ replicate (8 - length rest) 0 = drop-replicate (length rest) 8 0 in
     let size : length (rest ++ replicate (8 - length rest) 0) ≡ 8 = omega (arith, length-append rest (replicate (8 - length rest) 0), length-replicate {A = ℕ} (8 - length rest) 0) in

@@ -1,2 +1,2 @@
 pub mod Mac
-pub mod Schedules
+pub mod Laws

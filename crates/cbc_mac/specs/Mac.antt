@@ -3,7 +3,7 @@
 use Rattle.std.specs.Prelude.{ℕ, ◌-◌, ◌*◌, ◌/◌, ◌%◌, List, [], ◌++◌, length, map, take, drop, replicate, fold, slice_index_or}
 use Rattle.std.specs.List.{range_with_len, flat_map}
 use Rattle.bit_lists.specs.Bits.{bits, number, xor}
-use Rattle.des_block.specs.Des.{cipher, round_keys}
+use Rattle.des_block.specs.Des.{des_encipher}
 use Rattle.des_block.specs.Triple.{triple_encipher}
 use Rattle.des_block.specs.declared.triple_key.TripleKey.{TripleKey}
 
@@ -15,19 +15,15 @@ padded text = text ++ replicate ((8 - length text % 8) % 8) 0
 unfoldable pub blocks : List ℕ → List (List ℕ)
 blocks octets = map (λ n. flat_map (bits 8) (take 8 (drop (8 * n) octets))) (range_with_len 0 (length octets / 8))
 
--- the chaining value behind some blocks under a list of round keys: H0 is zero, and Hi = E(K1, H(i-1) xor Xi)
-unfoldable pub chained_under : List (List ℕ) → List (List ℕ) → List ℕ
-chained_under keys xs = fold (λ h x. cipher keys (xor h x)) (replicate 64 0) xs
-
--- the chaining value behind some blocks under a key
-abbrev pub chained : List ℕ → List (List ℕ) → List ℕ
-chained key xs = chained_under (round_keys key) xs
+-- the chaining value behind some blocks under a key: H0 is zero, and Hi = E(K1, H(i-1) xor Xi)
+unfoldable pub chained : List ℕ → List (List ℕ) → List ℕ
+chained key xs = fold (λ h x. des_encipher key (xor h x)) (replicate 64 0) xs
 
 -- the 64 bits E(K3, D(K2, E(K1, H(q-1) xor Xq))) of the blocks X1 to Xq
-unfoldable pub sealed_blocks : TripleKey → List (List ℕ) → List ℕ
-sealed_blocks key xs =
+unfoldable pub mac_bits : TripleKey → List (List ℕ) → List ℕ
+mac_bits key xs =
     triple_encipher key (xor (chained (bits 64 key.first) (take (length xs - 1) xs)) (slice_index_or xs (length xs - 1) []))
 
 -- the MAC of a text
 unfoldable pub mac_of : TripleKey → List ℕ → ℕ
-mac_of key text = number (sealed_blocks key (blocks (padded text)))
+mac_of key text = number (mac_bits key (blocks (padded text)))

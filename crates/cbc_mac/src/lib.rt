@@ -5,6 +5,7 @@
 #![tactic(auto)]
 
 mod chaining;
+pub mod laws;
 mod mac_key;
 #[cfg(test)]
 mod tests;

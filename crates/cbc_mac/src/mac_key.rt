@@ -3,10 +3,9 @@
 ghost use Rattle.std.specs.Prelude.{◌≡◌, ◌<◌, length};
 ghost use Rattle.des_block.specs.declared.triple_key.TripleKey.{TripleKey};
 ghost use Rattle.cbc_mac.specs.Mac.{mac_of};
-ghost use Rattle.cbc_mac.specs.Schedules.{HasSchedules};
 
-use crate::chaining::chain;
-use des_block::{KeySchedule, TripleKey};
+use crate::chaining::{chain, padded_block};
+use des_block::{TripleKey, TripleSchedule};
 use std::marker::Model;
 
 /// Three keys with their key schedules, for a caller that seals many messages under one session key.
@@ -14,18 +13,13 @@ use std::marker::Model;
 /// In contracts it is the three keys.
 #[derive(Drop)]
 pub struct MacKey {
-    key: TripleKey,
-    first: KeySchedule,
-    second: KeySchedule,
-    third: KeySchedule,
+    schedule: TripleSchedule,
 }
 
 impl Model for MacKey {
     ghost Value = { TripleKey };
 
-    ghost view = { λ m. m.key };
-
-    ghost invariant = { λ m. HasSchedules m.key m.first m.second m.third };
+    ghost view = { λ m. m.schedule };
 }
 
 impl MacKey {
@@ -34,11 +28,15 @@ impl MacKey {
         ensures { result ≡ key.now }
     {
         MacKey {
-            key: *key,
-            first: KeySchedule::new(key.first),
-            second: KeySchedule::new(key.second),
-            third: KeySchedule::new(key.third),
+            schedule: TripleSchedule::new(key),
         }
+    }
+
+    /// The three keys.
+    pub fn key(&self) -> TripleKey
+        ensures { result ≡ self.now }
+    {
+        self.schedule.key()
     }
 
     /// The MAC of a text that isn't empty, under the three keys (ISO/IEC 9797-1, CBC chaining over DES).
@@ -48,8 +46,9 @@ impl MacKey {
         requires { 0 < length text.now }
         ensures { result ≡ mac_of self.now text.now }
     {
-        let hash = chain(&self.first, text);
-        self.third.encipher(self.second.decipher(hash))
+        let (before, last) = text.split_at(8 * ((text.len() - 1) / 8));
+        self.schedule
+            .encipher(chain(&self.schedule, before) ^ padded_block(last))
     }
 }
 

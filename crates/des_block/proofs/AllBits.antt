@@ -4,13 +4,9 @@ use Rattle.bit_lists.specs.Bits.{pick, xor, all_bits}
 use Rattle.bit_lists.proofs.Widths.{all_bits-bits, all_bits-append}
 use Rattle.bit_lists.proofs.Picks.{all_bits-pick, all_bits-take, all_bits-drop}
 use Rattle.bit_lists.proofs.Xors.{all_bits-xor}
-use Rattle.des_block.specs.Tables.{initial_permutation, final_permutation, expansion, permutation}
+use Rattle.des_block.specs.Tables.{initial_permutation, inverse_initial_permutation, expansion, permutation}
 use Rattle.des_block.specs.Boxes.{boxes}
 use Rattle.des_block.specs.Des.{cipher, rounds, cipher_function, substituted, box_output}
-use Rattle.des_block.specs.Triple.{triple_encipher}
-use Rattle.des_block.specs.declared.triple_key.TripleKey.{TripleKey}
-use Rattle.des_block.proofs.RoundTrips.{length-cipher}
-use Rattle.std.proofs.Common.{length}
 
 all_bits-substituted : (bs : List (List ℕ)) (xs : List ℕ) → all_bits (substituted bs xs) ≡ true
 unfolding substituted box_output all_bits
@@ -32,12 +28,4 @@ all_bits-cipher keys block h =
     let start : List ℕ = pick initial_permutation block in
     let hs : all_bits start ≡ true = all_bits-pick initial_permutation block h in
     let behind : List ℕ = rounds keys (take 32 start) (drop 32 start) in
-    all_bits-pick final_permutation behind (all_bits-rounds keys (take 32 start) (drop 32 start) (all_bits-take 32 start hs) (all_bits-drop 32 start hs))
-
-pub all_bits-triple_encipher : (key : TripleKey) (block : List ℕ) → all_bits block ≡ true → all_bits (triple_encipher key block) ≡ true
-unfolding triple_encipher
-all_bits-triple_encipher key block h = all_bits-cipher _ _ (all_bits-cipher _ _ (all_bits-cipher _ block h))
-
-pub length-triple_encipher : (key : TripleKey) (block : List ℕ) → length (triple_encipher key block) ≡ 64
-unfolding triple_encipher
-length-triple_encipher key block = length-cipher _ _
+    all_bits-pick inverse_initial_permutation behind (all_bits-rounds keys (take 32 start) (drop 32 start) (all_bits-take 32 start hs) (all_bits-drop 32 start hs))

@@ -4,8 +4,8 @@ use Rattle.std.specs.Prelude.{bit_and, bit_xor}
 use Rattle.std.proofs.lemmas.Nat.{xor_shr}
 use Rattle.bit_lists.specs.Bits.{bits, pick, xor}
 use Rattle.bit_lists.proofs.Linear.{Carries, linear_agree, same_values, xor_crossed, shl-xor, and-xor, carries-bits, carries-pick}
-use Rattle.des_block.specs.Swaps.{swapped}
-use Rattle.des_block.specs.Tables.{initial_permutation, final_permutation}
+use Rattle.des_block.specs.Representation.{swapped}
+use Rattle.des_block.specs.Tables.{initial_permutation, inverse_initial_permutation}
 
 differing : ℕ → ℕ → ℕ → ℕ
 differing apart mask x = bit_and (bit_xor x (x / 2 ^ apart)) mask
@@ -54,15 +54,15 @@ onward_basis : (i : ℕ) → i < 64 → bits 64 (onward (2 ^ i)) ≡ pick initia
 unfolding bits pick swapped
 onward_basis i h = same_values [] (λ i. bits 64 (onward (2 ^ i))) (λ i. pick initial_permutation (bits 64 (2 ^ i))) 64 i refl h
 
-backward_basis : (i : ℕ) → i < 64 → bits 64 (backward (2 ^ i)) ≡ pick final_permutation (bits 64 (2 ^ i))
+backward_basis : (i : ℕ) → i < 64 → bits 64 (backward (2 ^ i)) ≡ pick inverse_initial_permutation (bits 64 (2 ^ i))
 unfolding bits pick swapped
-backward_basis i h = same_values [] (λ i. bits 64 (backward (2 ^ i))) (λ i. pick final_permutation (bits 64 (2 ^ i))) 64 i refl h
+backward_basis i h = same_values [] (λ i. bits 64 (backward (2 ^ i))) (λ i. pick inverse_initial_permutation (bits 64 (2 ^ i))) 64 i refl h
 
 onward_zero : bits 64 (onward 0) ≡ pick initial_permutation (bits 64 0)
 unfolding bits pick swapped
 onward_zero = refl
 
-backward_zero : bits 64 (backward 0) ≡ pick final_permutation (bits 64 0)
+backward_zero : bits 64 (backward 0) ≡ pick inverse_initial_permutation (bits 64 0)
 unfolding bits pick swapped
 backward_zero = refl
 
@@ -70,6 +70,6 @@ pub onward_is : (x : ℕ) → x < 2 ^ 64 → bits 64 (onward x) ≡ pick initial
 onward_is x h =
     linear_agree xor (λ x. bits 64 (onward x)) (λ x. pick initial_permutation (bits 64 x)) carries-onward (carries-pick initial_permutation 64) onward_zero 64 onward_basis x h
 
-pub backward_is : (x : ℕ) → x < 2 ^ 64 → bits 64 (backward x) ≡ pick final_permutation (bits 64 x)
+pub backward_is : (x : ℕ) → x < 2 ^ 64 → bits 64 (backward x) ≡ pick inverse_initial_permutation (bits 64 x)
 backward_is x h =
-    linear_agree xor (λ x. bits 64 (backward x)) (λ x. pick final_permutation (bits 64 x)) carries-backward (carries-pick final_permutation 64) backward_zero 64 backward_basis x h
+    linear_agree xor (λ x. bits 64 (backward x)) (λ x. pick inverse_initial_permutation (bits 64 x)) carries-backward (carries-pick inverse_initial_permutation 64) backward_zero 64 backward_basis x h

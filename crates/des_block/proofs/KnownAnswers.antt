@@ -1,4 +1,5 @@
--- Known answers of DES, by computation from the definition: a wrong table entry fails here.
+-- Known answers of DES, by computation from the definition. Together they read 323 of the 512 entries of the boxes; that a wrong
+-- entry of a table or box fails the check is the law `standard_tables`.
 use Rattle.std.proofs.Common.{◌≡◌, refl}
 use Rattle.bit_lists.specs.Bits.{bits, number, pick, xor}
 use Rattle.des_block.specs.Des.{des_encipher, des_decipher, cipher, rounds, cipher_function, substituted, box_output, round_keys, keys_from}
@@ -34,3 +35,12 @@ all_ones = refl
 pub all_ones_back : des_decipher (bits 64 0xFFFFFFFFFFFFFFFF) (bits 64 0x7359B2163E4EDC58) ≡ bits 64 0xFFFFFFFFFFFFFFFF
 unfolding bits number pick xor cipher rounds cipher_function substituted box_output round_keys keys_from
 all_ones_back = refl
+
+-- made by OpenSSL 3.0; it reads row 1, column 3 of S3, which no other of these answers does
+pub from_outside : des_encipher (bits 64 0xE8753FBC84820C5B) (bits 64 0xAAE4DEA4EA0AD008) ≡ bits 64 0xD03BAEDBED734CAF
+unfolding bits number pick xor cipher rounds cipher_function substituted box_output round_keys keys_from
+from_outside = refl
+
+pub from_outside_back : des_decipher (bits 64 0xE8753FBC84820C5B) (bits 64 0xD03BAEDBED734CAF) ≡ bits 64 0xAAE4DEA4EA0AD008
+unfolding bits number pick xor cipher rounds cipher_function substituted box_output round_keys keys_from
+from_outside_back = refl

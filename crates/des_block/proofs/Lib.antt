@@ -7,3 +7,4 @@ pub mod Exchanges
 pub mod JoinedBoxes
 pub mod JoinedRounds
 pub mod KeyChoices
+pub mod LeftShifts

@@ -8,11 +8,11 @@ use Rattle.std.proofs.lemmas.Nat.{shr_below}
 use Rattle.std.proofs.lemmas.Nat.Bits.{shr_and_one, bit_at-lt}
 use Rattle.std.proofs.lemmas.Grind.{pow_more}
 use Rattle.std.proofs.lemmas.List.{append-nil, append_assoc, drop-drop, drop-append-le, take_more_set, map_push, map-append, reverse-append}
-use Rattle.bit_lists.specs.Bits.{bits, pick, turn}
+use Rattle.bit_lists.specs.Bits.{bits, pick, left_shift}
 use Rattle.bit_lists.proofs.Widths.{length-bits, get_or-bits, bits_push, bits_masked, take-bits, drop-bits, middle-bits, or_joined, or_joined_small, bits_or}
 use Rattle.bit_lists.proofs.Picks.{pick_more}
 use Rattle.des_block.specs.Boxes.{boxes}
-use Rattle.des_block.specs.Tables.{round_key_choice}
+use Rattle.des_block.specs.Tables.{permuted_choice_2}
 use Rattle.des_block.specs.Des.{substituted, box_output, keys_from}
 
 all_at : (p : ℕ → Bool) (xs : List ℕ) (i : ℕ) → list_all p xs ≡ true → i < length xs → p (get_or xs i 0) ≡ true
@@ -70,7 +70,7 @@ substitute_step x out r j h held small four low =
 
 -- 28 bits turned
 pub turn_step : (half by : ℕ) → half < 2 ^ 28 → by ≤ 28
-    → bits 28 (bit_and (bit_or (half * 2 ^ by % 2 ^ 64) (half / 2 ^ (28 - by))) (2 ^ 28 - 1)) ≡ turn by (bits 28 half)
+    → bits 28 (bit_and (bit_or (half * 2 ^ by % 2 ^ 64) (half / 2 ^ (28 - by))) (2 ^ 28 - 1)) ≡ left_shift by (bits 28 half)
 turn_step half by small fits =
     let rest : ℕ = 28 - by in
     let top : ℕ = half / 2 ^ (28 - by) in
@@ -89,8 +89,8 @@ turn_step half by small fits =
 pub keys_step : (view : ℕ → List ℕ) (keys : List ℕ) (c d key i shift : ℕ) (rest : List ℕ) (all : List (List ℕ)) (c' d' : ℕ)
     → i < length keys
     → map view (take i keys) ++ keys_from (shift ∷ rest) (bits 28 c) (bits 28 d) ≡ all
-    → bits 28 c' ≡ turn shift (bits 28 c) → bits 28 d' ≡ turn shift (bits 28 d) → c' < 2 ^ 28 → d' < 2 ^ 28
-    → view key ≡ pick round_key_choice (bits 56 (bit_or (c' * 2 ^ 28 % 2 ^ 64) d'))
+    → bits 28 c' ≡ left_shift shift (bits 28 c) → bits 28 d' ≡ left_shift shift (bits 28 d) → c' < 2 ^ 28 → d' < 2 ^ 28
+    → view key ≡ pick permuted_choice_2 (bits 56 (bit_or (c' * 2 ^ 28 % 2 ^ 64) d'))
     → map view (take (i + 1) (slice_set keys i key)) ++ keys_from rest (bits 28 c') (bits 28 d') ≡ all
 unfolding keys_from
 keys_step view keys c d key i shift rest all c' d' h held turned_c turned_d small_c small_d chosen =

@@ -3,10 +3,12 @@
 use Rattle.std.proofs.Common.{◌≡◌, ℕ, ◌≤◌, List, [], ◌∷◌, ◌++◌, length, take, drop, reverse, refl, sym, ap, ◌∙◌, arith}
 use Rattle.std.specs.List.{range_with_len}
 use Rattle.std.proofs.lemmas.List.{take_at, drop_at, length-take-le, length-drop, length-append, take-append-drop, reverse-append, reverse-reverse}
-use Rattle.bit_lists.specs.Bits.{pick, xor}
-use Rattle.bit_lists.proofs.Picks.{length-pick, pick-pick, pick_all}
-use Rattle.bit_lists.proofs.Xors.{length-xor, xor_twice}
-use Rattle.des_block.specs.Tables.{initial_permutation, final_permutation, permutation}
+use Rattle.std.specs.Prelude.{bit_xor}
+use Rattle.bit_lists.specs.Bits.{bits, pick, xor}
+use Rattle.bit_lists.proofs.Widths.{length-bits}
+use Rattle.bit_lists.proofs.Picks.{length-pick, pick-pick, pick-xor, pick_all}
+use Rattle.bit_lists.proofs.Xors.{bits-xor, length-xor, xor_twice}
+use Rattle.des_block.specs.Tables.{initial_permutation, inverse_initial_permutation, permutation}
 use Rattle.des_block.specs.Des.{des_encipher, des_decipher, cipher, rounds, cipher_function, round_keys}
 
 pub length-cipher_function : (right key : List ℕ) → length (cipher_function right key) ≡ 32
@@ -15,7 +17,7 @@ length-cipher_function right key = length-pick permutation _
 
 pub length-cipher : (keys : List (List ℕ)) (block : List ℕ) → length (cipher keys block) ≡ 64
 unfolding cipher
-length-cipher keys block = length-pick final_permutation _
+length-cipher keys block = length-pick inverse_initial_permutation _
 
 -- the two halves behind the rounds, before they are turned
 after : List (List ℕ) → List ℕ → List ℕ → List ℕ × List ℕ
@@ -60,17 +62,17 @@ length-rounds ks l r hl hr =
     let halves = length-after ks l r hl hr in
     rw (rounds_after ks l r) (omega (arith, length-append (after ks l r).1 (after ks l r).0, halves.0, halves.1))
 
-pub initial_undoes_final : (xs : List ℕ) → length xs ≡ 64 → pick initial_permutation (pick final_permutation xs) ≡ xs
+pub initial_undoes_final : (xs : List ℕ) → length xs ≡ 64 → pick initial_permutation (pick inverse_initial_permutation xs) ≡ xs
 unfolding pick
 initial_undoes_final xs h =
-    let one : pick initial_permutation final_permutation ≡ range_with_len 1 64 = refl in
-    pick-pick initial_permutation final_permutation xs refl ∙ ap (λ (t : List ℕ). pick t xs) one ∙ pick_all xs 64 h
+    let one : pick initial_permutation inverse_initial_permutation ≡ range_with_len 1 64 = refl in
+    pick-pick initial_permutation inverse_initial_permutation xs refl ∙ ap (λ (t : List ℕ). pick t xs) one ∙ pick_all xs 64 h
 
-pub final_undoes_initial : (xs : List ℕ) → length xs ≡ 64 → pick final_permutation (pick initial_permutation xs) ≡ xs
+pub final_undoes_initial : (xs : List ℕ) → length xs ≡ 64 → pick inverse_initial_permutation (pick initial_permutation xs) ≡ xs
 unfolding pick
 final_undoes_initial xs h =
-    let one : pick final_permutation initial_permutation ≡ range_with_len 1 64 = refl in
-    pick-pick final_permutation initial_permutation xs refl ∙ ap (λ (t : List ℕ). pick t xs) one ∙ pick_all xs 64 h
+    let one : pick inverse_initial_permutation initial_permutation ≡ range_with_len 1 64 = refl in
+    pick-pick inverse_initial_permutation initial_permutation xs refl ∙ ap (λ (t : List ℕ). pick t xs) one ∙ pick_all xs 64 h
 
 pub cipher_undone : (keys : List (List ℕ)) (block : List ℕ) → length block ≡ 64 → cipher (reverse keys) (cipher keys block) ≡ block
 unfolding cipher
@@ -86,7 +88,7 @@ cipher_undone keys block h =
     let right : List ℕ = (after keys l r).1 in
     let there : rounds keys l r ≡ right ++ left = rounds_after keys l r in
     let long : length (right ++ left) ≡ 64 = omega (arith, length-append right left, halves.0, halves.1) in
-    let again : pick initial_permutation (pick final_permutation (right ++ left)) ≡ right ++ left = initial_undoes_final (right ++ left) long in
+    let again : pick initial_permutation (pick inverse_initial_permutation (right ++ left)) ≡ right ++ left = initial_undoes_final (right ++ left) long in
     let front : take 32 (right ++ left) ≡ right = take_at right left 32 halves.1 in
     let behind : drop 32 (right ++ left) ≡ left = drop_at right left 32 halves.1 in
     let back : rounds (reverse keys) right left ≡ (after (reverse keys) right left).1 ++ (after (reverse keys) right left).0 = rounds_after (reverse keys) right left in
@@ -110,6 +112,28 @@ initial-cipher keys block =
     let hl : length (take 32 start) ≡ 32 = length-take-le 32 start (omega arith) in
     let hr : length (drop 32 start) ≡ 32 = omega (arith, length-drop 32 start) in
     initial_undoes_final (rounds keys (take 32 start) (drop 32 start)) (length-rounds keys (take 32 start) (drop 32 start) hl hr)
+
+-- ---- a block that stays behind IP from one key to the next
+pub behind_initial : (keys : List (List ℕ)) (block : List ℕ) (halves result : ℕ)
+    → bits 64 halves ≡ pick initial_permutation block
+    → bits 64 result ≡ rounds keys (take 32 (bits 64 halves)) (drop 32 (bits 64 halves))
+    → bits 64 result ≡ pick initial_permutation (cipher keys block)
+behind_initial keys block halves result held given = given ∙ rw held (sym (initial-cipher keys block))
+
+pub before_final : (keys : List (List ℕ)) (block : List ℕ) (halves : ℕ)
+    → bits 64 halves ≡ pick initial_permutation (cipher keys block)
+    → pick inverse_initial_permutation (bits 64 halves) ≡ cipher keys block
+before_final keys block halves held = ap (pick inverse_initial_permutation) held ∙ final_undoes_initial (cipher keys block) (length-cipher keys block)
+
+-- the exclusive or behind IP
+pub mixed_behind_initial : (kept block halves : ℕ) → bits 64 halves ≡ pick initial_permutation (bits 64 block)
+    → bits 64 (bit_xor kept halves) ≡ pick initial_permutation (xor (pick inverse_initial_permutation (bits 64 kept)) (bits 64 block))
+mixed_behind_initial kept block halves held =
+    let value : List ℕ = pick inverse_initial_permutation (bits 64 kept) in
+    let back : bits 64 kept ≡ pick initial_permutation value = sym (initial_undoes_final (bits 64 kept) (length-bits 64 kept)) in
+    let same : length value ≡ length (bits 64 block) = length-pick inverse_initial_permutation (bits 64 kept) ∙ sym (length-bits 64 block) in
+    bits-xor 64 kept halves ∙ ap (λ (ys : List ℕ). xor (bits 64 kept) ys) held ∙ ap (λ (ys : List ℕ). xor ys (pick initial_permutation (bits 64 block))) back
+    ∙ sym (pick-xor initial_permutation value (bits 64 block) same)
 
 pub decipher_encipher : (key block : List ℕ) → length block ≡ 64 → des_decipher key (des_encipher key block) ≡ block
 decipher_encipher key block h = cipher_undone (round_keys key) block h

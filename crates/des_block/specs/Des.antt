@@ -1,8 +1,8 @@
 -- The Data Encryption Standard, FIPS 46-3, on strings of bits: a block and a key are lists of 64 bits, the first the most
 -- significant of the first octet. Bits 8, 16, .. 64 of a key are not used.
 use Rattle.std.specs.Prelude.{ℕ, ◌+◌, ◌*◌, List, [], ◌∷◌, ◌++◌, take, drop, reverse, slice_index}
-use Rattle.bit_lists.specs.Bits.{bits, number, pick, xor, turn}
-use Rattle.des_block.specs.Tables.{initial_permutation, final_permutation, expansion, permutation, key_choice, round_key_choice, shifts}
+use Rattle.bit_lists.specs.Bits.{bits, number, pick, xor, left_shift}
+use Rattle.des_block.specs.Tables.{initial_permutation, inverse_initial_permutation, expansion, permutation, permuted_choice_1, permuted_choice_2, left_shifts}
 use Rattle.des_block.specs.Boxes.{boxes}
 
 -- what a box gives for six bits b1 to b6: the four bits of its entry in row b1 b6 and column b2 b3 b4 b5, both counted from 0
@@ -27,16 +27,16 @@ rounds (key ∷ keys) left right = rounds keys right (xor left (cipher_function 
 -- a block under a list of round keys: IP, the rounds on its two halves, IP⁻¹
 unfoldable pub cipher : List (List ℕ) → List ℕ → List ℕ
 cipher keys block =
-    pick final_permutation (rounds keys (take 32 (pick initial_permutation block)) (drop 32 (pick initial_permutation block)))
+    pick inverse_initial_permutation (rounds keys (take 32 (pick initial_permutation block)) (drop 32 (pick initial_permutation block)))
 
--- the round keys from C and D on: both are turned by the next shift, and PC-2 chooses from C and then D
+-- the round keys from C and D on: both are shifted to the left by the next number of places, and PC-2 chooses from C and then D
 unfoldable pub keys_from : List ℕ → List ℕ → List ℕ → List (List ℕ)
 keys_from [] c d = []
-keys_from (shift ∷ rest) c d = pick round_key_choice (turn shift c ++ turn shift d) ∷ keys_from rest (turn shift c) (turn shift d)
+keys_from (shift ∷ rest) c d = pick permuted_choice_2 (left_shift shift c ++ left_shift shift d) ∷ keys_from rest (left_shift shift c) (left_shift shift d)
 
 -- the key schedule: the sixteen round keys of a key
 unfoldable pub round_keys : List ℕ → List (List ℕ)
-round_keys key = keys_from shifts (take 28 (pick key_choice key)) (drop 28 (pick key_choice key))
+round_keys key = keys_from left_shifts (take 28 (pick permuted_choice_1 key)) (drop 28 (pick permuted_choice_1 key))
 
 -- DES enciphers under the round keys in their order
 abbrev pub des_encipher : List ℕ → List ℕ → List ℕ

@@ -3,5 +3,5 @@ pub mod Boxes
 pub mod Des
 pub mod Triple
 pub mod Laws
-pub mod Schedule
-pub mod Swaps
+pub mod TableLaws
+pub mod Representation

@@ -15,8 +15,8 @@ initial_permutation =
     63 ∷ 55 ∷ 47 ∷ 39 ∷ 31 ∷ 23 ∷ 15 ∷ 7 ∷ []
 
 -- IP⁻¹, which undoes it behind the rounds
-abbrev pub final_permutation : List ℕ
-final_permutation =
+abbrev pub inverse_initial_permutation : List ℕ
+inverse_initial_permutation =
     40 ∷ 8 ∷ 48 ∷ 16 ∷ 56 ∷ 24 ∷ 64 ∷ 32 ∷
     39 ∷ 7 ∷ 47 ∷ 15 ∷ 55 ∷ 23 ∷ 63 ∷ 31 ∷
     38 ∷ 6 ∷ 46 ∷ 14 ∷ 54 ∷ 22 ∷ 62 ∷ 30 ∷
@@ -46,9 +46,9 @@ permutation =
     2 ∷ 8 ∷ 24 ∷ 14 ∷ 32 ∷ 27 ∷ 3 ∷ 9 ∷
     19 ∷ 13 ∷ 30 ∷ 6 ∷ 22 ∷ 11 ∷ 4 ∷ 25 ∷ []
 
--- PC-1, the 56 bits of the key that are used: C and then D
-abbrev pub key_choice : List ℕ
-key_choice =
+-- PC-1, permuted choice 1: the 56 bits of the key that are used: C and then D
+abbrev pub permuted_choice_1 : List ℕ
+permuted_choice_1 =
     57 ∷ 49 ∷ 41 ∷ 33 ∷ 25 ∷ 17 ∷ 9 ∷
     1 ∷ 58 ∷ 50 ∷ 42 ∷ 34 ∷ 26 ∷ 18 ∷
     10 ∷ 2 ∷ 59 ∷ 51 ∷ 43 ∷ 35 ∷ 27 ∷
@@ -58,9 +58,9 @@ key_choice =
     14 ∷ 6 ∷ 61 ∷ 53 ∷ 45 ∷ 37 ∷ 29 ∷
     21 ∷ 13 ∷ 5 ∷ 28 ∷ 20 ∷ 12 ∷ 4 ∷ []
 
--- PC-2, the 48 bits of C and D that are a round's key
-abbrev pub round_key_choice : List ℕ
-round_key_choice =
+-- PC-2, permuted choice 2: the 48 bits of C and D that are a round's key
+abbrev pub permuted_choice_2 : List ℕ
+permuted_choice_2 =
     14 ∷ 17 ∷ 11 ∷ 24 ∷ 1 ∷ 5 ∷
     3 ∷ 28 ∷ 15 ∷ 6 ∷ 21 ∷ 10 ∷
     23 ∷ 19 ∷ 12 ∷ 4 ∷ 26 ∷ 8 ∷
@@ -70,6 +70,6 @@ round_key_choice =
     44 ∷ 49 ∷ 39 ∷ 56 ∷ 34 ∷ 53 ∷
     46 ∷ 42 ∷ 50 ∷ 36 ∷ 29 ∷ 32 ∷ []
 
--- by how many places C and D are turned to the left before each round's key is chosen
-abbrev pub shifts : List ℕ
-shifts = 1 ∷ 1 ∷ 2 ∷ 2 ∷ 2 ∷ 2 ∷ 2 ∷ 2 ∷ 1 ∷ 2 ∷ 2 ∷ 2 ∷ 2 ∷ 2 ∷ 2 ∷ 1 ∷ []
+-- the left shifts: by how many places C and D are shifted before each round's key is chosen
+abbrev pub left_shifts : List ℕ
+left_shifts = 1 ∷ 1 ∷ 2 ∷ 2 ∷ 2 ∷ 2 ∷ 2 ∷ 2 ∷ 1 ∷ 2 ∷ 2 ∷ 2 ∷ 2 ∷ 2 ∷ 2 ∷ 1 ∷ []

@@ -2,8 +2,8 @@
 
 ghost use Rattle.std.specs.Prelude.{◌≡◌, ◌<◌};
 ghost use Rattle.bit_lists.specs.Bits.{bits, pick};
-ghost use Rattle.des_block.specs.Swaps.{swapped};
-ghost use Rattle.des_block.specs.Tables.{initial_permutation as initial_table, final_permutation as final_table};
+ghost use Rattle.des_block.specs.Representation.{swapped};
+ghost use Rattle.des_block.specs.Tables.{initial_permutation as initial_table, inverse_initial_permutation as inverse_table};
 
 /// IP of a block: the permutation of its bits before the rounds.
 pub fn initial_permutation(block: u64) -> u64
@@ -17,8 +17,8 @@ pub fn initial_permutation(block: u64) -> u64
 }
 
 /// IP⁻¹ of a block: the permutation of its bits behind the rounds, which undoes IP.
-pub fn final_permutation(block: u64) -> u64
-    ensures { bits 64 result ≡ pick final_table (bits 64 block) }
+pub fn inverse_initial_permutation(block: u64) -> u64
+    ensures { bits 64 result ≡ pick inverse_table (bits 64 block) }
 {
     let x = swap(block, 33, 0x5555_5555);
     let x = swap(x, 24, 0xff00_ff00);
@@ -32,6 +32,6 @@ fn swap(x: u64, apart: u32, mask: u64) -> u64
     requires { apart < 64 }
     ensures { result ≡ swapped apart mask x }
 {
-    let differing = (x ^ x >> apart) & mask;
-    x ^ differing ^ differing << apart
+    let differing = (x ^ (x >> apart)) & mask;
+    x ^ differing ^ (differing << apart)
 }

@@ -1,11 +1,11 @@
 //! DES bit by bit, over the tables as the standard prints them.
 //!
-//! This body is slow and easy to compare with FIPS 46-3. It stays as the program with which tests compare
-//! the one that is used.
+//! This body is easy to compare with FIPS 46-3. It stays as the program with which tests compare the one that
+//! is used.
 
 ghost use Rattle.std.specs.Prelude.{◌≡◌, ℕ, ◌-◌, ◌^◌, ◌<◌, ◌≤◌, ◌&&◌, length, map, nat_lt, slice_index, slice_index_or, [], IsTrue};
 ghost use Rattle.std.specs.List.{list_all};
-ghost use Rattle.bit_lists.specs.Bits.{bits, pick};
+ghost use Rattle.bit_lists.specs.Bits.{bits, left_shift, pick};
 ghost use Rattle.des_block.specs.Boxes.{boxes};
 ghost use Rattle.des_block.specs.Des.{
   des_encipher,
@@ -17,10 +17,9 @@ ghost use Rattle.des_block.specs.Des.{
   round_keys as round_keys_of,
 };
 
-use crate::halves::turn_half;
 use crate::tables::{
-    BOXES, EXPANSION, FINAL_PERMUTATION, INITIAL_PERMUTATION, KEY_CHOICE, PERMUTATION,
-    ROUND_KEY_CHOICE, SHIFTS,
+    BOXES, EXPANSION, INITIAL_PERMUTATION, INVERSE_INITIAL_PERMUTATION, LEFT_SHIFTS, PERMUTATION,
+    PERMUTED_CHOICE_1, PERMUTED_CHOICE_2,
 };
 
 /// Enciphers a block under a key.
@@ -39,7 +38,7 @@ pub fn decipher(key: u64, block: u64) -> u64
     cipher(&keys, block)
 }
 
-// IP, sixteen rounds, and IP⁻¹ of the halves in turned order.
+// IP, sixteen rounds, and IP⁻¹ of the exchanged halves.
 fn cipher(keys: &[u64; 16], block: u64) -> u64
     ensures { bits 64 result ≡ cipher_of (map (bits 48) keys.now) (bits 64 block) }
 {
@@ -51,7 +50,7 @@ fn cipher(keys: &[u64; 16], block: u64) -> u64
         left = right;
         right = next;
     }
-    select(&FINAL_PERMUTATION, 64, right << 32 | left)
+    select(&INVERSE_INITIAL_PERMUTATION, 64, (right << 32) | left)
 }
 
 // f(R, K), of which the last 32 and 48 bits are read.
@@ -70,7 +69,7 @@ fn substitute(x: u64) -> u64
 {
     let mut out = 0;
     for j in 0..8usize {
-        out = out << 4 | box_output(j, x >> (42 - 6 * j) & 63);
+        out = (out << 4) | box_output(j, (x >> (42 - 6 * j)) & 63);
     }
     out
 }
@@ -82,8 +81,8 @@ fn box_output(number: usize, six: u64) -> u64
     ensures value { bits 4 result ≡ box_output_of (slice_index_or boxes number []) (bits 6 six) }
     ensures small { result < 2 ^ 4 }
 {
-    let row = six >> 4 & 2 | six & 1;
-    let column = six >> 1 & 15;
+    let row = ((six >> 4) & 2) | (six & 1);
+    let column = (six >> 1) & 15;
     BOXES[number][row as usize][column as usize] as u64
 }
 
@@ -91,17 +90,27 @@ fn box_output(number: usize, six: u64) -> u64
 fn round_keys(key: u64) -> [u64; 16]
     ensures { map (bits 48) result ≡ round_keys_of (bits 64 key) }
 {
-    let chosen = select(&KEY_CHOICE, 64, key);
+    let chosen = select(&PERMUTED_CHOICE_1, 64, key);
     let mut c = chosen >> 28;
     let mut d = chosen & 0xfff_ffff;
     let mut keys = [0; 16];
     for i in 0..16usize {
-        let shift = SHIFTS[i] as u32;
-        c = turn_half(c, shift);
-        d = turn_half(d, shift);
-        keys[i] = select(&ROUND_KEY_CHOICE, 56, c << 28 | d);
+        let shift = LEFT_SHIFTS[i] as u32;
+        c = shifted_half(c, shift);
+        d = shifted_half(d, shift);
+        keys[i] = select(&PERMUTED_CHOICE_2, 56, (c << 28) | d);
     }
     keys
+}
+
+// The left shift of FIPS 46-3: 28 bits moved to the left by some places, those that leave coming in behind.
+fn shifted_half(half: u64, by: u32) -> u64
+    requires half { half < 2 ^ 28 }
+    requires by { by ≤ 28 }
+    ensures value { bits 28 result ≡ left_shift by (bits 28 half) }
+    ensures small { result < 2 ^ 28 }
+{
+    ((half << by) | (half >> (28 - by))) & 0xfff_ffff
 }
 
 // The bits of `x`, which has `width` of them, at the table's places.
@@ -114,7 +123,7 @@ fn select(table: &[u8], width: u32, x: u64) -> u64
 {
     let mut out = 0;
     for place in table {
-        out = out << 1 | x >> (width - *place as u32) & 1;
+        out = (out << 1) | ((x >> (width - *place as u32)) & 1);
     }
     out
 }

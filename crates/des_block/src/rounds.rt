@@ -1,10 +1,10 @@
 //! The sixteen rounds of FIPS 46-3 on the two halves of a block, with the boxes and P joined.
 
-ghost use Rattle.std.specs.Prelude.{◌≡◌, ◌-◌, ◌*◌, ◌^◌, ◌<◌, ◌++◌, [], drop, map, replicate, reverse, slice_index_or, take};
+ghost use Rattle.std.specs.Prelude.{bit_and, ◌≡◌, ◌-◌, ◌*◌, ◌^◌, ◌<◌, ◌++◌, [], drop, map, replicate, reverse, slice_index_or, take};
 ghost use Rattle.bit_lists.specs.Bits.{bits, pick};
 ghost use Rattle.des_block.specs.Boxes.{boxes};
 ghost use Rattle.des_block.specs.Des.{box_output, cipher_function as cipher_function_of, rounds};
-ghost use Rattle.des_block.specs.Schedule.{kept_key};
+ghost use Rattle.des_block.specs.Representation.{kept_key, spread_places};
 ghost use Rattle.des_block.specs.Tables.{permutation};
 
 use crate::spread_boxes::SPREAD_BOXES;
@@ -16,9 +16,7 @@ pub fn rounds_onward(keys: &[u64; 16], halves: u64) -> u64
     let mut left = (halves >> 32) as u32;
     let mut right = (halves & 0xffff_ffff) as u32;
     for key in keys {
-        let next = left ^ cipher_function(right, *key);
-        left = right;
-        right = next;
+        (left, right) = (right, left ^ cipher_function(right, *key));
     }
     join(right, left)
 }
@@ -29,10 +27,8 @@ pub fn rounds_backward(keys: &[u64; 16], halves: u64) -> u64
 {
     let mut left = (halves >> 32) as u32;
     let mut right = (halves & 0xffff_ffff) as u32;
-    for i in 0..16usize {
-        let next = left ^ cipher_function(right, keys[15 - i]);
-        left = right;
-        right = next;
+    for key in keys.iter().rev() {
+        (left, right) = (right, left ^ cipher_function(right, *key));
     }
     join(right, left)
 }
@@ -41,33 +37,32 @@ pub fn rounds_backward(keys: &[u64; 16], halves: u64) -> u64
 fn join(first: u32, second: u32) -> u64
     ensures { bits 64 result ≡ bits 32 first ++ bits 32 second }
 {
-    (first as u64) << 32 | second as u64
+    ((first as u64) << 32) | second as u64
 }
 
-// f(R, K). Each group of six bits that E makes of R stands in R turned by 1 or by 29, in the low bits of an
-// octet, and the key's group lies in the same octet of its word.
+// f(R, K). Each group of six bits that E makes of R stands in R rotated by 1 or by 29, in the low bits of
+// an octet, and the key's group lies in the same octet of its word. No two boxes give a bit at one place, so
+// that both `|` and `^` join what they give; taken in pairs it is joined in fewer steps one after another.
 fn cipher_function(right: u32, key: u64) -> u32
     ensures { bits 32 result ≡ cipher_function_of (bits 32 right) (kept_key key) }
 {
     let odd = right.rotate_left(29) ^ (key >> 32) as u32;
     let even = right.rotate_left(1) ^ (key & 0xffff_ffff) as u32;
-    spread(0, odd >> 24 & 63)
-        ^ spread(1, even >> 24 & 63)
-        ^ spread(2, odd >> 16 & 63)
-        ^ spread(3, even >> 16 & 63)
-        ^ spread(4, odd >> 8 & 63)
-        ^ spread(5, even >> 8 & 63)
-        ^ spread(6, odd & 63)
-        ^ spread(7, even & 63)
+    (spread(0, odd >> 24) | spread(1, even >> 24))
+        ^ (spread(2, (odd >> 16) & 255) | spread(3, (even >> 16) & 255))
+        ^ (spread(4, (odd >> 8) & 255) | spread(5, (even >> 8) & 255))
+        ^ (spread(6, odd & 255) | spread(7, even & 255))
 }
 
-// P of what the box of this number, from 0 on, gives for six bits, with zeros for what the others give.
+// P of what the box of this number, from 0 on, gives for the last six bits of an octet, with zeros for what
+// the others give.
 #[inline(always)]
-fn spread(number: usize, six: u32) -> u32
+fn spread(number: usize, octet: u32) -> u32
     requires number { number < 8 }
-    requires six { six < 2 ^ 6 }
-    ensures { bits 32 result
-        ≡ pick permutation (replicate (4 * number) 0 ++ (box_output (slice_index_or boxes number []) (bits 6 six) ++ replicate (28 - 4 * number) 0)) }
+    requires octet { octet < 2 ^ 8 }
+    ensures value { bits 32 result
+        ≡ pick permutation (replicate (4 * number) 0 ++ (box_output (slice_index_or boxes number []) (bits 6 octet) ++ replicate (28 - 4 * number) 0)) }
+    ensures places { bit_and result (spread_places number) ≡ result }
 {
-    SPREAD_BOXES[number][six as usize]
+    SPREAD_BOXES[number][octet as usize]
 }

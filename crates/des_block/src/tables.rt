@@ -1,4 +1,5 @@
-//! The tables of FIPS 46-3 that the bit by bit cipher reads.
+//! The tables of FIPS 46-3. The bit by bit cipher reads them all; the one that is used reads the left shifts,
+//! and of the others has forms of its own that are proved against the standard.
 //!
 //! An entry of a permutation says which bit of what goes in becomes the bit at its place. Places count
 //! from 1, the most significant bit being the first. A box is four rows of sixteen numbers.
@@ -11,7 +12,7 @@ pub const INITIAL_PERMUTATION: [u8; 64] = [
 ];
 
 /// IP⁻¹.
-pub const FINAL_PERMUTATION: [u8; 64] = [
+pub const INVERSE_INITIAL_PERMUTATION: [u8; 64] = [
     40, 8, 48, 16, 56, 24, 64, 32, 39, 7, 47, 15, 55, 23, 63, 31, 38, 6, 46, 14, 54, 22, 62, 30,
     37, 5, 45, 13, 53, 21, 61, 29, 36, 4, 44, 12, 52, 20, 60, 28, 35, 3, 43, 11, 51, 19, 59, 27,
     34, 2, 42, 10, 50, 18, 58, 26, 33, 1, 41, 9, 49, 17, 57, 25,
@@ -30,20 +31,21 @@ pub const PERMUTATION: [u8; 32] = [
 ];
 
 /// PC-1.
-pub const KEY_CHOICE: [u8; 56] = [
+pub const PERMUTED_CHOICE_1: [u8; 56] = [
     57, 49, 41, 33, 25, 17, 9, 1, 58, 50, 42, 34, 26, 18, 10, 2, 59, 51, 43, 35, 27, 19, 11, 3, 60,
     52, 44, 36, 63, 55, 47, 39, 31, 23, 15, 7, 62, 54, 46, 38, 30, 22, 14, 6, 61, 53, 45, 37, 29,
     21, 13, 5, 28, 20, 12, 4,
 ];
 
 /// PC-2.
-pub const ROUND_KEY_CHOICE: [u8; 48] = [
+pub const PERMUTED_CHOICE_2: [u8; 48] = [
     14, 17, 11, 24, 1, 5, 3, 28, 15, 6, 21, 10, 23, 19, 12, 4, 26, 8, 16, 7, 27, 20, 13, 2, 41, 52,
     31, 37, 47, 55, 30, 40, 51, 45, 33, 48, 44, 49, 39, 56, 34, 53, 46, 42, 50, 36, 29, 32,
 ];
 
-/// By how many places C and D are turned to the left before each round's key is chosen.
-pub const SHIFTS: [u8; 16] = [1, 1, 2, 2, 2, 2, 2, 2, 1, 2, 2, 2, 2, 2, 2, 1];
+/// The left shifts: by how many places C and D are shifted, those that leave coming in behind, before each
+/// round's key is chosen.
+pub const LEFT_SHIFTS: [u8; 16] = [1, 1, 2, 2, 2, 2, 2, 2, 1, 2, 2, 2, 2, 2, 2, 1];
 
 /// S1 to S8, each in its four rows.
 pub const BOXES: [[[u8; 16]; 4]; 8] = [

@@ -1,6 +1,7 @@
 //! Known answers, outside vectors, and the two bodies side by side.
 
-use crate::{KeySchedule, TripleKey, decipher, encipher, plain};
+use crate::{ChainingValue, KeySchedule, TripleKey, TripleSchedule, decipher, encipher, plain};
+use std::test::Fail;
 
 // Keys, blocks and what DES makes of them, that have stood in print for long.
 const KNOWN: [(u64, u64, u64); 4] = [
@@ -15,8 +16,9 @@ const KNOWN: [(u64, u64, u64); 4] = [
 ];
 
 // Made by Python's package `cryptography` 48.0.0 (OpenSSL 3), TripleDES in mode ECB with one key three times;
-// keys and blocks are the first eight octets of the SHA-256 of `key0`, `block0` and so on.
-const OUTSIDE: [(u64, u64, u64); 24] = [
+// keys and blocks are the first eight octets of the SHA-256 of `key0`, `block0` and so on. Together they read
+// each of the 512 entries of the boxes; row 1, column 3 of S3 is read by the last alone.
+const OUTSIDE: [(u64, u64, u64); 25] = [
     (
         0xa819_408c_e501_0ca2,
         0x3da2_892d_3782_3d92,
@@ -137,6 +139,11 @@ const OUTSIDE: [(u64, u64, u64); 24] = [
         0x33bf_f580_03b4_58f2,
         0x03f7_9c5e_0b14_faa8,
     ),
+    (
+        0xe875_3fbc_8482_0c5b,
+        0xaae4_dea4_ea0a_d008,
+        0xd03b_aedb_ed73_4caf,
+    ),
 ];
 
 #[test]
@@ -201,4 +208,38 @@ fn triple_keys_are_values(rt: HostRuntime) {
     let copy = key;
     assert!(rt; key == copy);
     assert!(rt; key != TripleKey { third: 2, ..key });
+}
+
+#[test]
+fn triple_keys_print_no_key(rt: HostRuntime) -> Result<(), Fail> {
+    let key = TripleKey {
+        first: 0x1334_5779_9bbc_dff1,
+        second: 2,
+        third: 3,
+    };
+    assert_eq!(rt;
+        format!(in rt.alloc(); "{key:?}")?.as_str(),
+        "TripleKey(..)"
+    );
+    Ok(())
+}
+
+// The three steps one after another, and two blocks chained by hand.
+#[test]
+fn steps_one_by_one(rt: HostRuntime) {
+    for (key, block, _) in OUTSIDE {
+        let three = TripleKey {
+            first: key,
+            second: block,
+            third: key ^ block,
+        };
+        let schedule = TripleSchedule::new(&three);
+        let thrice = encipher(key ^ block, decipher(block, encipher(key, block)));
+        assert_eq!(rt; schedule.encipher(block), thrice);
+        assert!(rt; schedule.key() == three);
+        let mut value = ChainingValue::zero();
+        value.chain(schedule.first(), block);
+        value.chain(schedule.first(), key);
+        assert_eq!(rt; value.block(), encipher(key, encipher(key, block) ^ key));
+    }
 }

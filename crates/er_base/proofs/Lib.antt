@@ -2,3 +2,11 @@ pub mod Splitting
 pub mod Decimals
 pub mod Spellings
 pub mod SpelledOctets
+pub mod OctetNumbers
+pub mod FirstLines
+pub mod LineEnds
+pub mod FirstWords
+pub mod Begun
+pub mod SolidWords
+pub mod PrintedLines
+pub mod PrintedArguments

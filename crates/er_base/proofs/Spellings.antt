@@ -1,5 +1,5 @@
 -- Octets that are printed in hexadecimal are read back.
-use Rattle.std.proofs.Common.{arith, sym, Result, Err, ◌%◌, None, ◌∙◌, ◌/◌, Ok, inl, inr, ◌≡◌, ℕ, ◌<◌, ◌==◌, true, false, List, [], ◌∷◌, length, get_or, refl, ap, Some, codes}
+use Rattle.std.proofs.Common.{arith, MatchResult, sym, Result, Err, ◌%◌, ◌*◌, None, ◌∙◌, ◌/◌, Ok, inl, inr, ◌≡◌, ℕ, ◌<◌, ◌==◌, true, false, List, [], ◌∷◌, length, get_or, refl, ap, Some, codes}
 use Rattle.std.specs.Char.{is_ascii_hexdigit}
 use Rattle.std.specs.List.{list_all}
 use Rattle.std.proofs.lemmas.Bool.Decides.{nat_tests}
@@ -10,8 +10,8 @@ use Rattle.std.proofs.lemmas.Bool.{cases_lt, cases_Bool, ne_eqb}
 use Rattle.std.proofs.Math.Dec.{eqb-suc-zero}
 use Rattle.std.proofs.lemmas.List.{get_or_past}
 use Rattle.std.specs.Str.{bytes_eq}
-use Rattle.hex.specs.Hex.{IsBytes, decode_of, encode_lower, encode_with, lower_digits, is_hex_digit}
-use Rattle.hex.proofs.HexLemmas.{decode_of-encode_lower, decode_of-ok, decode_of-even, decode_pairs-digits, length-encode_with}
+use Rattle.hex.specs.Hex.{IsBytes, decode_of, decode_sized, encode_lower, encode_with, lower_digits, is_hex_digit}
+use Rattle.hex.proofs.HexLemmas.{decode_of-encode_lower, decode_of-ok, decode_of-even, decode_of-digits, decode_sized-twice, decode_pairs-digits, length-encode_with}
 use Rattle.er_base.specs.Hexadecimal.{octets_spelled, hex_of}
 
 -- past its end a list reads as octets too
@@ -81,3 +81,27 @@ other_octet word other =
 
 -- what the proof of `octets_of` needs
 pub ruleset spelled_lemmas = (digits_spell, other_octet)
+
+-- a word of digits that is decoded into room for its octets
+pub record IsDecoded (word : List ℕ) (room : ℕ) : Type 0 where
+  pub octets : List ℕ
+  pub spelled : octets_spelled word ≡ Some octets
+  pub decoded : decode_sized word room ≡ Ok octets
+
+pub digits_decoded : (word : List ℕ) (room : ℕ) → bytes_eq word (codes "-") ≡ false → 0 < length word
+    → list_all is_ascii_hexdigit word ≡ true → length word ≡ 2 * room → IsDecoded word room
+digits_decoded word room other some digits half =
+    let even : length word % 2 ≡ 0 = omega arith in
+    let all = AllPass-from_list_all is_hex_digit word (sym (all_digits word) ∙ digits) in
+    let read = decode_of-digits word even all in
+    record {
+      octets = read.0;
+      spelled = spelled_by word read.0 other some read.1;
+      decoded = decode_sized-twice word room half ∙ read.1;
+    }
+
+-- what is written where a word is decoded
+pub decoded_written : (word : List ℕ) (room : ℕ) (d : IsDecoded word room) (r : Result Unit FromHexError) (now : List ℕ)
+    → MatchResult (decode_sized word room) (λ bytes. (r ≡ Ok tt) × (now ≡ bytes)) (λ e. r ≡ Err e) → (r ≡ Ok tt) × (now ≡ d.octets)
+decoded_written word room d r now is =
+    let here : MatchResult (Ok d.octets) (λ bytes. (r ≡ Ok tt) × (now ≡ bytes)) (λ e. r ≡ Err e) = rw d.decoded at is in here

@@ -3,6 +3,7 @@ use Rattle.std.specs.Prelude.{ℕ, ◌==◌, ◌≡◌, ◌<◌, if◌then◌els
 use Rattle.std.specs.Result.{result_ok}
 use Rattle.std.specs.Str.{bytes_eq}
 use Rattle.hex.specs.Hex.{decode_of, encode_lower}
+use Rattle.er_base.specs.Octets.{AreOctets}
 
 -- the octets that a word spells, where it spells any
 unfoldable pub octets_spelled : List ℕ → Option (List ℕ)
@@ -24,3 +25,7 @@ pub record AppendsSpelled (word old new : List ℕ) : Type 0 where
   pub octets : List ℕ
   pub spelled : octets_spelled word ≡ Some octets
   pub appended : new ≡ old ++ octets
+
+-- what a word spells are octets
+abbrev pub WordsSpellOctets : Type 0
+WordsSpellOctets = (word octets : List ℕ) → octets_spelled word ≡ Some octets → AreOctets octets

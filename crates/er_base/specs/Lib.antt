@@ -1,6 +1,17 @@
 pub mod Stored
 pub mod Octets
+pub mod OctetLaws
 pub mod Words
 pub mod Numbers
 pub mod Hexadecimal
 pub mod Sides
+pub mod Causes
+pub mod Memory
+pub mod TextFaults
+pub mod Lines
+pub mod Arguments
+pub mod LineFaults
+pub mod Rows
+pub mod LineTexts
+pub mod Printing
+pub mod KeptWords

@@ -1,6 +1,7 @@
 ghost use Rattle.std.specs.Prelude.{◌≡◌, ◌^◌, ℕ, List, length};
 ghost use Rattle.er_base.specs.Octets.{Takes, one, two, three, eight};
 
+use crate::number_octets::number_of;
 use std::marker::Model;
 
 /// Reads octets from the front of a list, the most significant octet of a number first.
@@ -13,13 +14,6 @@ impl<'a> Model for Cursor<'a> {
     ghost Value = { List ℕ };
 
     ghost view = { λ c. c.octets.now };
-}
-
-#[tactic(auto, using(std::proofs::lemmas::Nat::be_bytes_8), unfolding(crate::specs::Octets::eight))]
-fn number_of(front: &[u8; 8]) -> u64
-    ensures { eight result ≡ front.now }
-{
-    u64::from_be_bytes(*front)
 }
 
 impl<'a> Cursor<'a> {

@@ -5,14 +5,14 @@ ghost use Rattle.std.specs.List.{list_all};
 ghost use Rattle.er_base.specs.Numbers.{has_leading_zero, is_canonical, decimal_of};
 
 use crate::no_memory::NoMemory;
-use std::alloc::Global;
+use itoa::Buffer;
 use std::str;
 
 fn begins_with_zero(word: &[u8]) -> bool
     requires { 0 < length word.now }
     ensures { result ≡ has_leading_zero word.now }
 {
-    word[0] == b'0' && !(word.len() == 1)
+    word[0] == b'0' && word.len() != 1
 }
 
 fn is_of_digits(word: &[u8]) -> bool
@@ -50,11 +50,11 @@ pub fn decimal(word: &[u8]) -> Option<u64>
 /// Appends the decimal digits of a number, as [`decimal`] reads them.
 ///
 /// After want of memory `out` is as it was.
-pub fn decimal_word(alloc: Global, number: u64, out: &mut Vec<u8>) -> Result<(), NoMemory>
+pub fn decimal_word(number: u64, out: &mut Vec<u8>) -> Result<(), NoMemory>
     ensures ok { OnOk result (out.new.items ≡ out.old.items ++ decimal number) }
     ensures err { OnErr result (out.new.items ≡ out.old.items) }
 {
-    let digits = number.to_string(alloc)?;
-    out.extend_from_slice(digits.as_bytes())?;
+    let mut digits = Buffer::new();
+    out.extend_from_slice(digits.format(number).as_bytes())?;
     Ok(())
 }

@@ -1,4 +1,5 @@
-ghost use Rattle.std.specs.Prelude.{◌≡◌, ◌+◌, ◌≤◌, ◌++◌, [], length, OnOk, IfOk};
+ghost use Rattle.std.specs.Prelude.{◌≡◌, ◌+◌, [], length, IfOk};
+ghost use Rattle.er_base.specs.Stored.{HasRoom, Appends};
 
 use crate::no_memory::NoMemory;
 use std::alloc::Global;
@@ -41,11 +42,10 @@ impl Room {
 
     /// Appends octets for which there is room.
     pub fn put(&mut self, octets: &[u8])
-        requires { length self.old.items + length octets.now ≤ self.old.capacity }
-        ensures items { self.new.items ≡ self.old.items ++ octets.now }
-        ensures capacity { self.new.capacity ≡ self.old.capacity }
+        requires { HasRoom self.old (length octets.now) }
+        ensures { Appends self.old self.new octets.now }
     {
-        let _ = self.items.extend_from_slice(octets);
+        self.items.extend_from_slice(octets).unwrap();
     }
 
     /// Lends the octets.

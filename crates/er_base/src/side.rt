@@ -1,5 +1,5 @@
 ghost use Rattle.std.specs.Prelude.{◌≡◌};
-ghost use Rattle.er_base.specs.Sides.{other, side_word};
+ghost use Rattle.er_base.specs.Sides.{other, side_word, side_of};
 
 /// An end of a link.
 #[derive(Clone, Copy, Debug, PartialEq, Eq)]
@@ -29,5 +29,18 @@ impl Side {
             Side::E => b"e",
             Side::R => b"r",
         }
+    }
+
+    /// The end that a word of this profile's texts names; None exactly where it names none.
+    pub fn named(word: &[u8]) -> Option<Side>
+        ensures { result ≡ side_of word.now }
+    {
+        if word == Side::E.word() {
+            return Some(Side::E);
+        }
+        if word == Side::R.word() {
+            return Some(Side::R);
+        }
+        None
     }
 }

@@ -1,8 +1,10 @@
 use crate::{
-    Cursor, HexFault, NoMemory, Octets, Release, Room, Side, decimal, decimal_word, hex_word, laws,
-    next_word, octets_of,
+    Cause, Cursor, HexFault, NoMemory, Octets, Release, Room, Side, TextFault, decimal,
+    decimal_word, eight_of, hex_word, next_word, number_of, octets_of, three_of, two_of,
 };
 use std::alloc::{AllocError, Global};
+use std::io;
+use std::io::ErrorKind;
 use std::test::Fail;
 
 #[test]
@@ -20,6 +22,15 @@ fn reads_numbers_most_significant_octet_first(rt: HostRuntime) {
     assert_eq!(rt; cursor.rest(), [0x77].as_slice());
     assert_eq!(rt; cursor.take_u8(), Some(0x77));
     assert_eq!(rt; cursor.take_u8(), None);
+}
+
+#[test]
+fn spells_numbers_most_significant_octet_first(rt: HostRuntime) {
+    assert_eq!(rt; two_of(0x1234), [0x12, 0x34]);
+    assert_eq!(rt; three_of(0x01_0203), [1, 2, 3]);
+    let eight = [0x80, 0, 0, 0, 0, 0, 0, 0x09];
+    assert_eq!(rt; eight_of(0x8000_0000_0000_0009), eight);
+    assert_eq!(rt; number_of(&eight), 0x8000_0000_0000_0009);
 }
 
 #[test]
@@ -74,12 +85,11 @@ fn reads_decimal_words(rt: HostRuntime) {
     for (word, number) in words {
         assert_eq!(rt; decimal(word), number, "{word:?}");
     }
-    laws::decimal_words();
 }
 
 fn octets_named(alloc: Global, word: &[u8]) -> Result<Result<Vec<u8>, HexFault>, AllocError> {
     let mut out = [7].to_vec(alloc)?;
-    match octets_of(alloc, word, &mut out) {
+    match octets_of(word, &mut out) {
         Ok(()) => Ok(Ok(out)),
         Err(fault) => Ok(Err(fault)),
     }
@@ -115,43 +125,68 @@ fn reads_hexadecimal_words(rt: HostRuntime) -> Result<(), Fail> {
 #[test]
 fn prints_hexadecimal_words(rt: HostRuntime) -> Result<(), Fail> {
     let mut out = Vec::new(rt.alloc());
-    hex_word(rt.alloc(), &[0x0A, 0xFF], &mut out)?;
-    hex_word(rt.alloc(), &[], &mut out)?;
+    hex_word(&[0x0A, 0xFF], &mut out)?;
+    hex_word(&[], &mut out)?;
     assert_eq!(rt; out.as_slice(), b"0aff-".as_slice());
-    laws::hexadecimal_words();
     Ok(())
 }
 
 #[test]
 fn prints_decimal_words(rt: HostRuntime) -> Result<(), Fail> {
     let mut out = Vec::new(rt.alloc());
-    decimal_word(rt.alloc(), 0, &mut out)?;
-    decimal_word(rt.alloc(), u64::MAX, &mut out)?;
+    decimal_word(0, &mut out)?;
+    decimal_word(u64::MAX, &mut out)?;
     assert_eq!(rt; out.as_slice(), b"018446744073709551615".as_slice());
     Ok(())
 }
 
 #[test]
-fn names_the_other_end(rt: HostRuntime) {
+fn names_the_ends(rt: HostRuntime) {
     assert_eq!(rt; Side::E.other(), Side::R);
     assert_eq!(rt; Side::R.other(), Side::E);
-    assert_eq!(rt; Side::E.word(), b"e".as_slice());
-    assert_eq!(rt; Side::R.word(), b"r".as_slice());
-    let release = Release {
-        reason: 0,
-        sub: 2,
-        by_peer: true,
-    };
-    assert!(rt;
-        release
-            != Release {
-                by_peer: false,
-                ..release
+    for side in [Side::E, Side::R] {
+        assert_eq!(rt; Side::named(side.word()), Some(side));
+    }
+    for word in [b"E".as_slice(), b"".as_slice(), b"er".as_slice()] {
+        assert_eq!(rt; Side::named(word), None, "{word:?}");
+    }
+}
+
+#[test]
+fn gives_each_cause_its_reason(rt: HostRuntime) {
+    let causes = [
+        (Cause::User { sub: 7 }, 0, 7),
+        (Cause::SetUpUnanswered, 1, 1),
+        (Cause::LineStalled, 1, 7),
+        (Cause::BlockRefused, 2, 4),
+        (Cause::OtherFeature, 3, 6),
+        (Cause::WrongDirection, 4, 2),
+        (Cause::Malformed, 5, 2),
+        (Cause::SetUpTimeSpent, 6, 1),
+    ];
+    for (cause, reason, sub) in causes {
+        let by_peer = false;
+        assert_eq!(rt;
+            cause.release(),
+            Release {
+                reason,
+                sub,
+                by_peer
             }
-    );
+        );
+        let release = Release::by_peer_di(reason, sub);
+        assert!(rt; release != cause.release(), "{cause:?}");
+    }
 }
 
 #[test]
 fn makes_want_of_memory(rt: HostRuntime) {
-    assert_eq!(rt; NoMemory::from(AllocError), NoMemory);
+    let want = NoMemory::from(AllocError);
+    let told = NoMemory::of_system(&io::Error::from(ErrorKind::OutOfMemory));
+    assert_eq!(rt; told, Some(want));
+    assert_eq!(rt;
+        NoMemory::of_system(&io::Error::from(ErrorKind::NotFound)),
+        None
+    );
+    assert_eq!(rt; TextFault::from(AllocError), TextFault::NoMemory(want));
 }

@@ -1,4 +1,5 @@
 ghost use Rattle.std.specs.Prelude.{◌≡◌};
+ghost use Rattle.er_base.specs.TextFaults.{IsNoMemory};
 ghost use Rattle.er_base.specs.declared.text_fault.TextFault.TheVariants as fault;
 
 use crate::no_memory::NoMemory;
@@ -16,29 +17,29 @@ pub enum TextFault {
         why: Why,
     },
     /// Want of memory.
-    NoMemory,
+    NoMemory(NoMemory),
 }
 
 impl From<NoMemory> for TextFault {
-    ghost from_gives = { λ _ e. e ≡ fault.NoMemory };
+    ghost from_gives = { λ want e. e ≡ fault.NoMemory want };
 
-    fn from(_fault: NoMemory) -> TextFault {
-        TextFault::NoMemory
+    fn from(want: NoMemory) -> TextFault {
+        TextFault::NoMemory(want)
     }
 }
 
 impl From<AllocError> for TextFault {
-    ghost from_gives = { λ _ e. e ≡ fault.NoMemory };
+    ghost from_gives = { λ _ e. IsNoMemory e };
 
-    fn from(_fault: AllocError) -> TextFault {
-        TextFault::NoMemory
+    fn from(refused: AllocError) -> TextFault {
+        TextFault::NoMemory(NoMemory::from(refused))
     }
 }
 
 impl<T: Drop> From<AllocFailed<T>> for TextFault {
-    ghost from_gives = { λ _ e. e ≡ fault.NoMemory };
+    ghost from_gives = { λ _ e. IsNoMemory e };
 
-    fn from(_fault: AllocFailed<T>) -> TextFault {
-        TextFault::NoMemory
+    fn from(refused: AllocFailed<T>) -> TextFault {
+        TextFault::NoMemory(NoMemory::from(refused))
     }
 }

@@ -15,7 +15,7 @@ fn word_length(line: &[u8]) -> usize
     ensures value { result ≡ prefix_len is_of_word line.now }
     ensures inside { result ≤ length line.now }
 {
-    line.iter().take_while(|octet| !(**octet == SPACE)).count()
+    line.iter().take_while(|octet| **octet != SPACE).count()
 }
 
 fn behind_spaces(line: &[u8]) -> &[u8]

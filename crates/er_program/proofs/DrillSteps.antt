@@ -1,57 +1,105 @@
--- The steps of a drill one by one: what they lead to, and the answer from each of them on.
-use Rattle.std.proofs.Common.{◌≡◌, Bool, ℕ, zero, suc, ◌+◌, ◌<◌, ◌≤◌, inl, inr, List, [], ◌∷◌, ◌++◌, length, drop, slice_get, Option, Some, None, option_map, refl, ap, sym, subst, ◌∙◌, append_assoc, arith}
-use Rattle.std.proofs.lemmas.Grind.{flat_map-append}
-use Rattle.std.proofs.lemmas.Bool.{cases_eq}
-use Rattle.std.proofs.lemmas.List.{drop_more, drop_all, take_all, length-map}
-use Rattle.std.proofs.lemmas.Option.{same_Some, slice_get-map, slice_get_within, slice_get_cases, get_or_from_slice_get}
+-- The steps of a drill one by one: what is read of each, how their lines grow, and that an answer goes on from the lines of the first ones.
+use Rattle.std.proofs.Common.{◌≡◌, ℕ, zero, suc, ◌+◌, ◌-◌, ◌≤◌, true, ◌⊎◌, inl, inr, List, [], ◌∷◌, ◌++◌, length, slice_get, Option, Some, None, option_map, refl, ap, sym, subst, ◌∙◌, append_assoc, append-nil, arith}
+use Rattle.std.proofs.lemmas.Bool.{cases_eq, cases_lt}
+use Rattle.std.proofs.lemmas.List.{take_all, take_more, length-map}
+use Rattle.std.proofs.lemmas.Option.{same_Some, none-some, slice_get-map, slice_get_within, slice_get_cases, get_or_from_slice_get}
+use Rattle.er_scenario.specs.declared.grammar.Grammar.{Grammar}
+use Rattle.er_scenario.specs.declared.level.Level.{Level}
+use Rattle.er_scenario.specs.declared.level.Level.TheVariants as level
 use Rattle.er_scenario.specs.declared.step.Step.{Step}
+use Rattle.er_scenario.specs.declared.step.Step.TheVariants as does
 use Rattle.er_scenario.specs.declared.numbered.Numbered.{Numbered}
 use Rattle.er_scenario.specs.declared.scenario.Scenario.{Scenario}
-use Rattle.er_scenario.specs.Printed.{IsInRange, AreInRange}
-use Rattle.er_world.specs.declared.world_fault.WorldFault.{WorldFault}
-use Rattle.er_world.specs.Worlds.{World, Came, move, world_run}
-use Rattle.er_world.specs.Texts.{lines, came_line, summary, drill_text}
-use Rattle.er_world.proofs.WorldRuns.{then_move, world_run_more}
-use Rattle.er_program.specs.Answers.{Answer, steps_answer, judged, fault_answer}
-use Rattle.er_program.specs.Runs.{steps_of, first_steps, first_lines, fault_behind, AreDone}
-use Rattle.er_program.specs.Drills.{drill_answer}
+use Rattle.er_scenario.specs.Table.{levels_of, has_level}
+use Rattle.er_scenario.specs.StepRanges.{IsInRange}
+use Rattle.er_scenario.specs.Texts.{name_of, IsReadable, AreReadable}
+use Rattle.drill_model.specs.declared.world_fault.WorldFault.{WorldFault}
+use Rattle.drill_model.specs.Steps.{IsOfLevel, HasEtcsNumbers}
+use Rattle.drill_model.specs.Worlds.{plan_of, steps_of}
+use Rattle.drill_model.specs.Texts.{step_lines, first_lines, last_lines, drill_text}
+use Rattle.drill_model.specs.Growth.{TextGrows}
+use Rattle.er_program.specs.Answers.{Answer, AreDone, FirstFault, IsDrillAnswer, IsWhole, BreaksOff, first_steps, lines_of_first, fault_behind_first, fault_answer}
 
-pub lines-append : (show : Bool) (xs ys : List Came) → lines show (xs ++ ys) ≡ lines show xs ++ lines show ys
-lines-append show xs ys = flat_map-append (came_line show) xs ys
+-- ---- what is read of a step
 
--- a step of the list is in its range
-pub in_range_at : (xs : List Numbered) (i : ℕ) (x : Numbered) → AreInRange xs → slice_get xs i ≡ Some x → IsInRange x.step
-in_range_at [] i x all at = absurd (cc)
-in_range_at (y ∷ ys) zero x all at = subst (λ (n : Numbered). IsInRange n.step) (same_Some y x at) all.0
-in_range_at (y ∷ ys) (suc i) x all at = in_range_at ys i x all.1 at
+-- a step of a line that its level has is one of that level
+pub of_level : (l : Level) (s : Step) → has_level (levels_of (name_of s)) l ≡ true → IsOfLevel l s
+of_level level.Safe (does.Fixed n engine rbc ke kr) is = tt
+of_level level.Link (does.Fixed n engine rbc ke kr) is = absurd (cc)
+of_level level.Full (does.Fixed n engine rbc ke kr) is = absurd (cc)
+of_level level.Safe (does.Link n engine rbc ke kr ra rb) is = tt
+of_level level.Link (does.Link n engine rbc ke kr ra rb) is = absurd (cc)
+of_level level.Full (does.Link n engine rbc ke kr ra rb) is = tt
+of_level level.Safe (does.Wire n) is = absurd (cc)
+of_level level.Link (does.Wire n) is = tt
+of_level level.Full (does.Wire n) is = absurd (cc)
+of_level l (does.Send n s text) is = tt
+of_level l (does.Pass n s) is = tt
+of_level l (does.Lose n s) is = tt
+of_level l (does.Repeat n s) is = tt
+of_level l (does.Alter n s place mask) is = tt
+of_level l (does.Put n s text) is = tt
+of_level l (does.Copy n s m t) is = tt
+of_level level.Safe (does.Take n s) is = absurd (cc)
+of_level level.Link (does.Take n s) is = absurd (cc)
+of_level level.Full (does.Take n s) is = tt
+of_level l (does.Release n s sub) is = tt
+of_level level.Safe (does.Tick moment) is = absurd (cc)
+of_level level.Link (does.Tick moment) is = tt
+of_level level.Full (does.Tick moment) is = tt
+of_level l (does.Drain n most) is = tt
 
--- what the first steps lead to, and what the next one does there
-abbrev pub first_run : Scenario → ℕ → World × List Came
-first_run s i = world_run (first_steps s i)
+pub etcs_numbers : (s : Step) → IsInRange s → HasEtcsNumbers s
+etcs_numbers (does.Fixed n engine rbc ke kr) range = (range.1, range.2)
+etcs_numbers (does.Link n engine rbc ke kr ra rb) range = (range.1, range.2)
+etcs_numbers (does.Wire n) range = tt
+etcs_numbers (does.Send n s text) range = tt
+etcs_numbers (does.Pass n s) range = tt
+etcs_numbers (does.Lose n s) range = tt
+etcs_numbers (does.Repeat n s) range = tt
+etcs_numbers (does.Alter n s place mask) range = tt
+etcs_numbers (does.Put n s text) range = tt
+etcs_numbers (does.Copy n s m t) range = tt
+etcs_numbers (does.Take n s) range = tt
+etcs_numbers (does.Release n s sub) range = tt
+etcs_numbers (does.Tick moment) range = tt
+etcs_numbers (does.Drain n most) range = tt
 
-abbrev pub next_move : Scenario → ℕ → Step → World × List Came
-next_move s i st = move (first_run s i).1 (first_run s i).0 st
+-- a step of the list is readable
+pub readable_at : (grammar : Grammar) (l : Level) (xs : List Numbered) (i : ℕ) (x : Numbered) → AreReadable grammar l xs → slice_get xs i ≡ Some x
+    → IsReadable grammar l x.step
+readable_at grammar l [] i x all at = absurd (cc)
+readable_at grammar l (y ∷ ys) zero x all at = subst (λ (n : Numbered). IsReadable grammar l n.step) (same_Some y x at) all.0
+readable_at grammar l (y ∷ ys) (suc i) x all at = readable_at grammar l ys i x all.1 at
+
+-- ---- first steps
 
 -- one step more
-pub run_more : (s : Scenario) (i : ℕ) (x : Numbered) → slice_get s.steps i ≡ Some x → first_run s (i + 1) ≡ then_move (first_run s i) x.step
-run_more s i x at =
+pub first_more : (s : Scenario) (i : ℕ) (x : Numbered) → slice_get s.steps i ≡ Some x → first_steps s (i + 1) ≡ first_steps s i ++ x.step ∷ []
+first_more s i x at =
     let here : slice_get (steps_of s) i ≡ Some x.step = slice_get-map (λ (n : Numbered). n.step) s.steps i ∙ ap (option_map (λ (n : Numbered). n.step)) at in
-    world_run_more (steps_of s) i x.step (slice_get_within (steps_of s) i x.step here) (get_or_from_slice_get (steps_of s) i x.step x.step here)
+    take_more (steps_of s) i x.step (slice_get_within (steps_of s) i x.step here)
+    ∙ ap (λ (y : Step). first_steps s i ++ y ∷ []) (get_or_from_slice_get (steps_of s) i x.step x.step here)
 
-pub lines_more : (s : Scenario) (i : ℕ) (x : Numbered) → slice_get s.steps i ≡ Some x
-    → first_lines s (i + 1) ≡ first_lines s i ++ lines s.show (next_move s i x.step).1
-lines_more s i x at =
-    ap (λ (r : World × List Came). lines s.show r.1) (run_more s i x at) ∙ lines-append s.show (first_run s i).1 (next_move s i x.step).1
+pub lines_more : TextGrows → (s : Scenario) (i : ℕ) (x : Numbered) → slice_get s.steps i ≡ Some x
+    → lines_of_first s (i + 1) ≡ lines_of_first s i ++ step_lines (plan_of s) (first_steps s i) x.step
+lines_more grows s i x at = ap (first_lines (plan_of s)) (first_more s i x at) ∙ grows (plan_of s) (first_steps s i) x.step
 
-pub done_more : (s : Scenario) (i : ℕ) (x : Numbered) → AreDone s i → slice_get s.steps i ≡ Some x → fault_behind (first_steps s i) x.step ≡ None
+-- behind the last step there is no further one
+pub all_steps : (s : Scenario) (i : ℕ) → length s.steps ≤ i → first_steps s i ≡ steps_of s
+all_steps s i over =
+    let long : length (steps_of s) ≡ length s.steps = length-map s.steps (λ (n : Numbered). n.step) in
+    take_all i (steps_of s) (omega (arith, long, over))
+
+pub done_more : (s : Scenario) (i : ℕ) (x : Numbered) → AreDone s i → slice_get s.steps i ≡ Some x → fault_behind_first s i x.step ≡ None
     → AreDone s (i + 1)
 done_more s i x done at none k y lt is =
     elim (cases_eq k i) [
       | inl same ↦
           let P : ℕ → Type 0 = λ j. slice_get s.steps j ≡ Some y in
           let one : x ≡ y = same_Some x y (sym at ∙ subst P same is) in
-          let Q : ℕ → Type 0 = λ j. fault_behind (first_steps s j) y.step ≡ None in
-          subst Q (sym same) (subst (λ (n : Numbered). fault_behind (first_steps s i) n.step ≡ None) one none)
+          let Q : ℕ → Type 0 = λ j. fault_behind_first s j y.step ≡ None in
+          subst Q (sym same) (subst (λ (n : Numbered). fault_behind_first s i n.step ≡ None) one none)
       | inr apart ↦ done k y (omega (arith, lt, apart)) is
     ]
 
@@ -59,96 +107,110 @@ done_more s i x done at none k y lt is =
 pub done_past : (s : Scenario) (i j : ℕ) → AreDone s i → length s.steps ≤ i → AreDone s j
 done_past s i j done over k y lt is = done k y (omega (arith, over, slice_get_within s.steps k y is)) is
 
--- the answer from a step on
-abbrev pub rest_answer : Scenario → ℕ → Answer
-rest_answer s i = steps_answer s.show (first_run s i).1 (first_run s i).0 (drop i s.steps)
+-- the next step is done or isn't
+judge : (s : Scenario) (i : ℕ) (x : Numbered) (f : Option WorldFault) → AreDone s i → slice_get s.steps i ≡ Some x → fault_behind_first s i x.step ≡ f
+    → AreDone s (i + 1) ⊎ FirstFault s
+judge s i x None done at is = inl (done_more s i x done at is)
+judge s i x (Some fault) done at is = inr (record { count = i; step = x; next = at; are_done = done; fault = fault; is_fault = is })
 
--- an answer behind a text
-abbrev pub behind : List ℕ → Answer → Answer
-behind text a = record a { text = text ++ a.text }
-
-behind_both : (one two : List ℕ) (a : Answer) → behind one (behind two a) ≡ behind (one ++ two) a
-behind_both one two a = ap (λ (t : List ℕ). record a { text = t }) (sym (append_assoc one two a.text))
-
--- the answer at a step
-rest_at : (s : Scenario) (i : ℕ) (x : Numbered) → slice_get s.steps i ≡ Some x
-    → rest_answer s i
-    ≡ judged x.line (fault_behind (first_steps s i) x.step) (lines s.show (next_move s i x.step).1)
-    (steps_answer s.show ((first_run s i).1 ++ (next_move s i x.step).1) (next_move s i x.step).0 (drop (i + 1) s.steps))
-rest_at s i x at =
-    let from : drop i s.steps ≡ x ∷ drop (i + 1) s.steps =
-    drop_more s.steps i x (slice_get_within s.steps i x at) ∙ ap (λ y. y ∷ drop (i + 1) s.steps) (get_or_from_slice_get s.steps i x x at) in
-    ap (λ (rest : List Numbered). steps_answer s.show (first_run s i).1 (first_run s i).0 rest) from
-
-rest_done : (s : Scenario) (i : ℕ) (x : Numbered) → slice_get s.steps i ≡ Some x → fault_behind (first_steps s i) x.step ≡ None
-    → rest_answer s i ≡ behind (lines s.show (next_move s i x.step).1) (rest_answer s (i + 1))
-rest_done s i x at none =
-    let now : List ℕ = lines s.show (next_move s i x.step).1 in
-    let others : World × List Came → Answer = λ (r : World × List Came). steps_answer s.show r.1 r.0 (drop (i + 1) s.steps) in
-    rest_at s i x at
-    ∙ ap (λ (f : Option WorldFault). judged x.line f now (others (then_move (first_run s i) x.step))) none
-    ∙ ap (λ (r : World × List Came). behind now (others r)) (sym (run_more s i x at))
-
--- where the first steps are done, the answer is that from there on behind their lines
-pub answer_front : (s : Scenario) (i : ℕ) → i ≤ length s.steps → AreDone s i → drill_answer s ≡ behind (first_lines s i) (rest_answer s i)
-answer_front s zero within done = refl
-answer_front s (suc i) within done =
+-- the first steps are all done, or one isn't
+pub done_or_not : (s : Scenario) (i : ℕ) → AreDone s i ⊎ FirstFault s
+done_or_not s zero = inl (λ k x lt is. absurd (omega (arith, lt)))
+done_or_not s (suc i) =
     let plus : i + 1 ≡ suc i = omega arith in
-    let before = answer_front s i (omega (arith, within)) (λ k x lt is. done k x (omega (arith, lt)) is) in
-    elim (slice_get_cases s.steps i).1 [
+    let P : ℕ → Type 0 = λ j. AreDone s j ⊎ FirstFault s in
+    elim (done_or_not s i) [
+      | inl done ↦
+          elim (slice_get_cases s.steps i).1 [
+            | inl here ↦ subst P plus (judge s i here.0 (fault_behind_first s i here.0.step) done here.2 refl)
+            | inr past ↦ inl (done_past s i (suc i) done past.0)
+          ]
+      | inr fault ↦ inr fault
+    ]
+
+-- ---- answers
+
+-- a text, and what follows in a longer one
+pub record Begins (text whole : List ℕ) : Type 0 where
+  pub rest : List ℕ
+  pub is : whole ≡ text ++ rest
+
+begins_more : (one two three more : List ℕ) → two ≡ one ++ more → Begins two three → Begins one three
+begins_more one two three more is b = record { rest = more ++ b.rest; is = b.is ∙ ap (λ t. t ++ b.rest) is ∙ append_assoc one more b.rest }
+
+-- the lines of first steps begin those of more of them
+lines_begin : TextGrows → (s : Scenario) (i d : ℕ) → i + d ≤ length s.steps → Begins (lines_of_first s i) (lines_of_first s (i + d))
+lines_begin grows s i zero within =
+    let same : i + 0 ≡ i = omega arith in
+    record { rest = []; is = ap (lines_of_first s) same ∙ sym (append-nil (lines_of_first s i)) }
+lines_begin grows s i (suc d) within =
+    let plus : (i + d) + 1 ≡ i + suc d = omega arith in
+    let before = lines_begin grows s i d (omega (arith, within)) in
+    elim (slice_get_cases s.steps (i + d)).1 [
       | inl here ↦
-          let x : Numbered = here.0 in
-          let at : slice_get s.steps i ≡ Some x = here.2 in
-          let none : fault_behind (first_steps s i) x.step ≡ None = done i x (omega arith) at in
-          let more : drill_answer s ≡ behind (first_lines s (i + 1)) (rest_answer s (i + 1)) =
-          before ∙ ap (behind (first_lines s i)) (rest_done s i x at none)
-          ∙ behind_both (first_lines s i) (lines s.show (next_move s i x.step).1) (rest_answer s (i + 1))
-          ∙ ap (λ (t : List ℕ). behind t (rest_answer s (i + 1))) (sym (lines_more s i x at)) in
-          subst (λ (j : ℕ). drill_answer s ≡ behind (first_lines s j) (rest_answer s j)) plus more
+          let one : List ℕ = step_lines (plan_of s) (first_steps s (i + d)) here.0.step in
+          let more : lines_of_first s ((i + d) + 1) ≡ lines_of_first s (i + d) ++ one = lines_more grows s (i + d) here.0 here.2 in
+          record {
+            rest = before.rest ++ one;
+            is = sym (ap (lines_of_first s) plus) ∙ more ∙ ap (λ t. t ++ one) before.is ∙ append_assoc (lines_of_first s i) before.rest one;
+          }
       | inr past ↦ absurd (omega (arith, within, past.0))
     ]
 
--- a step that isn't done ends the answer
-pub answer_fault : (s : Scenario) (i : ℕ) (x : Numbered) (fault : WorldFault) → AreDone s i → slice_get s.steps i ≡ Some x
-    → fault_behind (first_steps s i) x.step ≡ Some fault → drill_answer s ≡ behind (first_lines s i) (fault_answer x.line fault)
-answer_fault s i x fault done at is =
-    let within : i < length s.steps = slice_get_within s.steps i x at in
-    let now : List ℕ = lines s.show (next_move s i x.step).1 in
-    let others : Answer = steps_answer s.show ((first_run s i).1 ++ (next_move s i x.step).1) (next_move s i x.step).0 (drop (i + 1) s.steps) in
-    answer_front s i (omega (arith, within)) done
-    ∙ ap (behind (first_lines s i)) (rest_at s i x at ∙ ap (λ (f : Option WorldFault). judged x.line f now others) is)
+-- of steps i and on up to another number
+pub lines_begin_to : TextGrows → (s : Scenario) (i j : ℕ) → i ≤ j → j ≤ length s.steps → Begins (lines_of_first s i) (lines_of_first s j)
+lines_begin_to grows s i j below within =
+    let is : i + (j - i) ≡ j = omega (arith, below) in
+    subst (λ k. Begins (lines_of_first s i) (lines_of_first s k)) is (lines_begin grows s i (j - i) (omega (arith, is, within)))
 
--- where all steps are done, the closing lines end it
-pub answer_end : (s : Scenario) (i : ℕ) → AreDone s i → length s.steps ≤ i
-    → drill_answer s ≡ behind (first_lines s i) (record { status = 0; text = summary (first_run s i).0 })
-answer_end s i done over =
-    let end : ℕ = length s.steps in
-    let long : length (steps_of s) ≡ end = length-map s.steps (λ (n : Numbered). n.step) in
-    let all : first_steps s end ≡ first_steps s i = take_all end (steps_of s) (omega (arith, long)) ∙ sym (take_all i (steps_of s) (omega (arith, long, over))) in
-    let nil : drop end s.steps ≡ [] = drop_all end s.steps (omega arith) in
-    answer_front s end (omega arith) (done_past s i end done over)
-    ∙ ap (λ (rest : List Numbered). behind (first_lines s end) (steps_answer s.show (first_run s end).1 (first_run s end).0 rest)) nil
-    ∙ ap (λ (steps : List Step). behind (lines s.show (world_run steps).1) (record { status = 0; text = summary (world_run steps).0 })) all
+-- each scenario has an answer
+pub record HasAnswer (s : Scenario) : Type 0 where
+  pub answer : Answer
+  pub is : IsDrillAnswer s answer
 
--- which is the drill's text
-pub answer_whole : (s : Scenario) (i : ℕ) → AreDone s i → length s.steps ≤ i → drill_answer s ≡ record { status = 0; text = drill_text s.show (steps_of s) }
-answer_whole s i done over =
-    let long : length (steps_of s) ≡ length s.steps = length-map s.steps (λ (n : Numbered). n.step) in
-    let all : first_steps s i ≡ steps_of s = take_all i (steps_of s) (omega (arith, long, over)) in
-    answer_end s i done over
-    ∙ ap (λ (steps : List Step). behind (lines s.show (world_run steps).1) (record { status = 0; text = summary (world_run steps).0 })) all
+pub has_answer : (s : Scenario) → HasAnswer s
+has_answer s =
+    elim (done_or_not s (length s.steps)) [
+      | inl done ↦ record { answer = record { status = 0; text = drill_text s }; is = IsWhole done refl }
+      | inr first ↦
+          record {
+            answer = record {
+              status = (fault_answer first.step.line first.fault).status;
+              text = lines_of_first s first.count ++ (fault_answer first.step.line first.fault).text;
+            };
+            is = BreaksOff first refl;
+          }
+    ]
 
--- the lines of a step that is done stand behind those before it
-pub record Ahead (s : Scenario) (i : ℕ) (x : Numbered) : Type 0 where
-  pub rest : List ℕ
-  pub is : (drill_answer s).text ≡ (first_lines s i ++ lines s.show (next_move s i x.step).1) ++ rest
+-- a text before more
+begins_with : (one two tail : List ℕ) → Begins one two → Begins one (two ++ tail)
+begins_with one two tail b = record { rest = b.rest ++ tail; is = ap (λ t. t ++ tail) b.is ∙ append_assoc one b.rest tail }
 
-pub ahead : (s : Scenario) (i : ℕ) (x : Numbered) → AreDone s i → slice_get s.steps i ≡ Some x → fault_behind (first_steps s i) x.step ≡ None → Ahead s i x
-ahead s i x done at none =
-    let within : i < length s.steps = slice_get_within s.steps i x at in
-    let now : List ℕ = lines s.show (next_move s i x.step).1 in
-    record {
-      rest = (rest_answer s (i + 1)).text;
-      is = ap (λ (a : Answer). a.text) (answer_front s i (omega (arith, within)) done ∙ ap (behind (first_lines s i)) (rest_done s i x at none))
-          ∙ sym (append_assoc (first_lines s i) now (rest_answer s (i + 1)).text);
-    }
+-- a first fault lies behind the steps that are done
+fault_behind_done : (s : Scenario) (i : ℕ) → AreDone s i → (f : FirstFault s) → i ≤ f.count
+fault_behind_done s i done f =
+    elim (cases_lt f.count i) [
+      | inl beyond ↦ absurd (none-some f.fault (sym (done f.count f.step beyond f.next) ∙ f.is_fault))
+      | inr within ↦ within
+    ]
+
+-- an answer begins with the lines of the steps that are done
+pub answer_begins : TextGrows → (s : Scenario) (i : ℕ) → i ≤ length s.steps → AreDone s i → (a : Answer) → IsDrillAnswer s a → Begins (lines_of_first s i) a.text
+answer_begins grows s i within done a (IsWhole all is) =
+    let end : first_steps s (length s.steps) ≡ steps_of s = all_steps s (length s.steps) (omega arith) in
+    let front : Begins (lines_of_first s i) (lines_of_first s (length s.steps)) = lines_begin_to grows s i (length s.steps) within (omega arith) in
+    let whole : Begins (lines_of_first s i) (first_lines (plan_of s) (steps_of s)) =
+    subst (λ (steps : List Step). Begins (lines_of_first s i) (first_lines (plan_of s) steps)) end front in
+    subst (λ (x : Answer). Begins (lines_of_first s i) x.text) (sym is)
+    (begins_with (lines_of_first s i) (first_lines (plan_of s) (steps_of s)) (last_lines (plan_of s) (steps_of s)) whole)
+answer_begins grows s i within done a (BreaksOff f is) =
+    let front : Begins (lines_of_first s i) (lines_of_first s f.count) =
+    lines_begin_to grows s i f.count (fault_behind_done s i done f) (omega (arith, slice_get_within s.steps f.count f.step f.next)) in
+    subst (λ (x : Answer). Begins (lines_of_first s i) x.text) (sym is)
+    (begins_with (lines_of_first s i) (lines_of_first s f.count) (fault_answer f.step.line f.fault).text front)
+
+-- the answer of a scenario whose steps are all done is its text
+pub whole_is : (s : Scenario) → AreDone s (length s.steps) → (a : Answer) → IsDrillAnswer s a → a ≡ record { status = 0; text = drill_text s }
+whole_is s done a (IsWhole all is) = is
+whole_is s done a (BreaksOff f is) =
+    absurd (none-some f.fault (sym (done f.count f.step (omega (arith, slice_get_within s.steps f.count f.step f.next)) f.next) ∙ f.is_fault))

@@ -1,56 +1,81 @@
--- What is claimed of the world holds at every moment of the steps that are done, by the laws of the world.
-use Rattle.std.proofs.Common.{◌≡◌, ℕ, zero, suc, ◌+◌, inl, inr, List, [], ◌∷◌, length, map, take, slice_get, Some, option_map, sym, subst, ap, ◌∙◌, arith}
-use Rattle.std.proofs.lemmas.List.{take_all, length-map}
-use Rattle.std.proofs.lemmas.Option.{slice_get-map, slice_get_within, slice_get_cases, get_or_from_slice_get}
+-- What is claimed of the world holds at every moment of the steps that are done, by the laws of every list of steps.
+use Rattle.std.proofs.Common.{◌≡◌, ℕ, zero, suc, ◌+◌, inl, inr, List, [], ◌∷◌, ◌++◌, length, map, take, slice_index, Some, None, sym, subst, ap, ◌∙◌, arith}
+use Rattle.std.proofs.lemmas.Bool.{cases_lt}
+use Rattle.std.proofs.lemmas.List.{get_or_past}
+use Rattle.std.proofs.lemmas.Option.{slice_get_cases}
 use Rattle.std.specs.List.{AllByRecursion}
+use Rattle.er_base.specs.Octets.{AreOctets}
+use Rattle.er_scenario.specs.declared.grammar.Grammar.{Grammar}
+use Rattle.er_scenario.specs.declared.grammar.Grammar.TheVariants.{Running}
+use Rattle.er_scenario.specs.declared.level.Level.{Level}
 use Rattle.er_scenario.specs.declared.step.Step.{Step}
+use Rattle.er_scenario.specs.declared.step.Step.TheVariants as does
 use Rattle.er_scenario.specs.declared.numbered.Numbered.{Numbered}
 use Rattle.er_scenario.specs.declared.scenario.Scenario.{Scenario}
-use Rattle.er_scenario.specs.Printed.{IsInRange, CanBeRead}
-use Rattle.er_scenario.specs.Printed.{AreInRange as AllInRange}
-use Rattle.er_world.specs.Worlds.{world_run}
-use Rattle.er_world.specs.Headline.{AreInRange}
-use Rattle.sapdu.proofs.Spelled.{read_spelling}
-use Rattle.er_world.proofs.Membership.{authentic_life, connects_life}
-use Rattle.er_world.proofs.Delivery.{delivers_life}
-use Rattle.er_world.proofs.WorldLaws.{authentic_always_from, connects_from, delivers_from}
-use Rattle.er_world.proofs.Overfull.{IsBounded, new_bounded, world_run_bounded_more}
-use Rattle.er_program.specs.Runs.{steps_of, first_steps, AreDone, HoldsAlways}
+use Rattle.er_scenario.specs.StepRanges.{IsInRange, IsText}
+use Rattle.er_scenario.specs.Texts.{AreReadable}
+use Rattle.drill_model.specs.Links.{Link}
+use Rattle.drill_model.specs.Steps.{HasOctets, FitsFields}
+use Rattle.drill_model.specs.Worlds.{plan_of, link_at, overfull_side, world_run}
+use Rattle.drill_model.specs.Headline.{LawfulAlways, OpensAlways, RoomAlways, DeliversAlways}
+use Rattle.er_program.specs.Answers.{AreDone, first_steps}
+use Rattle.er_program.proofs.DrillSteps.{etcs_numbers, first_more, all_steps}
+use Rattle.er_program.proofs.RunMeanings.{AlwaysHolds}
 
--- the first steps are in their ranges
-first_in_range : (xs : List Numbered) (k : ℕ) → AllInRange xs → AllByRecursion IsInRange (take k (map (λ (x : Numbered). x.step) xs))
-first_in_range xs zero all = tt
-first_in_range [] (suc k) all = tt
-first_in_range (x ∷ xs) (suc k) all = (all.0, first_in_range xs k all.1)
-
--- behind the steps that are done no link is overfull
-bounded : (s : Scenario) (k : ℕ) → AreDone s k → IsBounded (world_run (first_steps s k)).0
-bounded s zero done = new_bounded
-bounded s (suc k) done =
-    let plus : k + 1 ≡ suc k = omega arith in
-    let Q : List Step → Type 0 = λ steps. IsBounded (world_run steps).0 in
-    let before : IsBounded (world_run (first_steps s k)).0 = bounded s k (λ j x lt is. done j x (omega (arith, lt)) is) in
-    elim (slice_get_cases s.steps k).1 [
-      | inl here ↦
-          let x : Numbered = here.0 in
-          let at : slice_get (steps_of s) k ≡ Some x.step = slice_get-map (λ (n : Numbered). n.step) s.steps k ∙ ap (option_map (λ (n : Numbered). n.step)) here.2 in
-          let next : IsBounded (world_run (first_steps s (k + 1))).0 =
-          world_run_bounded_more (steps_of s) k x.step (slice_get_within (steps_of s) k x.step at) (get_or_from_slice_get (steps_of s) k x.step x.step at)
-          (done k x (omega arith) here.2) before in
-          subst (λ (j : ℕ). Q (first_steps s j)) plus next
+-- the octets of a text
+text_octets : (text : List ℕ) → IsText text → AreOctets text
+text_octets text is k =
+    elim (cases_lt k (length text)) [
+      | inl within ↦ is.1 k within
       | inr past ↦
-          let long : length (steps_of s) ≡ length s.steps = length-map s.steps (λ (n : Numbered). n.step) in
-          let same : first_steps s k ≡ first_steps s (suc k) =
-          take_all k (steps_of s) (omega (arith, long, past.0)) ∙ sym (take_all (suc k) (steps_of s) (omega (arith, long, past.0))) in
-          subst Q same before
+          let nothing : slice_index text k ≡ 0 = get_or_past text k 0 past in
+          omega (arith, nothing)
     ]
 
-pub holds_always : (s : Scenario) → CanBeRead s → (count : ℕ) → AreDone s count → HoldsAlways s count
-holds_always s readable count done k le =
-    let all : AreInRange (first_steps s k) = first_in_range s.steps k readable.steps in
-    record {
-      authentic = authentic_always_from authentic_life (first_steps s k) all;
-      itself = connects_from connects_life (first_steps s k) all;
-      delivers = delivers_from (λ opening steps. delivers_life read_spelling opening steps) (first_steps s k) all;
-      room = bounded s k (λ j x lt is. done j x (omega (arith, lt, le)) is);
-    }
+has_octets : (s : Step) → IsInRange s → HasOctets s
+has_octets (does.Fixed n engine rbc ke kr) range = tt
+has_octets (does.Link n engine rbc ke kr ra rb) range = (range.5, range.6)
+has_octets (does.Wire n) range = tt
+has_octets (does.Send n s text) range = text_octets text range.1
+has_octets (does.Pass n s) range = tt
+has_octets (does.Lose n s) range = tt
+has_octets (does.Repeat n s) range = tt
+has_octets (does.Alter n s place mask) range = tt
+has_octets (does.Put n s text) range = tt
+has_octets (does.Copy n s m t) range = tt
+has_octets (does.Take n s) range = tt
+has_octets (does.Release n s sub) range = tt
+has_octets (does.Tick moment) range = tt
+has_octets (does.Drain n most) range = tt
+
+-- the first steps fit their fields
+first_fit : (grammar : Grammar) (l : Level) (xs : List Numbered) (k : ℕ) → AreReadable grammar l xs
+    → AllByRecursion FitsFields (take k (map (λ (x : Numbered). x.step) xs))
+first_fit grammar l xs zero all = tt
+first_fit grammar l [] (suc k) all = tt
+first_fit grammar l (x ∷ xs) (suc k) all =
+    ((etcs_numbers x.step all.0.range, has_octets x.step all.0.range), first_fit grammar l xs k all.1)
+
+-- behind the steps that are done no link is overfull
+room : RoomAlways → (s : Scenario) (k : ℕ) → AreDone s k → (n : ℕ) (l : Link)
+    → link_at (world_run (plan_of s) (first_steps s k)).0 n ≡ Some l → overfull_side l ≡ None
+room law s zero done n l at = absurd (cc)
+room law s (suc k) done n l at =
+    let plus : k + 1 ≡ suc k = omega arith in
+    let At : List Step → Type 0 = λ steps. link_at (world_run (plan_of s) steps).0 n ≡ Some l in
+    elim (slice_get_cases s.steps k).1 [
+      | inl here ↦
+          let is : first_steps s (suc k) ≡ first_steps s k ++ here.0.step ∷ [] = sym (ap (first_steps s) plus) ∙ first_more s k here.0 here.2 in
+          law (plan_of s) (first_steps s k) here.0.step (done k here.0 (omega arith) here.2) n l (subst At is at)
+      | inr past ↦
+          let is : first_steps s (suc k) ≡ first_steps s k = all_steps s (suc k) (omega (arith, past.0)) ∙ sym (all_steps s k past.0) in
+          room law s k (λ j x lt next. done j x (omega (arith, lt)) next) n l (subst At is at)
+    ]
+
+pub holds_always : LawfulAlways → OpensAlways → DeliversAlways → RoomAlways → AlwaysHolds
+holds_always lawful opens delivers law s readable count done k le = record {
+  opens = opens (plan_of s) (first_steps s k);
+  lawful = lawful (plan_of s) (first_steps s k);
+  delivers = delivers (plan_of s) (first_steps s k) (first_fit Running s.level s.steps k readable.steps);
+  room = room law s k (λ j x lt is. done j x (omega (arith, lt, le)) is);
+}

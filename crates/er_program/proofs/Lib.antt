@@ -1,8 +1,7 @@
-pub mod Growth
-pub mod MemoryFiles
-pub mod WholeReads
+mod WholeReads
+pub mod WriterProgress
 pub mod DrillSteps
 pub mod DrillRuns
 pub mod RunEndings
-pub mod HoldsAlways
 pub mod RunMeanings
+pub mod HoldsAlways

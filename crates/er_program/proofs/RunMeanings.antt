@@ -1,67 +1,40 @@
 -- What a run means by its status, from how it ended.
-use Rattle.std.proofs.Common.{◌≡◌, ◌⊎◌, ℕ, zero, suc, ◌+◌, inl, inr, List, [], ◌++◌, length, slice_get, Option, Some, None, Result, Ok, Err, refl, sym, ◌∙◌, ap, arith, subst}
-use Rattle.std.proofs.lemmas.Option.{slice_get_cases, none-some}
+use Rattle.std.proofs.Common.{◌≡◌, ℕ, inl, inr, List, [], ◌∷◌, ◌++◌, length, Option, Some, None, Result, Ok, Err, refl, sym, ◌∙◌, ap, arith, subst}
+use Rattle.std.proofs.lemmas.Option.{none-some, slice_get_within}
 use Rattle.er_base.specs.declared.text_fault.TextFault.{TextFault}
 use Rattle.er_base.specs.declared.text_fault.TextFault.TheVariants as text
 use Rattle.er_base.specs.declared.why.Why.{Why}
-use Rattle.er_scenario.specs.declared.numbered.Numbered.{Numbered}
 use Rattle.er_scenario.specs.declared.scenario.Scenario.{Scenario}
 use Rattle.er_scenario.specs.Files.{scenario_of}
-use Rattle.er_scenario.specs.Printed.{CanBeRead}
-use Rattle.er_world.specs.declared.world_fault.WorldFault.{WorldFault}
-use Rattle.er_world.specs.declared.world_fault.WorldFault.TheVariants.{NoLink, LinkTwice, Overfull, NoMemory}
-use Rattle.er_world.specs.Texts.{drill_text}
-use Rattle.er_program.specs.Outside.{Grew, GrewPart, Rose, HasFile}
-use Rattle.er_program.specs.Answers.{Answer, HasFetched, Files, scenario_answer, fetched_answer, fault_answer, fault_line, why_word, fetch_line, usage_line, memory_line}
-use Rattle.er_program.specs.Runs.{steps_of, first_steps, first_lines, fault_behind, AreDone, HoldsAlways, BreaksOff, AreFirstLines, Means, HasStatus, IsSinkFailed, IsOutOfMemory, IsComplete}
-use Rattle.er_program.specs.Drills.{drill_answer}
-use Rattle.er_program.specs.Endings.{HasReadable, IsReadable, IsBegun, Finished, Broken, Exhausted, Exhausts}
+use Rattle.er_scenario.specs.Texts.{CanBeRead}
+use Rattle.drill_model.specs.declared.world_fault.WorldFault.{WorldFault}
+use Rattle.drill_model.specs.declared.world_fault.WorldFault.TheVariants.{NoLink, LinkTwice, MomentBack, Overfull, NoMemory}
+use Rattle.drill_model.specs.Texts.{drill_text}
+use Rattle.link_trait.specs.Outside.{Grew, GrewPart, Rose, HasFile}
+use Rattle.link_trait.specs.Growth.{grew_then}
+use Rattle.er_program.specs.Commands.{Command, Misused, Drill, names_of}
+use Rattle.er_program.specs.LastLines.{fault_line, why_word, fetch_line, usage_line, memory_line}
+use Rattle.er_program.specs.Answers.{Answer, HasFetched, IsFetchedAnswer, Files, FirstFault, AreDone, IsDrillAnswer, IsWhole, BreaksOff, IsScenarioAnswer, lines_of_first, fault_answer}
+use Rattle.er_program.specs.Runs.{HoldsAlways, BrokeOff, AreFirstLines, Means, HasStatus, IsSinkFailed, IsOutOfMemory, IsComplete}
+use Rattle.er_program.specs.Writing.{HasReadable, IsReadable, IsBegun, Finished, Broken, Exhausted, Exhausts}
 use Rattle.er_program.specs.declared.status.Status.{Status}
-use Rattle.er_program.proofs.Growth.{grew_then}
-use Rattle.er_program.proofs.DrillSteps.{done_more, done_past, answer_fault, answer_whole}
 
 -- what is claimed of the world holds at every moment of the steps that are done
 abbrev pub AlwaysHolds : Type 0
 AlwaysHolds = (s : Scenario) → CanBeRead s → (count : ℕ) → AreDone s count → HoldsAlways s count
 
--- a step that isn't done behind those that are
-pub record FirstFault (s : Scenario) : Type 0 where
-  pub count : ℕ
-  pub step : Numbered
-  pub next : slice_get s.steps count ≡ Some step
-  pub are_done : AreDone s count
-  pub fault : WorldFault
-  pub is_fault : fault_behind (first_steps s count) step.step ≡ Some fault
+-- names that were asked for
+abbrev pub Names : Type 0
+Names = Option (List (List ℕ))
 
--- the next step is done or isn't
-judge : (s : Scenario) (i : ℕ) (x : Numbered) (f : Option WorldFault) → AreDone s i → slice_get s.steps i ≡ Some x → fault_behind (first_steps s i) x.step ≡ f
-    → AreDone s (i + 1) ⊎ FirstFault s
-judge s i x None done at is = inl (done_more s i x done at is)
-judge s i x (Some fault) done at is = inr (record { count = i; step = x; next = at; are_done = done; fault = fault; is_fault = is })
+-- ---- each status alone
 
--- the first steps are all done, or one isn't
-pub done_or_not : (s : Scenario) (i : ℕ) → AreDone s i ⊎ FirstFault s
-done_or_not s zero = inl (λ k x lt is. absurd (omega (arith, lt)))
-done_or_not s (suc i) =
-    let plus : i + 1 ≡ suc i = omega arith in
-    let P : ℕ → Type 0 = λ j. AreDone s j ⊎ FirstFault s in
-    elim (done_or_not s i) [
-      | inl done ↦
-          elim (slice_get_cases s.steps i).1 [
-            | inl here ↦ subst P plus (judge s i here.0 (fault_behind (first_steps s i) here.0.step) done here.2 refl)
-            | inr past ↦ inl (done_past s i (suc i) done past.0)
-          ]
-      | inr fault ↦ inr fault
-    ]
-
--- each status alone
-
-means_usage : (files : Files) (c d f g : ℕ) (before now : Option (List ℕ)) (status : ℕ)
-    → status ≡ 1 → Grew before now usage_line → Means None files c d f g before now status
-means_usage files c d f g before now status is printed = record {
+means_usage : (files : Files) (p q : Names) (c d f g : ℕ) (before now : Option (List ℕ)) (status : ℕ)
+    → status ≡ 1 → Grew before now usage_line → Means Misused files p q c d f g before now status
+means_usage files p q c d f g before now status is printed = record {
   known = inr (inl is);
   done = λ h. absurd (omega arith);
-  usage = λ h. record { unfit = refl; printed = printed };
+  usage = λ h. printed;
   fetch = λ h. absurd (omega arith);
   refused = λ h. absurd (omega arith);
   sink = λ h. absurd (omega arith);
@@ -70,13 +43,13 @@ means_usage files c d f g before now status is printed = record {
   complete = λ fine. inl is;
 }
 
-means_unfetched : (name : List ℕ) (files : Files) (c d f g : ℕ) (before now : Option (List ℕ)) (status : ℕ)
-    → status ≡ 2 → Rose c d → Grew before now (fetch_line name) → Means (Some name) files c d f g before now status
-means_unfetched name files c d f g before now status is rose printed = record {
+means_unfetched : (name : List ℕ) (files : Files) (p q : Names) (c d f g : ℕ) (before now : Option (List ℕ)) (status : ℕ)
+    → Grew p q (name ∷ []) → status ≡ 2 → Rose c d → Grew before now (fetch_line name) → Means (Drill name) files p q c d f g before now status
+means_unfetched name files p q c d f g before now status asked is rose printed = record {
   known = inr (inr (inl is));
   done = λ h. absurd (omega arith);
   usage = λ h. absurd (omega arith);
-  fetch = λ h. record { name = name; fits = refl; rose = rose; printed = printed };
+  fetch = λ h. record { first = []; name = name; rest = []; is = refl; asked_for = asked; rose = rose; printed = printed };
   refused = λ h. absurd (omega arith);
   sink = λ h. absurd (omega arith);
   memory = λ h. absurd (omega arith);
@@ -85,13 +58,13 @@ means_unfetched name files c d f g before now status is rose printed = record {
 }
 
 -- want of memory is complete
-memory_complete : (command : Option (List ℕ)) (files : Files) (c d f g status : ℕ) → status ≡ 7 → IsComplete command files c d f g status
-memory_complete None files c d f g status is = λ fine. inr is
-memory_complete (Some name) files c d f g status is = λ good fine. inr is
+memory_complete : (command : Command) (files : Files) (c d f g status : ℕ) → status ≡ 7 → IsComplete command files c d f g status
+memory_complete Misused files c d f g status is = λ fine. inr is
+memory_complete (Drill name) files c d f g status is = λ good fine. inr is
 
-means_memory : (command : Option (List ℕ)) (files : Files) (c d f g : ℕ) (before now : Option (List ℕ)) (status : ℕ)
-    → status ≡ 7 → IsOutOfMemory command files before now → Means command files c d f g before now status
-means_memory command files c d f g before now status is out = record {
+means_memory : (command : Command) (files : Files) (p q : Names) (c d f g : ℕ) (before now : Option (List ℕ)) (status : ℕ)
+    → status ≡ 7 → IsOutOfMemory command files before now → Means command files p q c d f g before now status
+means_memory command files p q c d f g before now status is out = record {
   known = inr (inr (inr (inr (inr (inl is)))));
   done = λ h. absurd (omega arith);
   usage = λ h. absurd (omega arith);
@@ -104,13 +77,13 @@ means_memory command files c d f g before now status is out = record {
 }
 
 -- nothing is complete where the sink's count rose
-not_complete : (command : Option (List ℕ)) (files : Files) (c d f g status : ℕ) → Rose f g → IsComplete command files c d f g status
-not_complete None files c d f g status rose = λ fine. absurd (fine rose)
-not_complete (Some name) files c d f g status rose = λ good fine. absurd (fine rose)
+not_complete : (command : Command) (files : Files) (c d f g status : ℕ) → Rose f g → IsComplete command files c d f g status
+not_complete Misused files c d f g status rose = λ fine. absurd (fine rose)
+not_complete (Drill name) files c d f g status rose = λ good fine. absurd (fine rose)
 
-means_sink : (command : Option (List ℕ)) (files : Files) (c d f g : ℕ) (before now : Option (List ℕ)) (status : ℕ)
-    → status ≡ 5 → IsSinkFailed command files c d f g before now → Means command files c d f g before now status
-means_sink command files c d f g before now status is failed = record {
+means_sink : (command : Command) (files : Files) (p q : Names) (c d f g : ℕ) (before now : Option (List ℕ)) (status : ℕ)
+    → status ≡ 5 → IsSinkFailed command files c d f g before now → Means command files p q c d f g before now status
+means_sink command files p q c d f g before now status is failed = record {
   known = inr (inr (inr (inr (inl is))));
   done = λ h. absurd (omega arith);
   usage = λ h. absurd (omega arith);
@@ -122,29 +95,15 @@ means_sink command files c d f g before now status is failed = record {
   complete = not_complete command files c d f g status failed.rose;
 }
 
--- the status of a file
-has_status : (file : List ℕ) (status : ℕ) (s : Scenario) → scenario_of file ≡ Ok s → status ≡ (drill_answer s).status
-    → (((k : ℕ) → AreDone s k) → status ≡ 0) → HasStatus file status
-has_status file status s spelled stated zeroed = record {
-  is = stated ∙ sym (ap (λ (o : Result Scenario TextFault). (scenario_answer o).status) spelled);
-  all_done = λ other is done.
-      let same : other ≡ s = cc in
-      zeroed (subst (λ (x : Scenario). (k : ℕ) → AreDone x k) same done);
-}
-
-means_out_of_form : (name file : List ℕ) (line : ℕ) (why : Why) (files : Files) (c d f g : ℕ) (before now : Option (List ℕ)) (status : ℕ)
+means_out_of_form : (name file : List ℕ) (line : ℕ) (why : Why) (files : Files) (p q : Names) (c d f g : ℕ) (before now : Option (List ℕ)) (status : ℕ)
     → HasFile files name file → scenario_of file ≡ Err (text.At line why) → status ≡ 3 → Grew before now (fault_line line (why_word why))
-    → Means (Some name) files c d f g before now status
-means_out_of_form name file line why files c d f g before now status stands unspelled is printed = record {
+    → Means (Drill name) files p q c d f g before now status
+means_out_of_form name file line why files p q c d f g before now status stands unspelled is printed = record {
   known = inr (inr (inr (inl is)));
   done = λ h. absurd (omega arith);
   usage = λ h. absurd (omega arith);
   fetch = λ h. absurd (omega arith);
-  refused = λ h. record {
-    name = name;
-    fits = refl;
-    cause = inl (record { file = file; stands = stands; line = line; why = why; unspelled = unspelled; printed = printed });
-  };
+  refused = λ h. inl (record { file = file; stands = stands; line = line; why = why; unspelled = unspelled; printed = printed });
   sink = λ h. absurd (omega arith);
   memory = λ h. absurd (omega arith);
   overfull = λ h. absurd (omega arith);
@@ -152,25 +111,28 @@ means_out_of_form name file line why files c d f g before now status stands unsp
     file,
     stands,
     record {
-      is = is ∙ sym (ap (λ (o : Result Scenario TextFault). (scenario_answer o).status) unspelled);
+      answer = record { status = 3; text = fault_line line (why_word why) };
+      answers = rw unspelled refl;
+      is = is;
       all_done = λ other spelled done. absurd (cc);
     },
   );
 }
 
+-- ---- drills
+
 -- all steps are done
-means_done : (name file : List ℕ) (s : Scenario) (files : Files) (c d f g : ℕ) (before now : Option (List ℕ)) (status : ℕ)
-    → AlwaysHolds → HasFile files name file → scenario_of file ≡ Ok s → CanBeRead s → ((k : ℕ) → AreDone s k)
-    → status ≡ 0 → status ≡ (drill_answer s).status → Grew before now (drill_text s.show (steps_of s))
-    → Means (Some name) files c d f g before now status
-means_done name file s files c d f g before now status law stands spelled readable done is stated printed = record {
+means_done : (name file : List ℕ) (s : Scenario) (files : Files) (p q : Names) (c d f g : ℕ) (before now : Option (List ℕ)) (status : ℕ)
+    → AlwaysHolds → HasFile files name file → scenario_of file ≡ Ok s → CanBeRead s → AreDone s (length s.steps)
+    → status ≡ 0 → Grew before now (drill_text s) → HasStatus file status → Means (Drill name) files p q c d f g before now status
+means_done name file s files p q c d f g before now status law stands spelled readable done is printed has = record {
   known = inl is;
   done = λ h. record {
     scenario = s;
     spells = record { file = file; stands = stands; spelled = spelled };
     are_done = done;
     printed = printed;
-    holds = λ k. law s readable k (done k);
+    holds = law s readable (length s.steps) done;
   };
   usage = λ h. absurd (omega arith);
   fetch = λ h. absurd (omega arith);
@@ -178,27 +140,27 @@ means_done name file s files c d f g before now status law stands spelled readab
   sink = λ h. absurd (omega arith);
   memory = λ h. absurd (omega arith);
   overfull = λ h. absurd (omega arith);
-  complete = λ good fine. inl (file, stands, has_status file status s spelled stated (λ all. is));
+  complete = λ good fine. inl (file, stands, has);
 }
 
 -- a step isn't done: it is refused, or too many frames would wait
-means_refused : (name file : List ℕ) (s : Scenario) (files : Files) (c d f g : ℕ) (before now : Option (List ℕ)) (status : ℕ)
-    → status ≡ 3 → BreaksOff name files 3 before now → HasFile files name file → HasStatus file status → Means (Some name) files c d f g before now status
-means_refused name file s files c d f g before now status is breaks stands has = record {
+means_refused : (name file : List ℕ) (files : Files) (p q : Names) (c d f g : ℕ) (before now : Option (List ℕ)) (status : ℕ)
+    → status ≡ 3 → BrokeOff name files 3 before now → HasFile files name file → HasStatus file status → Means (Drill name) files p q c d f g before now status
+means_refused name file files p q c d f g before now status is broke stands has = record {
   known = inr (inr (inr (inl is)));
   done = λ h. absurd (omega arith);
   usage = λ h. absurd (omega arith);
   fetch = λ h. absurd (omega arith);
-  refused = λ h. record { name = name; fits = refl; cause = inr breaks };
+  refused = λ h. inr broke;
   sink = λ h. absurd (omega arith);
   memory = λ h. absurd (omega arith);
   overfull = λ h. absurd (omega arith);
   complete = λ good fine. inl (file, stands, has);
 }
 
-means_overfull : (name file : List ℕ) (s : Scenario) (files : Files) (c d f g : ℕ) (before now : Option (List ℕ)) (status : ℕ)
-    → status ≡ 8 → BreaksOff name files 8 before now → HasFile files name file → HasStatus file status → Means (Some name) files c d f g before now status
-means_overfull name file s files c d f g before now status is breaks stands has = record {
+means_overfull : (name file : List ℕ) (files : Files) (p q : Names) (c d f g : ℕ) (before now : Option (List ℕ)) (status : ℕ)
+    → status ≡ 8 → BrokeOff name files 8 before now → HasFile files name file → HasStatus file status → Means (Drill name) files p q c d f g before now status
+means_overfull name file files p q c d f g before now status is broke stands has = record {
   known = inr (inr (inr (inr (inr (inr is)))));
   done = λ h. absurd (omega arith);
   usage = λ h. absurd (omega arith);
@@ -206,123 +168,126 @@ means_overfull name file s files c d f g before now status is breaks stands has 
   refused = λ h. absurd (omega arith);
   sink = λ h. absurd (omega arith);
   memory = λ h. absurd (omega arith);
-  overfull = λ h. record { name = name; fits = refl; cause = breaks };
+  overfull = λ h. broke;
   complete = λ good fine. inl (file, stands, has);
 }
 
 -- what a step that isn't done breaks off
-breaks_off : (name file : List ℕ) (s : Scenario) (files : Files) (before now : Option (List ℕ)) (status : ℕ) (first : FirstFault s)
+broke_off : (name file : List ℕ) (s : Scenario) (files : Files) (before now : Option (List ℕ)) (status : ℕ) (first : FirstFault s)
     → AlwaysHolds → HasFile files name file → scenario_of file ≡ Ok s → CanBeRead s → status ≡ (fault_answer first.step.line first.fault).status
-    → Grew before now (first_lines s first.count ++ (fault_answer first.step.line first.fault).text) → BreaksOff name files status before now
-breaks_off name file s files before now status first law stands spelled readable stated printed = record {
+    → Grew before now (lines_of_first s first.count ++ (fault_answer first.step.line first.fault).text) → BrokeOff name files status before now
+broke_off name file s files before now status first law stands spelled readable stated printed = record {
   scenario = s;
   spells = record { file = file; stands = stands; spelled = spelled };
-  count = first.count;
-  step = first.step;
-  next = first.next;
-  are_done = first.are_done;
-  fault = first.fault;
-  is_fault = first.is_fault;
+  first = first;
   stated = stated;
   printed = printed;
   holds = law s readable first.count first.are_done;
 }
 
 -- a step isn't done, by its fault
-means_fault : (name file : List ℕ) (s : Scenario) (files : Files) (c d f g : ℕ) (before now : Option (List ℕ)) (status : ℕ)
-    (count : ℕ) (x : Numbered) (fault : WorldFault)
+means_fault : (name file : List ℕ) (s : Scenario) (files : Files) (p q : Names) (c d f g : ℕ) (before now : Option (List ℕ)) (status : ℕ)
+    (fault : WorldFault) (first : FirstFault s) → first.fault ≡ fault
     → AlwaysHolds → HasFile files name file → scenario_of file ≡ Ok s → CanBeRead s
-    → slice_get s.steps count ≡ Some x → AreDone s count → fault_behind (first_steps s count) x.step ≡ Some fault
-    → status ≡ (fault_answer x.line fault).status → Grew before now (first_lines s count ++ (fault_answer x.line fault).text)
-    → HasStatus file status → Means (Some name) files c d f g before now status
-means_fault name file s files c d f g before now status count x (NoLink n) law stands spelled readable next done is stated printed has =
-    means_refused name file s files c d f g before now status stated
-    (breaks_off name file s files before now 3 (record { count = count; step = x; next = next; are_done = done; fault = NoLink n; is_fault = is })
-    law stands spelled readable refl printed) stands has
-means_fault name file s files c d f g before now status count x (LinkTwice n) law stands spelled readable next done is stated printed has =
-    means_refused name file s files c d f g before now status stated
-    (breaks_off name file s files before now 3 (record { count = count; step = x; next = next; are_done = done; fault = LinkTwice n; is_fault = is })
-    law stands spelled readable refl printed) stands has
-means_fault name file s files c d f g before now status count x (Overfull n side most) law stands spelled readable next done is stated printed has =
-    means_overfull name file s files c d f g before now status stated
-    (breaks_off name file s files before now 8 (record { count = count; step = x; next = next; are_done = done; fault = Overfull n side most; is_fault = is })
-    law stands spelled readable refl printed) stands has
-means_fault name file s files c d f g before now status count x NoMemory law stands spelled readable next done is stated printed has =
-    means_memory (Some name) files c d f g before now status stated
+    → status ≡ (fault_answer first.step.line fault).status → Grew before now (lines_of_first s first.count ++ (fault_answer first.step.line fault).text)
+    → HasStatus file status → Means (Drill name) files p q c d f g before now status
+means_fault name file s files p q c d f g before now status (NoLink n) first same law stands spelled readable stated printed has =
+    means_refused name file files p q c d f g before now status stated
+    (broke_off name file s files before now 3 first law stands spelled readable (rw same refl) (rw same printed)) stands has
+means_fault name file s files p q c d f g before now status (LinkTwice n) first same law stands spelled readable stated printed has =
+    means_refused name file files p q c d f g before now status stated
+    (broke_off name file s files before now 3 first law stands spelled readable (rw same refl) (rw same printed)) stands has
+means_fault name file s files p q c d f g before now status (MomentBack was moment) first same law stands spelled readable stated printed has =
+    means_refused name file files p q c d f g before now status stated
+    (broke_off name file s files before now 3 first law stands spelled readable (rw same refl) (rw same printed)) stands has
+means_fault name file s files p q c d f g before now status (Overfull n side most) first same law stands spelled readable stated printed has =
+    means_overfull name file files p q c d f g before now status stated
+    (broke_off name file s files before now 8 first law stands spelled readable (rw same refl) (rw same printed)) stands has
+means_fault name file s files p q c d f g before now status (NoMemory want) first same law stands spelled readable stated printed has =
+    means_memory (Drill name) files p q c d f g before now status stated
     (record {
-      text = first_lines s count;
+      text = lines_of_first s first.count;
       first = inr (record {
         scenario = s;
         spells = record { file = file; stands = stands; spelled = spelled };
-        count = count;
-        are_done = done;
+        count = first.count;
+        are_done = first.are_done;
         is = refl;
-        holds = law s readable count done;
+        holds = law s readable first.count first.are_done;
       });
       printed = printed;
     })
 
+-- the status of a file that spells a scenario
+has_status : (file : List ℕ) (status : ℕ) (s : Scenario) (a : Answer) → scenario_of file ≡ Ok s → IsDrillAnswer s a → status ≡ a.status
+    → (AreDone s (length s.steps) → status ≡ 0) → HasStatus file status
+has_status file status s a spelled answers stated zeroed = record {
+  answer = a;
+  answers = rw spelled answers;
+  is = stated;
+  all_done = λ other is done.
+      let same : other ≡ s = cc in
+      zeroed (subst (λ (x : Scenario). AreDone x (length x.steps)) same done);
+}
+
 -- a scenario was drilled, to the end or to a step that isn't done
-means_drilled : (name file : List ℕ) (s : Scenario) (files : Files) (c d f g : ℕ) (before now : Option (List ℕ)) (status : ℕ)
-    → AlwaysHolds → HasFile files name file → scenario_of file ≡ Ok s → CanBeRead s
-    → status ≡ (drill_answer s).status → Grew before now (drill_answer s).text → Means (Some name) files c d f g before now status
-means_drilled name file s files c d f g before now status law stands spelled readable stated printed =
-    elim (done_or_not s (length s.steps)) [
-      | inl done ↦
-          let whole = answer_whole s (length s.steps) done (omega arith) in
-          means_done name file s files c d f g before now status law stands spelled readable (λ k. done_past s (length s.steps) k done (omega arith))
-          (stated ∙ ap (λ (a : Answer). a.status) whole) stated (rw whole at printed)
-      | inr first ↦
-          let cut = answer_fault s first.count first.step first.fault first.are_done first.next first.is_fault in
-          means_fault name file s files c d f g before now status first.count first.step first.fault law stands spelled readable
-          first.next first.are_done first.is_fault (stated ∙ ap (λ (a : Answer). a.status) cut) (rw cut at printed)
-          (has_status file status s spelled stated
-          (λ all. absurd (none-some first.fault (sym (all (first.count + 1) first.count first.step (omega arith) first.next) ∙ first.is_fault))))
-    ]
+means_drilled : (name file : List ℕ) (s : Scenario) (a : Answer) (files : Files) (p q : Names) (c d f g : ℕ) (before now : Option (List ℕ)) (status : ℕ)
+    → AlwaysHolds → HasFile files name file → scenario_of file ≡ Ok s → CanBeRead s → IsDrillAnswer s a
+    → status ≡ a.status → Grew before now a.text → Means (Drill name) files p q c d f g before now status
+means_drilled name file s a files p q c d f g before now status law stands spelled readable (IsWhole done is) stated printed =
+    let zero_is : status ≡ 0 = stated ∙ ap (λ (x : Answer). x.status) is in
+    means_done name file s files p q c d f g before now status law stands spelled readable done zero_is (rw is at printed)
+    (has_status file status s a spelled (IsWhole done is) stated (λ all. zero_is))
+means_drilled name file s a files p q c d f g before now status law stands spelled readable (BreaksOff first is) stated printed =
+    means_fault name file s files p q c d f g before now status first.fault first refl law stands spelled readable
+    (stated ∙ ap (λ (x : Answer). x.status) is) (rw is at printed)
+    (has_status file status s a spelled (BreaksOff first is) stated
+    (λ all. absurd (none-some first.fault
+    (sym (all first.count first.step (slice_get_within s.steps first.count first.step first.next) first.next) ∙ first.is_fault))))
+
+-- ---- the words
 
 -- the file of that name was read
-means_file : (name file : List ℕ) (read : Result Scenario TextFault) (files : Files) (c d f g : ℕ) (before now : Option (List ℕ)) (status : ℕ)
-    → AlwaysHolds → HasFile files name file → scenario_of file ≡ read → IsReadable read
-    → status ≡ (scenario_answer read).status → Grew before now (scenario_answer read).text
-    → Means (Some name) files c d f g before now status
-means_file name file (Ok s) files c d f g before now status law stands is readable stated printed =
-    means_drilled name file s files c d f g before now status law stands is readable stated printed
-means_file name file (Err (text.At line why)) files c d f g before now status law stands is readable stated printed =
-    means_out_of_form name file line why files c d f g before now status stands is stated printed
-means_file name file (Err text.NoMemory) files c d f g before now status law stands is readable stated printed =
-    means_memory (Some name) files c d f g before now status stated (record { text = []; first = inl refl; printed = printed })
+means_file : (name file : List ℕ) (read : Result Scenario TextFault) (a : Answer) (files : Files) (p q : Names) (c d f g : ℕ) (before now : Option (List ℕ)) (status : ℕ)
+    → AlwaysHolds → HasFile files name file → scenario_of file ≡ read → IsReadable read → IsScenarioAnswer read a
+    → status ≡ a.status → Grew before now a.text → Means (Drill name) files p q c d f g before now status
+means_file name file (Ok s) a files p q c d f g before now status law stands is readable answers stated printed =
+    means_drilled name file s a files p q c d f g before now status law stands is readable answers stated printed
+means_file name file (Err (text.At line why)) a files p q c d f g before now status law stands is readable answers stated printed =
+    means_out_of_form name file line why files p q c d f g before now status stands is (stated ∙ ap (λ (x : Answer). x.status) answers) (rw answers at printed)
+means_file name file (Err (text.NoMemory want)) a files p q c d f g before now status law stands is readable answers stated printed =
+    means_memory (Drill name) files p q c d f g before now status (stated ∙ ap (λ (x : Answer). x.status) answers)
+    (record { text = []; first = inl refl; printed = rw answers at printed })
 
 -- the name was fetched or not
-means_fetched : (name : List ℕ) (fetched : Option (List ℕ)) (files : Files) (c d f g : ℕ) (before now : Option (List ℕ)) (status : ℕ)
-    → AlwaysHolds → HasFetched name fetched files c d → HasReadable fetched
-    → status ≡ (fetched_answer name fetched).status → Grew before now (fetched_answer name fetched).text
-    → Means (Some name) files c d f g before now status
-means_fetched name None files c d f g before now status law stands readable stated printed =
-    means_unfetched name files c d f g before now status stated stands printed
-means_fetched name (Some file) files c d f g before now status law stands readable stated printed =
-    means_file name file (scenario_of file) files c d f g before now status law stands refl readable stated printed
+means_fetched : (name : List ℕ) (fetched : Option (List ℕ)) (a : Answer) (files : Files) (p q : Names) (c d f g : ℕ) (before now : Option (List ℕ)) (status : ℕ)
+    → Grew p q (name ∷ []) → AlwaysHolds → HasFetched name fetched files c d → HasReadable fetched → IsFetchedAnswer name fetched a
+    → status ≡ a.status → Grew before now a.text → Means (Drill name) files p q c d f g before now status
+means_fetched name None a files p q c d f g before now status asked law stands readable answers stated printed =
+    means_unfetched name files p q c d f g before now status asked (stated ∙ ap (λ (x : Answer). x.status) answers) stands (rw answers at printed)
+means_fetched name (Some file) a files p q c d f g before now status asked law stands readable answers stated printed =
+    means_file name file (scenario_of file) a files p q c d f g before now status law stands refl readable answers stated printed
 
 -- the words were answered
-pub means_finished : AlwaysHolds → (command : Option (List ℕ)) (files : Files) (c d : ℕ) (before now : Option (List ℕ)) (f g status : ℕ)
-    → Finished command files c d before now f g status → Means command files c d f g before now status
-means_finished law None files c d before now f g status ends =
-    means_usage files c d f g before now status (ends.stated ∙ ap (λ (a : Answer). a.status) ends.is) (rw ends.is at ends.printed)
-means_finished law (Some name) files c d before now f g status ends =
+pub means_finished : AlwaysHolds → (command : Command) (files : Files) (p q : Names) (c d : ℕ) (before now : Option (List ℕ)) (f g status : ℕ)
+    → Grew p q (names_of command) → Finished command files c d before now f g status → Means command files p q c d f g before now status
+means_finished law Misused files p q c d before now f g status asked ends =
+    means_usage files p q c d f g before now status (ends.stated ∙ ap (λ (a : Answer). a.status) ends.is) (rw ends.is at ends.printed)
+means_finished law (Drill name) files p q c d before now f g status asked ends =
     let given = ends.is.answer in
-    means_fetched name given.fetched files c d f g before now status law given.stands ends.is.readable
-    (ends.stated ∙ ap (λ (a : Answer). a.status) given.is) (rw given.is at ends.printed)
+    means_fetched name given.fetched ends.answer files p q c d f g before now status asked law given.stands ends.is.readable given.is ends.stated ends.printed
 
 -- a write failed
-pub means_broken : (command : Option (List ℕ)) (files : Files) (c d : ℕ) (before now : Option (List ℕ)) (f g : ℕ)
-    → Broken command files c d before now f g → Means command files c d f g before now 5
-means_broken command files c d before now f g ends =
-    means_sink command files c d f g before now 5 refl
+pub means_broken : (command : Command) (files : Files) (p q : Names) (c d : ℕ) (before now : Option (List ℕ)) (f g : ℕ)
+    → Broken command files c d before now f g → Means command files p q c d f g before now 5
+means_broken command files p q c d before now f g ends =
+    means_sink command files p q c d f g before now 5 refl
     (record { rose = ends.rose; beginning = inl (record { answer = ends.answer; is = ends.is; part = ends.part }) })
 
 -- the lines of first steps, and what holds of them
-first_lines_hold : AlwaysHolds → (command : Option (List ℕ)) (files : Files) (text : List ℕ) → IsBegun command files text → AreFirstLines command files text
-first_lines_hold law None files text begun = begun
-first_lines_hold law (Some name) files text begun =
+first_lines_hold : AlwaysHolds → (command : Command) (files : Files) (text : List ℕ) → IsBegun command files text → AreFirstLines command files text
+first_lines_hold law Misused files text begun = begun
+first_lines_hold law (Drill name) files text begun =
     elim begun [
       | inl nothing ↦ inl nothing
       | inr first ↦ inr (record {
@@ -336,10 +301,10 @@ first_lines_hold law (Some name) files text begun =
     ]
 
 -- memory ran out, and the last line was written
-means_exhausted : AlwaysHolds → (command : Option (List ℕ)) (files : Files) (c d : ℕ) (before mid now : Option (List ℕ)) (f g h : ℕ)
-    → Exhausted command files before mid f g → Grew mid now memory_line → Means command files c d f h before now 7
-means_exhausted law command files c d before mid now f g h ends printed =
-    means_memory command files c d f h before now 7 refl
+means_exhausted : AlwaysHolds → (command : Command) (files : Files) (p q : Names) (c d : ℕ) (before mid now : Option (List ℕ)) (f g h : ℕ)
+    → Exhausted command files before mid f g → Grew mid now memory_line → Means command files p q c d f h before now 7
+means_exhausted law command files p q c d before mid now f g h ends printed =
+    means_memory command files p q c d f h before now 7 refl
     (record {
       text = ends.text;
       first = first_lines_hold law command files ends.text ends.first;
@@ -347,10 +312,10 @@ means_exhausted law command files c d before mid now f g h ends printed =
     })
 
 -- memory ran out, and the last line wasn't written whole
-means_interrupted : AlwaysHolds → (command : Option (List ℕ)) (files : Files) (c d : ℕ) (before mid now : Option (List ℕ)) (f g h : ℕ)
-    → Exhausted command files before mid f g → GrewPart mid now memory_line → Rose g h → Means command files c d f h before now 5
-means_interrupted law command files c d before mid now f g h ends part rose =
-    means_sink command files c d f h before now 5 refl
+means_interrupted : AlwaysHolds → (command : Command) (files : Files) (p q : Names) (c d : ℕ) (before mid now : Option (List ℕ)) (f g h : ℕ)
+    → Exhausted command files before mid f g → GrewPart mid now memory_line → Rose g h → Means command files p q c d f h before now 5
+means_interrupted law command files p q c d before mid now f g h ends part rose =
+    means_sink command files p q c d f h before now 5 refl
     (record {
       rose = omega (arith, ends.later);
       beginning = inr (record {
@@ -364,10 +329,10 @@ means_interrupted law command files c d before mid now f g h ends part rose =
     })
 
 -- memory ran out
-pub means_spent : AlwaysHolds → (command : Option (List ℕ)) (files : Files) (c d : ℕ) (before mid now : Option (List ℕ)) (f g h : ℕ) (s : Status)
-    → Exhausted command files before mid f g → Exhausts mid now g h s → Means command files c d f h before now s.0
-means_spent law command files c d before mid now f g h s ends last =
+pub means_spent : AlwaysHolds → (command : Command) (files : Files) (p q : Names) (c d : ℕ) (before mid now : Option (List ℕ)) (f g h : ℕ) (s : Status)
+    → Exhausted command files before mid f g → Exhausts mid now g h s → Means command files p q c d f h before now s.0
+means_spent law command files p q c d before mid now f g h s ends last =
     elim last [
-      | inl written ↦ rw written.0 (means_exhausted law command files c d before mid now f g h ends written.1)
-      | inr broken ↦ rw broken.0 (means_interrupted law command files c d before mid now f g h ends broken.1 broken.2)
+      | inl written ↦ rw written.0 (means_exhausted law command files p q c d before mid now f g h ends written.1)
+      | inr broken ↦ rw broken.0 (means_interrupted law command files p q c d before mid now f g h ends broken.1 broken.2)
     ]

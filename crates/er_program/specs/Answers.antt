@@ -1,102 +1,73 @@
--- What a run of the program would answer if no write failed and memory sufficed: a status and a text (this profile).
-use Rattle.std.specs.Prelude.{◌≡◌, ℕ, if◌then◌else◌, List, [], ◌∷◌, ◌++◌, map, String, string_bytes, Option, Some, None, Result, Ok, Err, Bool, codes}
-use Rattle.std.specs.Global.{Global}
-use Rattle.std.specs.Str.{bytes_eq}
-use Rattle.std.specs.Fmt.{decimal}
-use Rattle.er_base.specs.declared.side.Side.{Side}
-use Rattle.er_base.specs.declared.why.Why.{Why}
-use Rattle.er_base.specs.declared.why.Why.TheVariants.{Header, Word, Count, Level, Late, Number, Hex, Value, Long}
+-- What a run of the program answers where no write fails and memory suffices: a status and a text (this profile).
+use Rattle.std.specs.Prelude.{◌≡◌, ◌<◌, ℕ, List, ◌++◌, take, length, slice_get, Option, Some, None, Result, Ok, Err, codes}
 use Rattle.er_base.specs.declared.text_fault.TextFault.{TextFault}
 use Rattle.er_base.specs.declared.text_fault.TextFault.TheVariants as text
+use Rattle.er_scenario.specs.declared.step.Step.{Step}
 use Rattle.er_scenario.specs.declared.numbered.Numbered.{Numbered}
 use Rattle.er_scenario.specs.declared.scenario.Scenario.{Scenario}
 use Rattle.er_scenario.specs.Files.{scenario_of}
-use Rattle.er_world.specs.declared.world_fault.WorldFault.{WorldFault}
-use Rattle.er_world.specs.declared.world_fault.WorldFault.TheVariants.{NoLink, LinkTwice, Overfull, NoMemory}
-use Rattle.er_world.specs.Worlds.{World, Came, new_world, move, fault_of}
-use Rattle.er_base.specs.Sides.{side_word}
-use Rattle.er_world.specs.Texts.{lines, summary}
-use Rattle.er_program.specs.Outside.{HasFile, Rose}
+use Rattle.drill_model.specs.declared.world_fault.WorldFault.{WorldFault}
+use Rattle.drill_model.specs.declared.world_fault.WorldFault.TheVariants.{NoLink, LinkTwice, MomentBack, Overfull, NoMemory}
+use Rattle.drill_model.specs.Worlds.{plan_of, steps_of}
+use Rattle.drill_model.specs.Faults.{fault_behind}
+use Rattle.drill_model.specs.Texts.{first_lines, drill_text}
+use Rattle.link_trait.specs.Outside.{HasFile, Rose}
+use Rattle.er_program.specs.Commands.{Command, Misused, Drill}
+use Rattle.er_program.specs.LastLines.{usage_line, fetch_line, fault_line, memory_line, overfull_line, why_word}
 
 pub record Answer : Type 0 where
   pub status : ℕ
   pub text : List ℕ
 
--- the last lines
-abbrev pub usage_line : List ℕ
-usage_line = codes "! usage\n"
+-- ---- a drill
 
-abbrev pub memory_line : List ℕ
-memory_line = codes "! memory\n"
+-- the first steps of a scenario, and the lines of what came of them
+abbrev pub first_steps : Scenario → ℕ → List Step
+first_steps s count = take count (steps_of s)
 
-abbrev pub fetch_line : List ℕ → List ℕ
-fetch_line name = codes "! fetch " ++ (name ++ codes "\n")
+abbrev pub lines_of_first : Scenario → ℕ → List ℕ
+lines_of_first s count = first_lines (plan_of s) (first_steps s count)
 
--- a fault of a line of the file, by its number and a word
-unfoldable pub fault_line : ℕ → List ℕ → List ℕ
-fault_line line word = codes "! line " ++ (decimal line ++ (codes " " ++ (word ++ codes "\n")))
+-- why a step isn't done behind the first ones, if it isn't
+abbrev pub fault_behind_first : Scenario → ℕ → Step → Option WorldFault
+fault_behind_first s count step = fault_behind (plan_of s) (first_steps s count) step
 
--- too many frames wait
-unfoldable pub overfull_line : ℕ → Side → ℕ → List ℕ
-overfull_line link side most =
-    codes "! overfull " ++ (decimal link ++ (codes " " ++ (side_word side ++ (codes " " ++ (decimal most ++ codes "\n")))))
+-- the first steps are all done
+abbrev pub AreDone : Scenario → ℕ → Type 0
+AreDone s count = (k : ℕ) (x : Numbered) → k < count → slice_get s.steps k ≡ Some x → fault_behind_first s k x.step ≡ None
 
--- why a file is refused
-abbrev pub why_word : Why → List ℕ
-why_word Header = codes "header"
-why_word Word = codes "word"
-why_word Count = codes "count"
-why_word Level = codes "level"
-why_word Late = codes "late"
-why_word Number = codes "number"
-why_word Hex = codes "hex"
-why_word Value = codes "value"
-why_word Long = codes "long"
+-- so many steps are done and the next one isn't, for this fault
+pub record FirstFault (s : Scenario) : Type 0 where
+  pub count : ℕ
+  pub step : Numbered
+  pub next : slice_get s.steps count ≡ Some step
+  pub are_done : AreDone s count
+  pub fault : WorldFault
+  pub is_fault : fault_behind_first s count step.step ≡ Some fault
 
--- words as octets
-abbrev pub texts : List (String Global) → List (List ℕ)
-texts words = map string_bytes words
-
--- the file word of the command `drill SCENARIO`, where the words fit it
-abbrev pub command_of : List (List ℕ) → Option (List ℕ)
-command_of [] = None
-command_of (command ∷ []) = None
-command_of (command ∷ name ∷ []) = if bytes_eq command (codes "drill") then Some name else None
-command_of (command ∷ name ∷ more ∷ rest) = None
-
--- the file words, in their order
-abbrev pub names_of : Option (List ℕ) → List (List ℕ)
-names_of None = []
-names_of (Some name) = name ∷ []
-
--- a step that isn't done ends the drill: with status 3 where it is refused, with 8 where too many frames would wait
+-- a step that isn't done, at this line of the file, ends the drill: with status 3 where it is refused, with 8 where too many frames would
+-- wait
 abbrev pub fault_answer : ℕ → WorldFault → Answer
 fault_answer line (NoLink n) = record { status = 3; text = fault_line line (codes "nolink") }
 fault_answer line (LinkTwice n) = record { status = 3; text = fault_line line (codes "twice") }
+fault_answer line (MomentBack was now) = record { status = 3; text = fault_line line (codes "back") }
 fault_answer line (Overfull n side most) = record { status = 8; text = overfull_line n side most }
-fault_answer line NoMemory = record { status = 7; text = memory_line }
+fault_answer line (NoMemory want) = record { status = 7; text = memory_line }
 
--- the lines of a step, and then what the others give; a step that isn't done gives its own answer
-abbrev pub judged : ℕ → Option WorldFault → List ℕ → Answer → Answer
-judged line (Some fault) printed others = fault_answer line fault
-judged line None printed others = record others { text = printed ++ others.text }
+-- a drill whose steps are all done gives its text; one that breaks off the lines of the steps before, and the fault's line
+pub data IsDrillAnswer (s : Scenario) (a : Answer) : Type 0 where
+  IsWhole : AreDone s (length s.steps) → a ≡ record { status = 0; text = drill_text s } → IsDrillAnswer s a
+  BreaksOff : (f : FirstFault s)
+      → a ≡ record { status = (fault_answer f.step.line f.fault).status; text = lines_of_first s f.count ++ (fault_answer f.step.line f.fault).text }
+      → IsDrillAnswer s a
 
--- the steps of a drill from here on
-abbrev pub steps_answer : (show : Bool) → List Came → World → List Numbered → Answer
-steps_answer show seen w [] = record { status = 0; text = summary w }
-steps_answer show seen w (x ∷ rest) =
-    let now = move seen w x.step in
-    judged x.line (fault_of seen w x.step) (lines show now.1) (steps_answer show (seen ++ now.1) now.0 rest)
+-- ---- a file
 
 -- a file that spells a scenario is drilled; a fault of its grammar prints its line alone
-abbrev pub scenario_answer : Result Scenario TextFault → Answer
-scenario_answer (Err (text.At line why)) = record { status = 3; text = fault_line line (why_word why) }
-scenario_answer (Err text.NoMemory) = record { status = 7; text = memory_line }
-scenario_answer (Ok s) = steps_answer s.show [] new_world s.steps
-
-abbrev pub fetched_answer : List ℕ → Option (List ℕ) → Answer
-fetched_answer name None = record { status = 2; text = fetch_line name }
-fetched_answer name (Some file) = scenario_answer (scenario_of file)
+abbrev pub IsScenarioAnswer : Result Scenario TextFault → Answer → Type 0
+IsScenarioAnswer (Err (text.At line why)) a = a ≡ record { status = 3; text = fault_line line (why_word why) }
+IsScenarioAnswer (Err (text.NoMemory want)) a = a ≡ record { status = 7; text = memory_line }
+IsScenarioAnswer (Ok s) a = IsDrillAnswer s a
 
 -- files by their names, where they are told
 abbrev pub Files : Type 0
@@ -107,13 +78,17 @@ abbrev pub HasFetched : List ℕ → Option (List ℕ) → Files → ℕ → ℕ
 HasFetched name None files c d = Rose c d
 HasFetched name (Some file) files c d = HasFile files name file
 
+abbrev pub IsFetchedAnswer : List ℕ → Option (List ℕ) → Answer → Type 0
+IsFetchedAnswer name None a = a ≡ record { status = 2; text = fetch_line name }
+IsFetchedAnswer name (Some file) a = IsScenarioAnswer (scenario_of file) a
+
 -- the answer to a file word
-pub record IsFetchedAnswer (name : List ℕ) (files : Files) (c d : ℕ) (a : Answer) : Type 0 where
+pub record IsFileAnswer (name : List ℕ) (files : Files) (c d : ℕ) (a : Answer) : Type 0 where
   pub fetched : Option (List ℕ)
   pub stands : HasFetched name fetched files c d
-  pub is : a ≡ fetched_answer name fetched
+  pub is : IsFetchedAnswer name fetched a
 
--- the answer to the words
-abbrev pub IsAnswer : Option (List ℕ) → Files → ℕ → ℕ → Answer → Type 0
-IsAnswer None files c d a = a ≡ record { status = 1; text = usage_line }
-IsAnswer (Some name) files c d a = IsFetchedAnswer name files c d a
+-- the answer to a command, by the files and the cabinet's count of faults before and after
+abbrev pub IsAnswer : Command → Files → ℕ → ℕ → Answer → Type 0
+IsAnswer Misused files c d a = a ≡ record { status = 1; text = usage_line }
+IsAnswer (Drill name) files c d a = IsFileAnswer name files c d a

@@ -1,6 +1,7 @@
-pub mod Outside
-pub mod OutsideMemory
+pub mod Commands
+pub mod CommandViews
+pub mod LastLines
 pub mod Answers
 pub mod Runs
-pub mod Drills
-pub mod Endings
+pub mod Writing
+pub mod WriterSinks

@@ -1,18 +1,20 @@
 //! A drill: the steps of a scenario in a world of links, and the lines that come of them.
 
-ghost use Rattle.std.specs.Prelude.{◌≡◌, List, false};
-ghost use Rattle.er_scenario.specs.Printed.{IsInRange, CanBeRead};
-ghost use Rattle.er_world.specs.Worlds.{Came};
-ghost use Rattle.er_world.specs.Kept.{Holds};
-ghost use Rattle.er_program.specs.Drills.{Drills, StepsOne};
+ghost use Rattle.std.specs.Prelude.{◌≡◌, ◌≤◌, List, false};
+ghost use Rattle.er_scenario.specs.declared.step.Step.{Step as AnyStep};
+ghost use Rattle.er_scenario.specs.Texts.{CanBeRead};
+ghost use Rattle.drill_model.specs.Steps.{IsOfLevel, HasEtcsNumbers};
+ghost use Rattle.drill_model.specs.Worlds.{Plan};
+ghost use Rattle.er_world.specs.Standing.{Ran};
+ghost use Rattle.er_program.specs.Writing.{Drills, StepsOne};
 
 use crate::endings::{closed, not_done, say};
 use crate::halt::Halt;
-use crate::outside::Sink;
 use crate::status::Status;
 use crate::stop::Stop;
 use er_scenario::{Scenario, Step};
 use er_world::World;
+use link_trait::Sink;
 use std::alloc::Global;
 
 // Does a step and writes its lines as soon as it is done.
@@ -22,10 +24,13 @@ fn step_once<K: Sink>(
     step: &Step,
     sink: &mut K,
 ) -> Result<(), Halt>
-    requires range { IsInRange step.now }
+    requires level { IsOfLevel world.old.plan.level step.now }
+    requires numbers { HasEtcsNumbers step.now }
     requires unspent { world.old.spent ≡ false }
-    ensures { (seen : List Came) → Holds world.old seen
-        → StepsOne seen world.old step.now world.new (K.held sink.old) (K.held sink.new) (K.faults sink.old) (K.faults sink.new) result }
+    ensures drills { (plan : Plan) (done : List AnyStep) → Ran world.old plan done
+        → StepsOne plan done world.old step.now world.new (K.held sink.old) (K.held sink.new) (K.faults sink.old)
+        (K.faults sink.new) result }
+    ensures sink_count { K.faults sink.old ≤ K.faults sink.new }
 {
     let mut out = Vec::new(alloc);
     match world.apply(alloc, step, &mut out) {
@@ -40,8 +45,11 @@ fn step_once<K: Sink>(
 /// Does the steps of a scenario and writes what comes of them, to the end or up to the first step that isn't done.
 pub fn drill<K: Sink>(alloc: Global, scenario: &Scenario, sink: &mut K) -> Result<Status, Stop>
     requires { CanBeRead scenario.now }
-    ensures { Drills scenario.now (K.held sink.old) (K.held sink.new) (K.faults sink.old) (K.faults sink.new) result }
+    ensures drills { Drills scenario.now (K.held sink.old) (K.held sink.new) (K.faults sink.old)
+        (K.faults sink.new) result }
+    ensures sink_count { K.faults sink.old ≤ K.faults sink.new }
 {
+    drill_model::laws::runs_grow();
     let mut world = World::new(alloc, scenario.level, scenario.settings, scenario.show)?;
     for numbered in scenario.steps.as_slice() {
         match step_once(alloc, &mut world, &numbered.step, sink) {

@@ -1,7 +1,7 @@
 //! The last lines of a run, as octets.
 
 ghost use Rattle.std.specs.Prelude.{◌≡◌, ◌++◌, IfOk};
-ghost use Rattle.er_program.specs.Answers.{why_word, fetch_line, fault_line, overfull_line};
+ghost use Rattle.er_program.specs.LastLines.{why_word, fetch_line, fault_line, overfull_line};
 
 use er_base::{NoMemory, Side, Why, decimal_word};
 use std::alloc::Global;
@@ -34,12 +34,12 @@ pub fn fetch_line(alloc: Global, name: &str) -> Result<Vec<u8>, NoMemory>
 }
 
 /// The line of a fault at a line of the file: `! line NUMBER WORD`.
-#[tactic(auto, unfolding(crate::specs::Answers::fault_line))]
+#[tactic(auto, unfolding(crate::specs::LastLines::fault_line))]
 pub fn fault_line(alloc: Global, number: usize, word: &[u8]) -> Result<Vec<u8>, NoMemory>
     ensures { IfOk result (λ line. line.items ≡ fault_line number word.now) }
 {
     let mut line = Vec::from_slice(alloc, b"! line ".as_slice())?;
-    decimal_word(alloc, number as u64, &mut line)?;
+    decimal_word(number as u64, &mut line)?;
     line.extend_from_slice(b" ")?;
     line.extend_from_slice(word)?;
     line.extend_from_slice(b"\n")?;
@@ -47,16 +47,16 @@ pub fn fault_line(alloc: Global, number: usize, word: &[u8]) -> Result<Vec<u8>, 
 }
 
 /// The line of a step that would let too many frames wait: `! overfull LINK S MOST`.
-#[tactic(auto, unfolding(crate::specs::Answers::overfull_line))]
+#[tactic(auto, unfolding(crate::specs::LastLines::overfull_line))]
 pub fn overfull_line(alloc: Global, link: u8, side: Side, most: usize) -> Result<Vec<u8>, NoMemory>
     ensures { IfOk result (λ line. line.items ≡ overfull_line link side most) }
 {
     let mut line = Vec::from_slice(alloc, b"! overfull ".as_slice())?;
-    decimal_word(alloc, link as u64, &mut line)?;
+    decimal_word(link as u64, &mut line)?;
     line.extend_from_slice(b" ")?;
     line.extend_from_slice(side.word())?;
     line.extend_from_slice(b" ")?;
-    decimal_word(alloc, most as u64, &mut line)?;
+    decimal_word(most as u64, &mut line)?;
     line.extend_from_slice(b"\n")?;
     Ok(line)
 }

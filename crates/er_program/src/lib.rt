@@ -1,25 +1,25 @@
-//! The top of the stack: what the program does with its words, over a cabinet of files and a sink of octets.
+//! The program's top call: what its words ask for, done over the outside objects that it is handed.
 //!
-//! It reads a drill file, runs its steps in a world of links, and prints the text that comes of them. Its files and
-//! its output are values that it is handed ([`outside`]): it opens no file and prints nothing by itself. What is claimed of a
-//! run stands on [`run`].
+//! Words name a command and its files; the outside is a cabinet of files and a sink of octets. Nothing is done here but
+//! the order of things: the layers below read, run and print.
 #![tactic(auto)]
 
+mod command;
 mod drill;
 mod endings;
+mod file_cabinet;
 mod halt;
 mod last_lines;
-pub mod outside;
 mod status;
+mod stdout_sink;
 mod stop;
 mod top;
-
-pub use endings::out_of_memory;
-pub use outside::{
-    Cabinet, Failed, FetchFault, FileCabinet, MemoryCabinet, MemorySink, Sink, StdoutSink,
-};
-pub use status::Status;
-pub use top::run;
-
 #[cfg(test)]
 mod top_tests;
+
+pub use endings::out_of_memory;
+pub use file_cabinet::{FileCabinet, MOST_FILE_OCTETS};
+pub use link_trait::{Cabinet, Failed, FetchFault, MemoryCabinet, MemorySink, Sink};
+pub use status::Status;
+pub use stdout_sink::StdoutSink;
+pub use top::run;

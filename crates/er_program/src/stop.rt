@@ -9,13 +9,13 @@ pub enum Stop {
     /// A write to the sink failed.
     Sink,
     /// Want of memory.
-    NoMemory,
+    NoMemory(NoMemory),
 }
 
 impl From<NoMemory> for Stop {
-    ghost from_gives = { λ _ e. e ≡ stop.NoMemory };
+    ghost from_gives = { λ want e. e ≡ stop.NoMemory want };
 
-    fn from(_fault: NoMemory) -> Stop {
-        Stop::NoMemory
+    fn from(want: NoMemory) -> Stop {
+        Stop::NoMemory(want)
     }
 }

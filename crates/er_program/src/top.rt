@@ -1,84 +1,77 @@
 //! The top call: what the program does with its words.
 
-ghost use Rattle.std.specs.Prelude.{◌≡◌, ◌≢◌, ◌≤◌, [], ◌∷◌, option_map, IfOk};
+ghost use Rattle.std.specs.Prelude.{◌≡◌, ◌≢◌, ◌≤◌, ◌-◌, ◌^◌, [], ◌∷◌, IfOk};
 ghost use Rattle.er_scenario.specs.Files.{scenario_of};
-ghost use Rattle.er_program.specs.Outside.{Grew, GrewPart, Kept};
-ghost use Rattle.er_program.specs.Answers.{command_of, names_of, texts};
-ghost use Rattle.er_program.specs.Endings.{EndsFile, Ends};
+ghost use Rattle.link_trait.specs.Outside.{Grew, GrewPart, Kept};
+ghost use Rattle.er_program.specs.Commands.{Drill, command_of, names_of, texts};
+ghost use Rattle.er_program.specs.CommandViews.{command_view};
+ghost use Rattle.er_program.specs.Writing.{EndsFile, Ends};
 ghost use Rattle.er_program.specs.Runs.{Means, IsStatus, IsDone, IsMisused, IsUnfetched, IsRefused, IsSinkFailed, IsOutOfMemory, IsOverfull, IsComplete};
 
+use crate::command::{Command, command_from};
 use crate::drill::drill;
 use crate::endings::{misused, out_of_form, out_of_memory, unfetched};
-use crate::outside::{Cabinet, FetchFault, Sink};
 use crate::status::Status;
 use crate::stop::Stop;
 use er_base::TextFault;
 use er_scenario::read;
+use link_trait::{Cabinet, FetchFault, Sink};
 use std::alloc::Global;
 
-// The file word of `drill SCENARIO`, where the words fit it.
-fn file_word(words: &[String]) -> Option<&str>
-    ensures { option_map (λ name. name.now) result ≡ command_of (texts words.now) }
-{
-    match words {
-        [command, name] => {
-            if command.as_str() == "drill" {
-                Some(name.as_str())
-            } else {
-                None
-            }
-        }
-        _ => None,
-    }
-}
-
 fn drill_file<K: Sink>(alloc: Global, octets: &[u8], sink: &mut K) -> Result<Status, Stop>
-    ensures { EndsFile (scenario_of octets.now) (K.held sink.old) (K.held sink.new) (K.faults sink.old) (K.faults sink.new) result }
+    ensures ends { EndsFile (scenario_of octets.now) (K.held sink.old) (K.held sink.new) (K.faults sink.old)
+        (K.faults sink.new) result }
+    ensures sink_count { K.faults sink.old ≤ K.faults sink.new }
 {
     match read(alloc, octets) {
         Ok(scenario) => drill(alloc, &scenario, sink),
         Err(TextFault::At { line, why }) => out_of_form(alloc, line, why, sink),
-        Err(TextFault::NoMemory) => Err(Stop::NoMemory),
+        Err(TextFault::NoMemory(want)) => Err(Stop::NoMemory(want)),
     }
 }
 
-fn file_run<F: Cabinet, K: Sink>(
+// `drill NAME`.
+fn drill_run<F: Cabinet, K: Sink>(
     alloc: Global,
     name: &str,
     cabinet: &mut F,
     sink: &mut K,
 ) -> Result<Status, Stop>
-    ensures ends { Ends (Some name.now) (F.files cabinet.new) (F.faults cabinet.old) (F.faults cabinet.new)
+    ensures ends { Ends (Drill name.now) (F.files cabinet.new) (F.faults cabinet.old) (F.faults cabinet.new)
         (K.held sink.old) (K.held sink.new) (K.faults sink.old) (K.faults sink.new) result }
     ensures asked { IfOk result (λ _. Grew (F.asked cabinet.old) (F.asked cabinet.new) (name.now ∷ [])) }
     ensures part { GrewPart (F.asked cabinet.old) (F.asked cabinet.new) (name.now ∷ []) }
     ensures files { Kept (F.files cabinet.old) (F.files cabinet.new) }
     ensures count { F.faults cabinet.old ≤ F.faults cabinet.new }
+    ensures sink_count { K.faults sink.old ≤ K.faults sink.new }
 {
     match cabinet.fetch(alloc, name) {
         Ok(octets) => drill_file(alloc, octets.as_slice(), sink),
         Err(FetchFault::Failed) => unfetched(alloc, name, sink),
-        Err(FetchFault::NoMemory) => Err(Stop::NoMemory),
+        Err(FetchFault::NoMemory(want)) => Err(Stop::NoMemory(want)),
     }
 }
 
-// What the words ask for, done and answered, or why it broke off.
+// What a command asks for, done and answered, or why it broke off.
 fn answered<F: Cabinet, K: Sink>(
     alloc: Global,
     words: &[String],
     cabinet: &mut F,
     sink: &mut K,
 ) -> Result<Status, Stop>
-    ensures ends { Ends (command_of (texts words.now)) (F.files cabinet.new) (F.faults cabinet.old) (F.faults cabinet.new)
+    ensures ends { Ends (command_of (texts words.now)) (F.files cabinet.new) (F.faults cabinet.old)
+        (F.faults cabinet.new)
         (K.held sink.old) (K.held sink.new) (K.faults sink.old) (K.faults sink.new) result }
-    ensures asked { IfOk result (λ _. Grew (F.asked cabinet.old) (F.asked cabinet.new) (names_of (command_of (texts words.now)))) }
+    ensures asked { IfOk result (λ _. Grew (F.asked cabinet.old) (F.asked cabinet.new) (names_of (command_of
+        (texts words.now)))) }
     ensures part { GrewPart (F.asked cabinet.old) (F.asked cabinet.new) (names_of (command_of (texts words.now))) }
     ensures files { Kept (F.files cabinet.old) (F.files cabinet.new) }
     ensures count { F.faults cabinet.old ≤ F.faults cabinet.new }
+    ensures sink_count { K.faults sink.old ≤ K.faults sink.new }
 {
-    match file_word(words) {
-        Some(name) => file_run(alloc, name, cabinet, sink),
-        None => misused(sink),
+    match command_from(words) {
+        Command::Misused => misused(sink),
+        Command::Drill { name } => drill_run(alloc, name, cabinet, sink),
     }
 }
 
@@ -88,30 +81,38 @@ fn ran<F: Cabinet, K: Sink>(
     cabinet: &mut F,
     sink: &mut K,
 ) -> Status
-    ensures means { Means (command_of (texts words.now)) (F.files cabinet.new) (F.faults cabinet.old) (F.faults cabinet.new)
-        (K.faults sink.old) (K.faults sink.new) (K.held sink.old) (K.held sink.new) result.0 }
-    ensures asked { result.0 ≢ 5 → result.0 ≢ 7 → Grew (F.asked cabinet.old) (F.asked cabinet.new) (names_of (command_of (texts words.now))) }
+    ensures means { Means (command_of (texts words.now)) (F.files cabinet.new) (F.asked cabinet.old)
+        (F.asked cabinet.new)
+        (F.faults cabinet.old) (F.faults cabinet.new) (K.faults sink.old) (K.faults sink.new) (K.held sink.old)
+        (K.held sink.new) result.0 }
+    ensures asked { result.0 ≢ 5 → result.0 ≢ 7 → Grew (F.asked cabinet.old) (F.asked cabinet.new) (names_of
+        (command_of (texts words.now))) }
     ensures part { GrewPart (F.asked cabinet.old) (F.asked cabinet.new) (names_of (command_of (texts words.now))) }
     ensures files { Kept (F.files cabinet.old) (F.files cabinet.new) }
     ensures count { F.faults cabinet.old ≤ F.faults cabinet.new }
+    ensures sink_count { K.faults sink.old ≤ K.faults sink.new }
 {
+    drill_laws::laws::lawful();
+    drill_laws::laws::delivery();
+    drill_laws::laws::worlds();
     match answered(alloc, words, cabinet, sink) {
         Ok(status) => status,
         Err(Stop::Sink) => Status(5),
-        Err(Stop::NoMemory) => out_of_memory(sink),
+        Err(Stop::NoMemory(want)) => out_of_memory(want, sink),
     }
 }
 
-/// Does what the words ask for, and answers with what status the program is to end. `words` leave out the program's name.
+/// Does what the words ask for, and answers with what status the program is to end. `words` leave out the program's
+/// name.
 ///
-/// `drill SCENARIO` fetches the file SCENARIO, does its steps and prints their text, the lines of each step as soon as it is
-/// done. The statuses:
+/// `drill SCENARIO` fetches the file SCENARIO, does its steps and prints their text, the lines of each step as soon as
+/// it is done. The statuses:
 ///
 /// - 0: the file was read to its end, all its steps are done and all was printed.
 /// - 1: the words fit no command; `! usage` is printed.
 /// - 2: the fetch of the file failed; `! fetch SCENARIO` is printed.
 /// - 3: the file is out of its grammar; `! line LINE WHY` is printed alone. Or a step is refused; behind the lines of the
-///   steps before it, `! line LINE nolink` or `! line LINE twice` is printed.
+///   steps before it, `! line LINE nolink`, `! line LINE twice` or `! line LINE back` is printed.
 /// - 5: a write to the sink failed, in place of any other status; nothing is written after it.
 /// - 7: memory ran out; what was printed stays, and `! memory` is printed. It may come in place of any other.
 /// - 8: a frame would be one more than may wait in one direction; behind the lines of the steps before it,
@@ -122,31 +123,41 @@ pub fn run<F: Cabinet, K: Sink>(
     cabinet: &mut F,
     sink: &mut K,
 ) -> Status
-    // The list of statuses is closed, and each has its cause. With `complete` each comes exactly where its cause is met.
+    // The list of statuses is closed, and each has its cause. With `complete` each comes exactly where its cause is
+    // met.
     ensures known { IsStatus result.0 }
-    ensures done { result.0 ≡ 0 → IsDone (command_of (texts words.now)) (F.files cabinet.new) (K.held sink.old) (K.held sink.new) }
+    ensures done { result.0 ≡ 0 → IsDone (command_of (texts words.now)) (F.files cabinet.new) (K.held sink.old)
+        (K.held sink.new) }
     ensures usage { result.0 ≡ 1 → IsMisused (command_of (texts words.now)) (K.held sink.old) (K.held sink.new) }
-    ensures fetch { result.0 ≡ 2
-        → IsUnfetched (command_of (texts words.now)) (F.faults cabinet.old) (F.faults cabinet.new) (K.held sink.old) (K.held sink.new) }
-    ensures refused { result.0 ≡ 3 → IsRefused (command_of (texts words.now)) (F.files cabinet.new) (K.held sink.old) (K.held sink.new) }
+    ensures fetch { result.0 ≡ 2 → IsUnfetched (command_of (texts words.now)) (F.asked cabinet.old)
+        (F.asked cabinet.new)
+        (F.faults cabinet.old) (F.faults cabinet.new) (K.held sink.old) (K.held sink.new) }
+    ensures refused { result.0 ≡ 3 → IsRefused (command_of (texts words.now)) (F.files cabinet.new) (K.held sink.old)
+        (K.held sink.new) }
     ensures sink { result.0 ≡ 5
-        → IsSinkFailed (command_of (texts words.now)) (F.files cabinet.new) (F.faults cabinet.old) (F.faults cabinet.new)
+        → IsSinkFailed (command_of (texts words.now)) (F.files cabinet.new) (F.faults cabinet.old)
+        (F.faults cabinet.new)
         (K.faults sink.old) (K.faults sink.new) (K.held sink.old) (K.held sink.new) }
-    ensures memory { result.0 ≡ 7 → IsOutOfMemory (command_of (texts words.now)) (F.files cabinet.new) (K.held sink.old) (K.held sink.new) }
-    ensures overfull { result.0 ≡ 8 → IsOverfull (command_of (texts words.now)) (F.files cabinet.new) (K.held sink.old) (K.held sink.new) }
+    ensures memory { result.0 ≡ 7 → IsOutOfMemory (command_of (texts words.now)) (F.files cabinet.new)
+        (K.held sink.old) (K.held sink.new) }
+    ensures overfull { result.0 ≡ 8 → IsOverfull (command_of (texts words.now)) (F.files cabinet.new) (K.held sink.old)
+        (K.held sink.new) }
 
     // Where no count of faults rose, the words and the file give their status, want of memory aside.
-    ensures complete { IsComplete (command_of (texts words.now)) (F.files cabinet.new) (F.faults cabinet.old) (F.faults cabinet.new)
+    ensures complete { IsComplete (command_of (texts words.now)) (F.files cabinet.new) (F.faults cabinet.old)
+        (F.faults cabinet.new)
         (K.faults sink.old) (K.faults sink.new) result.0 }
 
     // The file words are asked for in their order, each once, and nothing else is.
     ensures asked { result.0 ≢ 5 → result.0 ≢ 7
         → Grew (F.asked cabinet.old) (F.asked cabinet.new) (names_of (command_of (texts words.now))) }
-    ensures asked_part { GrewPart (F.asked cabinet.old) (F.asked cabinet.new) (names_of (command_of (texts words.now))) }
+    ensures asked_part { GrewPart (F.asked cabinet.old) (F.asked cabinet.new) (names_of (command_of
+        (texts words.now))) }
 
+    // The cabinet's files stay, and no count of faults falls.
     ensures files { Kept (F.files cabinet.old) (F.files cabinet.new) }
     ensures count { F.faults cabinet.old ≤ F.faults cabinet.new }
+    ensures sink_count { K.faults sink.old ≤ K.faults sink.new }
 {
-    let status = ran(alloc, words, cabinet, sink);
-    status
+    ran(alloc, words, cabinet, sink)
 }

@@ -1,11 +1,13 @@
-use crate::outside::{MemoryCabinet, MemorySink};
-use crate::{Status, run};
-use std::alloc::{AllocError, Global};
+use crate::{MemoryCabinet, MemorySink, Status, run};
+use er_base::NoMemory;
+use std::alloc::Global;
 use std::test::Fail;
 
 const KEY: &str = "0123456789abcdef23456789abcdef01456789abcdef0123";
 
 const ONE_SEALED_MESSAGE: &str = "drill 1 safe;fixed 1 5 9 K K;send 1 e 41;pass 1 e;";
+
+const TWO_EMPTY_PASSES: &str = "drill 1 safe;fixed 1 5 9 K K;pass 1 e;pass 1 r;";
 
 // A file, and the status and the text of its drill, as the grammar and the tables of answers say.
 type Row = (&'static str, u8, &'static str);
@@ -32,8 +34,18 @@ const ROWS: [Row; 7] = [
     ),
 ];
 
+// A file, the write that is to fail, and what the sink holds at the end: the lines of each step come as soon as it is
+// done.
+type FailingRow = (&'static str, u64, &'static str);
+
+const FAILING_ROWS: [FailingRow; 3] = [
+    (ONE_SEALED_MESSAGE, 1, ""),
+    (ONE_SEALED_MESSAGE, 2, "1 r accepted 41;"),
+    (TWO_EMPTY_PASSES, 2, "1 e empty;"),
+];
+
 // A text in which each K stands for 48 digits, and each semicolon for LF.
-fn spelled_out(alloc: Global, text: &str) -> Result<Vec<u8>, AllocError> {
+fn spelled_out(alloc: Global, text: &str) -> Result<Vec<u8>, NoMemory> {
     let mut octets = Vec::new(alloc);
     for octet in text.as_bytes() {
         match *octet {
@@ -45,7 +57,7 @@ fn spelled_out(alloc: Global, text: &str) -> Result<Vec<u8>, AllocError> {
     Ok(octets)
 }
 
-fn words(alloc: Global, text: &[&str]) -> Result<Vec<String>, AllocError> {
+fn words(alloc: Global, text: &[&str]) -> Result<Vec<String>, NoMemory> {
     let mut words = Vec::new(alloc);
     for word in text {
         words.push(String::from_str(alloc, word)?)?;
@@ -53,7 +65,7 @@ fn words(alloc: Global, text: &[&str]) -> Result<Vec<String>, AllocError> {
     Ok(words)
 }
 
-fn cabinet(alloc: Global, text: &str) -> Result<MemoryCabinet, Fail> {
+fn cabinet(alloc: Global, text: &str) -> Result<MemoryCabinet, NoMemory> {
     let octets = spelled_out(alloc, text)?;
     let mut cabinet = MemoryCabinet::new(alloc);
     cabinet.put("x", octets.as_slice())?;
@@ -76,52 +88,33 @@ fn files_with_their_statuses_and_texts(rt: HostRuntime) -> Result<(), Fail> {
 }
 
 #[test]
-fn words_that_fit_no_command(rt: HostRuntime) -> Result<(), Fail> {
+fn a_sink_that_fails(rt: HostRuntime) -> Result<(), Fail> {
     let alloc = rt.alloc();
-    let mut cabinet = cabinet(alloc, ONE_SEALED_MESSAGE)?;
-    let mut sink = MemorySink::with_capacity(alloc, 1_000)?;
-    let words = words(alloc, &["drill"])?;
-    let answer = run(alloc, words.as_slice(), &mut cabinet, &mut sink);
-    assert_eq!(rt; answer, Status(1));
-    assert_eq!(rt; sink.held(), b"! usage\n".as_slice());
+    let words = words(alloc, &["drill", "x"])?;
+    for (file, call, held) in &FAILING_ROWS {
+        let mut cabinet = cabinet(alloc, file)?;
+        let mut sink = MemorySink::with_capacity(alloc, 1_000)?;
+        sink.fail(*call)?;
+        let answer = run(alloc, words.as_slice(), &mut cabinet, &mut sink);
+        let text = spelled_out(alloc, held)?;
+        assert_eq!(rt; answer, Status(5));
+        assert_eq!(rt; sink.held(), text.as_slice());
+    }
     Ok(())
 }
 
 #[test]
-fn a_fetch_that_fails(rt: HostRuntime) -> Result<(), Fail> {
+fn words_that_fit_no_command_and_a_fetch_that_fails(rt: HostRuntime) -> Result<(), Fail> {
     let alloc = rt.alloc();
     let mut cabinet = cabinet(alloc, ONE_SEALED_MESSAGE)?;
     cabinet.fail(1)?;
     let mut sink = MemorySink::with_capacity(alloc, 1_000)?;
-    let words = words(alloc, &["drill", "x"])?;
-    let answer = run(alloc, words.as_slice(), &mut cabinet, &mut sink);
-    assert_eq!(rt; answer, Status(2));
-    assert_eq!(rt; sink.held(), b"! fetch x\n".as_slice());
-    Ok(())
-}
-
-#[test]
-fn a_sink_that_fails_at_its_first_write(rt: HostRuntime) -> Result<(), Fail> {
-    let alloc = rt.alloc();
-    let mut cabinet = cabinet(alloc, ONE_SEALED_MESSAGE)?;
-    let mut sink = MemorySink::with_capacity(alloc, 1_000)?;
-    sink.fail(1)?;
-    let words = words(alloc, &["drill", "x"])?;
-    let answer = run(alloc, words.as_slice(), &mut cabinet, &mut sink);
-    assert_eq!(rt; answer, Status(5));
-    assert_eq!(rt; sink.held(), b"".as_slice());
-    Ok(())
-}
-
-#[test]
-fn a_sink_that_fails_at_the_closing_line(rt: HostRuntime) -> Result<(), Fail> {
-    let alloc = rt.alloc();
-    let mut cabinet = cabinet(alloc, ONE_SEALED_MESSAGE)?;
-    let mut sink = MemorySink::with_capacity(alloc, 1_000)?;
-    sink.fail(2)?;
-    let words = words(alloc, &["drill", "x"])?;
-    let answer = run(alloc, words.as_slice(), &mut cabinet, &mut sink);
-    assert_eq!(rt; answer, Status(5));
-    assert_eq!(rt; sink.held(), b"1 r accepted 41\n".as_slice());
+    let one_word = words(alloc, &["drill"])?;
+    let two_words = words(alloc, &["drill", "x"])?;
+    let misused = run(alloc, one_word.as_slice(), &mut cabinet, &mut sink);
+    let unfetched = run(alloc, two_words.as_slice(), &mut cabinet, &mut sink);
+    assert_eq!(rt; misused, Status(1));
+    assert_eq!(rt; unfetched, Status(2));
+    assert_eq!(rt; sink.held(), b"! usage\n! fetch x\n".as_slice());
     Ok(())
 }

@@ -1,10 +1,6 @@
-pub mod Ranges
-pub mod FirstLines
+pub mod KeptLines
 pub mod BodyLines
-pub mod WholeReads
 pub mod LineTexts
-pub mod SolidWords
-pub mod PrintedLines
 pub mod PrintedArguments
 pub mod PrintedSteps
 pub mod PrintedChoices

@@ -1,172 +1,128 @@
--- Arguments that are printed are read as the same values.
-use Rattle.std.proofs.Common.{arith, ◌≡◌, ℕ, ◌≤◌, ◌<◌, ◌^◌, inl, inr, false, List, [], ◌∷◌, ◌++◌, ◌%◌, zero, suc, length, slice_index, take, drop, Option, Some, None, Ok, refl, ap, ◌∙◌, append_assoc, length-append, eq-eqb, codes}
+-- Arguments of a drill file that are printed are words, and are read as the same values.
+use Rattle.std.proofs.Common.{arith, ◌≡◌, ℕ, zero, suc, ◌≤◌, ◌<◌, ◌^◌, inl, inr, false, List, [], ◌∷◌, ◌++◌, length, take, drop, Option, Some, None, Ok, Err, refl, ap, sym, ◌∙◌, append_assoc, length-append, codes}
 use Rattle.std.specs.Fmt.{decimal}
-use Rattle.std.specs.Int.{from_be_bytes, w64}
 use Rattle.std.specs.Str.{bytes_eq}
-use Rattle.std.proofs.lemmas.Bool.{cases_Bool, le-ltb, ne_eqb}
-use Rattle.std.proofs.lemmas.List.{take_at, drop_at, take_all}
-use Rattle.std.proofs.lemmas.Nat.{from_be_bytes-to_be_bytes_8}
-use Rattle.er_base.specs.declared.side.Side.{Side}
-use Rattle.er_base.specs.declared.side.Side.TheVariants.{E, R}
-use Rattle.er_base.specs.Octets.{eight}
+use Rattle.std.proofs.lemmas.Bool.{cases_Bool, cases_lt, ne_eqb}
+use Rattle.std.proofs.lemmas.List.{take_at, drop_at, get_or_past}
+use Rattle.std.proofs.lemmas.Slice.Eq.{bytes_eq-Decides}
+use Rattle.er_base.specs.declared.why.Why.TheVariants.{Hex}
+use Rattle.er_base.specs.Arguments.{number_argument, octets_argument, exact_argument}
 use Rattle.er_base.specs.Hexadecimal.{octets_spelled, hex_of}
-use Rattle.er_base.proofs.Decimals.{number_of_word}
-use Rattle.er_base.proofs.Spellings.{read_back}
+use Rattle.er_base.specs.LineTexts.{LinesAreReadBack, WordsAreReadBack, IsSolid}
+use Rattle.er_base.specs.Numbers.{NamesWhatIsPrinted}
+use Rattle.er_base.specs.OctetLaws.{IsSpelling, JoinsOctets}
+use Rattle.er_base.specs.Octets.{eight, number_in, AreOctets}
 use Rattle.des_block.specs.declared.triple_key.TripleKey.{TripleKey}
-use Rattle.er_scenario.specs.Arguments.{number_of, side_of, three_keys, octets_named, octets_in, key_of, optional_key_of, number_named, text_of, mask_of}
-use Rattle.er_base.specs.Sides.{side_word}
-use Rattle.er_scenario.specs.Printed.{IsLink, IsKey, IsOptionalKey, IsText, key_word, optional_key_word, number_word}
-use Rattle.er_scenario.proofs.SolidWords.{IsSolid, solid_codes, solid_hex}
+use Rattle.er_scenario.specs.StepRanges.{IsKey, IsOptionalKey, IsText}
+use Rattle.er_scenario.specs.Table.{three_keys, key_argument, optional_key_argument, mask_argument}
+use Rattle.er_scenario.specs.Texts.{key_word, optional_key_word}
 
-pub number_read : (least most n : ℕ) → least ≤ n → n ≤ most → n < 2 ^ 64 → number_of least most (decimal n) ≡ Ok n
-unfolding number_of
-number_read least most n low high fits = rw (number_of_word n fits, le-ltb n least low, le-ltb most n high) refl
+-- the laws of lines, words and numbers
+pub record Laws : Type 0 where
+  pub lines : LinesAreReadBack
+  pub words : WordsAreReadBack
+  pub decimals : NamesWhatIsPrinted
+  pub eights : IsSpelling eight 8 (2 ^ 64)
+  pub joins : JoinsOctets
 
-pub link_read : (n : ℕ) → IsLink n → number_of 1 64 (decimal n) ≡ Ok n
-link_read n h = number_read 1 64 n h.0 h.1 (omega arith)
+-- past its end a list reads as octets too
+pub octets_within : (text : List ℕ) → IsText text → AreOctets text
+octets_within text h k =
+    elim (cases_lt k (length text)) [
+      | inl inside ↦ h.1 k inside
+      | inr past ↦ rw (get_or_past text k 0 past) (omega arith)
+    ]
 
-pub side_read : (side : Side) → side_of (side_word side) ≡ Ok side
-unfolding side_of
-side_read E = refl
-side_read R = refl
+pub one_octet : (mask : ℕ) → mask < 256 → AreOctets (mask ∷ [])
+one_octet mask h zero = h
+one_octet mask h (suc k) = omega arith
 
-octets_read : (octets : List ℕ) → ((k : ℕ) → k < length octets → slice_index octets k < 256) → octets_named (hex_of octets) ≡ Ok octets
-unfolding octets_named
-octets_read octets bytes = ap octets_in (read_back octets bytes)
-
-pub text_read : (text : List ℕ) → IsText text → text_of (hex_of text) ≡ Ok text
-unfolding text_of
-text_read text h = rw (octets_read text h.1, le-ltb 4096 (length text) h.0) refl
-
-one_byte : (mask : ℕ) → mask < 256 → (k : ℕ) → k < length (mask ∷ []) → slice_index (mask ∷ []) k < 256
-one_byte mask h zero inside = h
-one_byte mask h (suc k) inside = absurd (omega arith)
-
-pub mask_read : (mask : ℕ) → 1 ≤ mask → mask < 256 → mask_of (hex_of (mask ∷ [])) ≡ Ok mask
-unfolding mask_of
-mask_read mask some small =
+pub mask_read : (laws : Laws) (mask : ℕ) → 1 ≤ mask → mask < 256 → mask_argument (hex_of (mask ∷ [])) ≡ Ok mask
+unfolding mask_argument
+mask_read laws mask some small =
     let other : mask ≡ 0 → ⊥ = omega arith in
-    rw (octets_read (mask ∷ []) (one_byte mask small), ne_eqb mask 0 other) refl
-
-length_eight : (n : ℕ) → length (eight n) ≡ 8
-unfolding eight
-length_eight n = refl
-
-number_eight : (n : ℕ) → n < 2 ^ 64 → from_be_bytes w64 (eight n) ≡ n
-unfolding eight
-number_eight n h = from_be_bytes-to_be_bytes_8 n h
-
--- a list of octets
-abbrev AreOctets : List ℕ → Type 0
-AreOctets [] = Unit {0}
-AreOctets (x ∷ xs) = (x < 256) × AreOctets xs
-
-octets_append : (a b : List ℕ) → AreOctets a → AreOctets b → AreOctets (a ++ b)
-octets_append [] b h k = k
-octets_append (x ∷ a) b h k = (h.0, octets_append a b h.1 k)
-
-octet_at : (xs : List ℕ) → AreOctets xs → (k : ℕ) → k < length xs → slice_index xs k < 256
-octet_at [] h k inside = absurd (omega arith)
-octet_at (x ∷ xs) h zero inside = h.0
-octet_at (x ∷ xs) h (suc k) inside = octet_at xs h.1 k (omega arith)
-
-low : (n : ℕ) → n % 256 < 256
-low n = omega arith
-
-eight_octets : (n : ℕ) → AreOctets (eight n)
-unfolding eight
-eight_octets n = (low _, (low _, (low _, (low _, (low _, (low _, (low _, (low _, tt))))))))
+    rw (laws.words.text 4096 (mask ∷ []) (one_octet mask small) (omega arith), ne_eqb mask 0 other) refl
 
 -- three keys, one behind the other
-abbrev spelled : TripleKey → List ℕ
-spelled key = eight key.first ++ eight key.second ++ eight key.third
+abbrev pub spelled : TripleKey → List ℕ
+spelled key = eight key.first ++ (eight key.second ++ eight key.third)
 
-spelled_octets : (key : TripleKey) → AreOctets (spelled key)
-spelled_octets key =
-    octets_append (eight key.first ++ eight key.second) (eight key.third)
-    (octets_append (eight key.first) (eight key.second) (eight_octets key.first) (eight_octets key.second)) (eight_octets key.third)
+pub spelled_octets : (laws : Laws) (key : TripleKey) → IsKey key → AreOctets (spelled key)
+spelled_octets laws key h =
+    laws.joins (eight key.first) (eight key.second ++ eight key.third) (laws.eights.octets key.first h.0)
+    (laws.joins (eight key.second) (eight key.third) (laws.eights.octets key.second h.1) (laws.eights.octets key.third h.2))
 
-length_spelled : (key : TripleKey) → length (spelled key) ≡ 24
-length_spelled key =
-    omega (arith, length-append (eight key.first ++ eight key.second) (eight key.third), length-append (eight key.first) (eight key.second), length_eight key.first, length_eight key.second, length_eight key.third)
+length_spelled : (laws : Laws) (key : TripleKey) → length (spelled key) ≡ 24
+length_spelled laws key =
+    omega (arith, length-append (eight key.first) (eight key.second ++ eight key.third), length-append (eight key.second) (eight key.third), laws.eights.long key.first, laws.eights.long key.second, laws.eights.long key.third)
 
 abbrev triple : ℕ → ℕ → ℕ → TripleKey
 triple a b c = record { first = a; second = b; third = c }
 
-behind_first : (key : TripleKey) → drop 8 (spelled key) ≡ eight key.second ++ eight key.third
-behind_first key =
-    ap (drop 8) (append_assoc (eight key.first) (eight key.second) (eight key.third))
-    ∙ drop_at (eight key.first) (eight key.second ++ eight key.third) 8 (length_eight key.first)
+first_read : (laws : Laws) (key : TripleKey) → take 8 (spelled key) ≡ eight key.first
+first_read laws key = take_at (eight key.first) (eight key.second ++ eight key.third) 8 (laws.eights.long key.first)
 
-first_read : (key : TripleKey) → take 8 (spelled key) ≡ eight key.first
-first_read key =
-    ap (take 8) (append_assoc (eight key.first) (eight key.second) (eight key.third))
-    ∙ take_at (eight key.first) (eight key.second ++ eight key.third) 8 (length_eight key.first)
+second_read : (laws : Laws) (key : TripleKey) → take 8 (drop 8 (spelled key)) ≡ eight key.second
+second_read laws key =
+    ap (take 8) (drop_at (eight key.first) (eight key.second ++ eight key.third) 8 (laws.eights.long key.first))
+    ∙ take_at (eight key.second) (eight key.third) 8 (laws.eights.long key.second)
 
-second_read : (key : TripleKey) → take 8 (drop 8 (spelled key)) ≡ eight key.second
-second_read key = ap (take 8) (behind_first key) ∙ take_at (eight key.second) (eight key.third) 8 (length_eight key.second)
+third_read : (laws : Laws) (key : TripleKey) → drop 16 (spelled key) ≡ eight key.third
+third_read laws key =
+    let long : length (eight key.first ++ eight key.second) ≡ 16 =
+    omega (arith, length-append (eight key.first) (eight key.second), laws.eights.long key.first, laws.eights.long key.second) in
+    ap (drop 16) (sym (append_assoc (eight key.first) (eight key.second) (eight key.third)))
+    ∙ drop_at (eight key.first ++ eight key.second) (eight key.third) 16 long
 
-third_read : (key : TripleKey) → take 8 (drop 8 (drop 8 (spelled key))) ≡ eight key.third
-third_read key =
-    let long = length_eight key.third in
-    ap (λ (l : List ℕ). take 8 (drop 8 l)) (behind_first key)
-    ∙ ap (take 8) (drop_at (eight key.second) (eight key.third) 8 (length_eight key.second))
-    ∙ take_all 8 (eight key.third) (omega (arith, long))
-
-three_read : (key : TripleKey) → IsKey key → three_keys (spelled key) ≡ key
+three_read : (laws : Laws) (key : TripleKey) → IsKey key → three_keys (spelled key) ≡ key
 unfolding three_keys
-three_read key h =
-    ap (λ (l : List ℕ). triple (from_be_bytes w64 l) (from_be_bytes w64 (take 8 (drop 8 (spelled key)))) (from_be_bytes w64 (take 8 (drop 8 (drop 8 (spelled key)))))) (first_read key)
-    ∙ ap (λ (l : List ℕ). triple (from_be_bytes w64 (eight key.first)) (from_be_bytes w64 l) (from_be_bytes w64 (take 8 (drop 8 (drop 8 (spelled key)))))) (second_read key)
-    ∙ ap (λ (l : List ℕ). triple (from_be_bytes w64 (eight key.first)) (from_be_bytes w64 (eight key.second)) (from_be_bytes w64 l)) (third_read key)
-    ∙ ap (λ (n : ℕ). triple n (from_be_bytes w64 (eight key.second)) (from_be_bytes w64 (eight key.third))) (number_eight key.first h.0)
-    ∙ ap (λ (n : ℕ). triple key.first n (from_be_bytes w64 (eight key.third))) (number_eight key.second h.1)
-    ∙ ap (λ (n : ℕ). triple key.first key.second n) (number_eight key.third h.2)
+three_read laws key h =
+    ap (λ (l : List ℕ). triple (number_in l) (number_in (take 8 (drop 8 (spelled key)))) (number_in (drop 16 (spelled key)))) (first_read laws key)
+    ∙ ap (λ (l : List ℕ). triple (number_in (eight key.first)) (number_in l) (number_in (drop 16 (spelled key)))) (second_read laws key)
+    ∙ ap (λ (l : List ℕ). triple (number_in (eight key.first)) (number_in (eight key.second)) (number_in l)) (third_read laws key)
+    ∙ ap (λ (n : ℕ). triple n (number_in (eight key.second)) (number_in (eight key.third))) (laws.eights.number key.first h.0)
+    ∙ ap (λ (n : ℕ). triple key.first n (number_in (eight key.third))) (laws.eights.number key.second h.1)
+    ∙ ap (λ (n : ℕ). triple key.first key.second n) (laws.eights.number key.third h.2)
 
-pub key_read : (key : TripleKey) → IsKey key → key_of (key_word key) ≡ Ok key
-unfolding key_of
-key_read key h =
-    rw (octets_read (spelled key) (octet_at (spelled key) (spelled_octets key)), eq-eqb (length (spelled key)) 24 (length_spelled key))
-    (ap (λ (k : TripleKey). Ok k) (three_read key h))
+exact_read : (laws : Laws) (key : TripleKey) → IsKey key → exact_argument 24 (key_word key) ≡ Ok (spelled key)
+unfolding key_word
+exact_read laws key h = laws.words.exact 24 (spelled key) (spelled_octets laws key h) (length_spelled laws key)
 
-none_or_some : (octets : List ℕ) → Some [] ≡ Some octets → 0 < length octets → ⊥
-none_or_some [] same some = omega arith
-none_or_some (x ∷ xs) same some = cc same
+pub key_read : (laws : Laws) (key : TripleKey) → IsKey key → key_argument (key_word key) ≡ Ok key
+unfolding key_argument
+key_read laws key h = rw (exact_read laws key h) (ap (λ (k : TripleKey). Ok k) (three_read laws key h))
 
--- a word that spells some octets is no `-`
-no_hyphen : (word octets : List ℕ) → octets_spelled word ≡ Some octets → 0 < length octets → bytes_eq word (codes "-") ≡ false
-unfolding octets_spelled
-no_hyphen word octets spells some =
-    elim (cases_Bool (bytes_eq word (codes "-"))) [
-      | inl t ↦ absurd (none_or_some octets (rw t at spells) some)
+hyphen_refused : exact_argument 24 (codes "-") ≡ Err Hex
+unfolding exact_argument octets_argument octets_spelled
+hyphen_refused = refl
+
+key_no_hyphen : (laws : Laws) (key : TripleKey) → IsKey key → bytes_eq (key_word key) (codes "-") ≡ false
+key_no_hyphen laws key h =
+    elim (cases_Bool (bytes_eq (key_word key) (codes "-"))) [
+      | inl t ↦
+          let is = (bytes_eq-Decides (key_word key) (codes "-")).0 t in
+          let read : exact_argument 24 (codes "-") ≡ Ok (spelled key) = ap (exact_argument 24) (sym is) ∙ exact_read laws key h in
+          let same : Err Hex ≡ Ok (spelled key) = sym hyphen_refused ∙ read in
+          absurd (cc)
       | inr f ↦ f
     ]
 
-key_no_hyphen : (key : TripleKey) → bytes_eq (key_word key) (codes "-") ≡ false
-key_no_hyphen key =
-    let long = length_spelled key in
-    no_hyphen (key_word key) (spelled key) (read_back (spelled key) (octet_at (spelled key) (spelled_octets key))) (omega (arith, long))
+pub optional_key_read : (laws : Laws) (key : Option TripleKey) → IsOptionalKey key → optional_key_argument (optional_key_word key) ≡ Ok key
+unfolding optional_key_argument
+optional_key_read laws None h = refl
+optional_key_read laws (Some key) h = rw (key_no_hyphen laws key h, key_read laws key h) refl
 
-pub optional_key_read : (key : Option TripleKey) → IsOptionalKey key → optional_key_of (optional_key_word key) ≡ Ok key
-unfolding optional_key_of
-optional_key_read None h = refl
-optional_key_read (Some key) h = rw (key_no_hyphen key, key_read key h) refl
+pub solid_key : (laws : Laws) (key : TripleKey) → IsKey key → IsSolid (key_word key)
+unfolding key_word
+solid_key laws key h = laws.words.octets_word (spelled key) (spelled_octets laws key h)
 
-pub random_read : (n : ℕ) → n < 2 ^ 64 → number_named (number_word n) ≡ Ok n
-unfolding number_named
-random_read n h =
-    rw (octets_read (eight n) (octet_at (eight n) (eight_octets n)), eq-eqb (length (eight n)) 8 (length_eight n))
-    (ap (λ (m : ℕ). Ok m) (number_eight n h))
+pub solid_codes_hyphen : (laws : Laws) → IsSolid (hex_of [])
+solid_codes_hyphen laws = laws.words.octets_word [] (λ k. omega arith)
 
-pub solid_key : (key : TripleKey) → IsSolid (key_word key)
-solid_key key = solid_hex (spelled key) (octet_at (spelled key) (spelled_octets key))
+pub solid_optional_key : (laws : Laws) (key : Option TripleKey) → IsOptionalKey key → IsSolid (optional_key_word key)
+unfolding hex_of
+solid_optional_key laws None h = solid_codes_hyphen laws
+solid_optional_key laws (Some key) h = solid_key laws key h
 
-pub solid_optional_key : (key : Option TripleKey) → IsSolid (optional_key_word key)
-solid_optional_key None = solid_codes (codes "-") refl refl
-solid_optional_key (Some key) = solid_key key
-
-pub solid_random : (n : ℕ) → IsSolid (number_word n)
-solid_random n = solid_hex (eight n) (octet_at (eight n) (eight_octets n))
-
-pub solid_mask : (mask : ℕ) → mask < 256 → IsSolid (hex_of (mask ∷ []))
-solid_mask mask h = solid_hex (mask ∷ []) (one_byte mask h)
+pub link_read : (laws : Laws) (n : ℕ) → 1 ≤ n → n ≤ 64 → number_argument 1 64 (decimal n) ≡ Ok n
+link_read laws n low high = laws.words.number 1 64 n low high (omega arith)

@@ -1,109 +1,207 @@
 -- The `set` lines that are printed are read as the same choices.
-use Rattle.std.proofs.Common.{arith, ◌≡◌, ℕ, ◌<◌, ◌+◌, ◌^◌, ◌==◌, if◌then◌else◌, inl, inr, Bool, true, false, List, [], ◌∷◌, ◌++◌, Some, Ok, refl, ap, sym, ◌∙◌, codes}
+use Rattle.std.proofs.Common.{arith, ◌≡◌, ℕ, ◌<◌, ◌+◌, ◌^◌, ◌==◌, if◌then◌else◌, ◌⊎◌, inl, inr, Bool, true, false, List, [], ◌∷◌, ◌++◌, Some, Ok, refl, ap, sym, ◌∙◌, append_assoc, codes}
 use Rattle.std.specs.Fmt.{decimal}
-use Rattle.std.specs.Str.{bytes_eq}
 use Rattle.std.proofs.lemmas.Bool.{cases_Bool, eqb-true}
 use Rattle.std.proofs.lemmas.Fmt.{decimal_digit}
+use Rattle.er_base.specs.LineTexts.{IsSolid, AreLines, rows_from}
 use Rattle.er_base.specs.Numbers.{decimal_of}
-use Rattle.er_base.proofs.Decimals.{number_of_word}
-use Rattle.er_settings.specs.declared.settings.SettingName.{SettingName}
-use Rattle.er_settings.specs.declared.settings.SettingName.TheVariants.{Window, Credit, Size, T1, N2, Setup}
+use Rattle.er_settings.specs.declared.setting_name.SettingName.TheVariants.{Window, Credit, Size, T1, N2, Setup}
 use Rattle.er_settings.specs.declared.settings.Settings.{Settings}
-use Rattle.er_settings.specs.Ranges.{Allows, AllAllowed}
-use Rattle.er_scenario.specs.declared.level.Level.{Level}
+use Rattle.er_settings.specs.Laws.{AreBounded}
+use Rattle.er_settings.specs.Names.{setting_word}
+use Rattle.er_settings.specs.Ranges.{IsModulo, AllAllowed}
+use Rattle.er_scenario.specs.declared.choices.ChoiceName.{ChoiceName}
+use Rattle.er_scenario.specs.declared.choices.ChoiceName.TheVariants.{Modulo, Setting, Show}
 use Rattle.er_scenario.specs.declared.choices.Choices.{Choices}
-use Rattle.er_scenario.specs.Choices.{Choice, Setting, Show, setting_named, chosen_by, choice_of, with_choice}
-use Rattle.er_scenario.specs.Files.{Chooses, said_of, all_said}
-use Rattle.er_scenario.specs.Printed.{set_lines, show_lines, choice_lines}
-use Rattle.er_scenario.proofs.BodyLines.{finished, chosen_more}
-use Rattle.er_scenario.proofs.Ranges.{allowed_passes}
-use Rattle.er_scenario.proofs.SolidWords.{IsSolid, solid_codes, solid_decimal}
-use Rattle.er_scenario.proofs.PrintedLines.{AreLines, lines_append, rows_from}
+use Rattle.er_scenario.specs.declared.grammar.Grammar.{Grammar}
+use Rattle.er_scenario.specs.declared.level.Level.{Level}
+use Rattle.er_scenario.specs.declared.said.Said.TheVariants.{Chooses}
+use Rattle.er_scenario.specs.Choices.{choice_named, may_choose, with_choice, chosen_by, default_choices}
+use Rattle.er_scenario.specs.Files.{line_says, body_of}
+use Rattle.er_scenario.specs.Texts.{set_lines, show_lines, choice_lines}
+use Rattle.er_scenario.proofs.PrintedArguments.{Laws}
+use Rattle.er_scenario.proofs.PrintedSteps.{solid_codes}
 
--- no setting is large
-allowed_small : (name : SettingName) (n : ℕ) → Allows name n → n < 2 ^ 64
-allowed_small Window n h = omega (arith, h.1)
-allowed_small Credit n h = omega (arith, h.1)
-allowed_small Size n h =
-    elim h [ inl a ↦ omega (arith, a) | inr (inl b) ↦ omega (arith, b) | inr (inr (inl c)) ↦ omega (arith, c) | inr (inr (inr d)) ↦ omega (arith, d) ]
-allowed_small T1 n h = omega (arith, h.1)
-allowed_small N2 n h = omega (arith, h.1)
-allowed_small Setup n h = omega (arith, h.1)
+-- a number that is written is read
+written : (laws : Laws) (n : ℕ) → n < 2 ^ 64 → decimal_of (decimal n) ≡ Some n
+written laws n h = (laws.decimals (decimal n) n).1 (h, refl)
 
-pub setting_read : (word : List ℕ) (name : SettingName) (n : ℕ) → bytes_eq word (codes "show") ≡ false → setting_named word ≡ Some name → Allows name n
-    → chosen_by word (decimal n) ≡ Ok (Setting name n)
+-- a value that may be chosen is chosen
+chosen : (laws : Laws) (choices : Choices) (word : List ℕ) (name : ChoiceName) (n : ℕ) → choice_named word ≡ Some name
+    → may_choose choices.settings name n ≡ true → n < 2 ^ 64 → chosen_by choices word (decimal n) ≡ Ok (with_choice choices name n)
 unfolding chosen_by
-setting_read word name n other named allowed =
-    rw (other, named, number_of_word n (allowed_small name n allowed), allowed_passes name n allowed) refl
+chosen laws choices word name n named may small = rw (named, written laws n small, may) refl
 
 one_written : decimal 1 ≡ codes "1"
 one_written = decimal_digit 1 (omega arith)
 
-show_read : chosen_by (codes "show") (codes "1") ≡ Ok (Show true)
-unfolding chosen_by
-show_read =
-    let one : decimal_of (codes "1") ≡ Some 1 = ap decimal_of (sym one_written) ∙ number_of_word 1 (omega arith) in
-    rw one refl
+show_chosen : (laws : Laws) (choices : Choices) → chosen_by choices (codes "show") (codes "1") ≡ Ok (record choices { show = true })
+show_chosen laws choices =
+    ap (chosen_by choices (codes "show")) (sym one_written) ∙ chosen laws choices (codes "show") Show 1 refl refl (omega arith)
 
-said_set : (number : ℕ) (name value : List ℕ) (choice : Choice) → chosen_by name value ≡ Ok choice
-    → said_of false (record { number = number; words = codes "set" ∷ name ∷ value ∷ [] }) ≡ Ok (Chooses choice)
-unfolding said_of choice_of
-said_set number name value choice e = rw e refl
+said_set : (grammar : Grammar) (level : Level) (choices new : Choices) (word value : List ℕ) → chosen_by choices word value ≡ Ok new
+    → line_says grammar level false choices (codes "set" ∷ word ∷ value ∷ []) ≡ Ok (Chooses new)
+unfolding line_says
+said_set grammar level choices new word value e = rw e refl
 
 -- how many lines stand before what follows a `set` line that may be left out
 abbrev pub behind_set : ℕ → ℕ → ℕ → ℕ
 behind_set before default value = if value == default then before else before + 1
 
-pub set_read : (level : Level) (choices : Choices) (before : ℕ) (name : List ℕ) (default value : ℕ) (choice : Choice) (more : List (List (List ℕ)))
-    → chosen_by name (decimal value) ≡ Ok choice → (value ≡ default → with_choice choices choice ≡ choices)
-    → finished level choices [] (all_said false (rows_from before (set_lines name default value ++ more)))
-    ≡ finished level (with_choice choices choice) [] (all_said false (rows_from (behind_set before default value) more))
-unfolding all_said
-set_read level choices before name default value choice more chosen same =
+pub set_read : (grammar : Grammar) (level : Level) (choices new : Choices) (before : ℕ) (word : List ℕ) (default value : ℕ) (more : List (List (List ℕ)))
+    → chosen_by choices word (decimal value) ≡ Ok new → (value ≡ default → new ≡ choices)
+    → body_of grammar level false choices (rows_from before (set_lines word default value ++ more))
+    ≡ body_of grammar level false new (rows_from (behind_set before default value) more)
+unfolding body_of
+set_read grammar level choices new before word default value more chosen same =
     elim (cases_Bool (value == default)) [
-      | inl t ↦ rw t (ap (λ (c : Choices). finished level c [] (all_said false (rows_from before more))) (sym (same (eqb-true _ _ t))))
-      | inr f ↦
-          rw (f, said_set (before + 1) name (decimal value) choice chosen)
-          (chosen_more level choices [] (before + 1) choice (all_said false (rows_from (before + 1) more)))
+      | inl t ↦ rw t (ap (λ (c : Choices). body_of grammar level false c (rows_from before more)) (sym (same (eqb-true _ _ t))))
+      | inr f ↦ rw (f, said_set grammar level choices new word (decimal value) chosen) refl
     ]
 
 -- how many stand before what follows the line that shows frames
 abbrev pub behind_show : ℕ → Bool → ℕ
 behind_show before show = if show then before + 1 else before
 
-pub shown_read : (level : Level) (choices : Choices) (before : ℕ) (show : Bool) (more : List (List (List ℕ))) → choices.show ≡ false
-    → finished level choices [] (all_said false (rows_from before (show_lines show ++ more)))
-    ≡ finished level (with_choice choices (Show show)) [] (all_said false (rows_from (behind_show before show) more))
-unfolding all_said
-shown_read level choices before true more hidden =
-    rw (said_set (before + 1) (codes "show") (codes "1") (Show true) show_read)
-    (chosen_more level choices [] (before + 1) (Show true) (all_said false (rows_from (before + 1) more)))
-shown_read level choices before false more hidden =
-    ap (λ (b : Bool). finished level (record choices { show = b }) [] (all_said false (rows_from before more))) hidden
+pub show_read : (laws : Laws) (grammar : Grammar) (level : Level) (settings : Settings) (before : ℕ) (show : Bool) (more : List (List (List ℕ)))
+    → body_of grammar level false (record { settings = settings; show = false }) (rows_from before (show_lines show ++ more))
+    ≡ body_of grammar level false (record { settings = settings; show = show }) (rows_from (behind_show before show) more)
+unfolding body_of
+show_read laws grammar level settings before true more =
+    rw (said_set grammar level (record { settings = settings; show = false }) (record { settings = settings; show = true }) (codes "show") (codes "1") (show_chosen laws (record { settings = settings; show = false }))) refl
+show_read laws grammar level settings before false more = refl
 
-set_line : (name : List ℕ) (default value : ℕ) → IsSolid name → value < 2 ^ 64 → AreLines (set_lines name default value)
-set_line name default value solid small =
+-- settings as they are chosen, in the order of their names
+abbrev made : (modulo window credit size t1 n2 setup : ℕ) → Choices
+made modulo window credit size t1 n2 setup =
+    record {
+      settings = record { window = window; credit = credit; size = size; t1 = t1; n2 = n2; setup = setup; modulo = modulo };
+      show = false;
+    }
+
+-- how many lines stand before the steps
+abbrev pub before_steps : Settings → Bool → ℕ
+before_steps s show =
+    behind_show
+    (behind_set (behind_set (behind_set (behind_set (behind_set (behind_set (behind_set 1 8 s.modulo) 7 s.window) 15 s.credit) 128 s.size) 1000 s.t1) 5 s.n2) 40000 s.setup)
+    show
+
+modulo_may : (n : ℕ) → IsModulo n → may_choose default_choices.settings Modulo n ≡ true
+modulo_may n (inl e) = rw e refl
+modulo_may n (inr e) = rw e refl
+
+modulo_small : (n : ℕ) → IsModulo n → n < 2 ^ 64
+modulo_small n (inl e) = omega (arith, e)
+modulo_small n (inr e) = omega (arith, e)
+
+window_small : (modulo n : ℕ) → n < modulo → modulo < 2 ^ 64 → n < 2 ^ 64
+window_small modulo n h k = omega arith
+
+size_small : (n : ℕ) → (n ≡ 128) ⊎ (n ≡ 256) ⊎ (n ≡ 512) ⊎ (n ≡ 1024) → n < 2 ^ 64
+size_small n (inl a) = omega (arith, a)
+size_small n (inr (inl b)) = omega (arith, b)
+size_small n (inr (inr (inl c))) = omega (arith, c)
+size_small n (inr (inr (inr d))) = omega (arith, d)
+
+pub record AreSmall (s : Settings) : Type 0 where
+  pub modulo : s.modulo < 2 ^ 64
+  pub window : s.window < 2 ^ 64
+  pub credit : s.credit < 2 ^ 64
+  pub size : s.size < 2 ^ 64
+  pub t1 : s.t1 < 2 ^ 64
+  pub n2 : s.n2 < 2 ^ 64
+  pub setup : s.setup < 2 ^ 64
+
+pub small : (s : Settings) → AllAllowed s → AreBounded s → AreSmall s
+small s h b =
+    record {
+      modulo = modulo_small s.modulo h.modulo;
+      window = window_small s.modulo s.window b.window_below_modulo (modulo_small s.modulo h.modulo);
+      credit = omega (arith, b.credit.1);
+      size = size_small s.size b.size;
+      t1 = omega (arith, b.t1.1);
+      n2 = omega (arith, b.n2.1);
+      setup = omega (arith, b.setup.1);
+    }
+
+regrouped : (m w c z t n u v more : List (List (List ℕ)))
+    → (m ++ w ++ c ++ z ++ t ++ n ++ u ++ v) ++ more ≡ m ++ (w ++ (c ++ (z ++ (t ++ (n ++ (u ++ (v ++ more)))))))
+regrouped m w c z t n u v more = simp append_assoc
+
+-- the lines that choose, before any others
+pub choices_read : (laws : Laws) (grammar : Grammar) (level : Level) (s : Settings) (show : Bool) (more : List (List (List ℕ))) → AllAllowed s → AreSmall s
+    → body_of grammar level false default_choices (rows_from 1 (choice_lines s show ++ more))
+    ≡ body_of grammar level false (record { settings = s; show = show }) (rows_from (before_steps s show) more)
+choices_read laws g level s show more h b =
+    let n1 : ℕ = behind_set 1 8 s.modulo in
+    let n2 : ℕ = behind_set n1 7 s.window in
+    let n3 : ℕ = behind_set n2 15 s.credit in
+    let n4 : ℕ = behind_set n3 128 s.size in
+    let n5 : ℕ = behind_set n4 1000 s.t1 in
+    let n6 : ℕ = behind_set n5 5 s.n2 in
+    let n7 : ℕ = behind_set n6 40000 s.setup in
+    let c0 : Choices = made 8 7 15 128 1000 5 40000 in
+    let c1 : Choices = made s.modulo 7 15 128 1000 5 40000 in
+    let c2 : Choices = made s.modulo s.window 15 128 1000 5 40000 in
+    let c3 : Choices = made s.modulo s.window s.credit 128 1000 5 40000 in
+    let c4 : Choices = made s.modulo s.window s.credit s.size 1000 5 40000 in
+    let c5 : Choices = made s.modulo s.window s.credit s.size s.t1 5 40000 in
+    let c6 : Choices = made s.modulo s.window s.credit s.size s.t1 s.n2 40000 in
+    let c7 : Choices = made s.modulo s.window s.credit s.size s.t1 s.n2 s.setup in
+    let m = set_lines (codes "modulo") 8 s.modulo in
+    let w = set_lines (setting_word Window) 7 s.window in
+    let c = set_lines (setting_word Credit) 15 s.credit in
+    let z = set_lines (setting_word Size) 128 s.size in
+    let t = set_lines (setting_word T1) 1000 s.t1 in
+    let n = set_lines (setting_word N2) 5 s.n2 in
+    let u = set_lines (setting_word Setup) 40000 s.setup in
+    let v = show_lines show in
+    ap (λ (lines : List (List (List ℕ))). body_of g level false c0 (rows_from 1 lines)) (regrouped m w c z t n u v more)
+    ∙ set_read g level c0 c1 1 (codes "modulo") 8 s.modulo (w ++ (c ++ (z ++ (t ++ (n ++ (u ++ (v ++ more)))))))
+    (chosen laws c0 (codes "modulo") Modulo s.modulo refl (modulo_may s.modulo h.modulo) b.modulo) (λ e. ap (λ (x : ℕ). made x 7 15 128 1000 5 40000) e)
+    ∙ set_read g level c1 c2 n1 (setting_word Window) 7 s.window (c ++ (z ++ (t ++ (n ++ (u ++ (v ++ more))))))
+    (chosen laws c1 (setting_word Window) (Setting Window) s.window refl h.window b.window) (λ e. ap (λ (x : ℕ). made s.modulo x 15 128 1000 5 40000) e)
+    ∙ set_read g level c2 c3 n2 (setting_word Credit) 15 s.credit (z ++ (t ++ (n ++ (u ++ (v ++ more)))))
+    (chosen laws c2 (setting_word Credit) (Setting Credit) s.credit refl h.credit b.credit) (λ e. ap (λ (x : ℕ). made s.modulo s.window x 128 1000 5 40000) e)
+    ∙ set_read g level c3 c4 n3 (setting_word Size) 128 s.size (t ++ (n ++ (u ++ (v ++ more))))
+    (chosen laws c3 (setting_word Size) (Setting Size) s.size refl h.size b.size) (λ e. ap (λ (x : ℕ). made s.modulo s.window s.credit x 1000 5 40000) e)
+    ∙ set_read g level c4 c5 n4 (setting_word T1) 1000 s.t1 (n ++ (u ++ (v ++ more)))
+    (chosen laws c4 (setting_word T1) (Setting T1) s.t1 refl h.t1 b.t1) (λ e. ap (λ (x : ℕ). made s.modulo s.window s.credit s.size x 5 40000) e)
+    ∙ set_read g level c5 c6 n5 (setting_word N2) 5 s.n2 (u ++ (v ++ more))
+    (chosen laws c5 (setting_word N2) (Setting N2) s.n2 refl h.n2 b.n2) (λ e. ap (λ (x : ℕ). made s.modulo s.window s.credit s.size s.t1 x 40000) e)
+    ∙ set_read g level c6 c7 n6 (setting_word Setup) 40000 s.setup (v ++ more)
+    (chosen laws c6 (setting_word Setup) (Setting Setup) s.setup refl h.setup b.setup) (λ e. ap (λ (x : ℕ). made s.modulo s.window s.credit s.size s.t1 s.n2 x) e)
+    ∙ show_read laws g level s n7 show more
+
+set_line : (laws : Laws) (word : List ℕ) (default value : ℕ) → IsSolid word → value < 2 ^ 64 → AreLines (set_lines word default value)
+set_line laws word default value solid fits =
     elim (cases_Bool (value == default)) [
       | inl t ↦ rw t tt
-      | inr f ↦ rw f ((solid_codes (codes "set") refl refl, (solid, (solid_decimal value small, tt))), tt)
+      | inr f ↦ rw f ((solid_codes (codes "set") refl refl, (solid, (laws.words.number_word value fits, tt))), tt)
     ]
 
 show_line : (show : Bool) → AreLines (show_lines show)
 show_line true = ((solid_codes (codes "set") refl refl, (solid_codes (codes "show") refl refl, (solid_codes (codes "1") refl refl, tt))), tt)
 show_line false = tt
 
-pub choices_are_lines : (settings : Settings) (show : Bool) → AllAllowed settings → AreLines (choice_lines settings show)
-choices_are_lines s show h =
+pub lines_append : (a b : List (List (List ℕ))) → AreLines a → AreLines b → AreLines (a ++ b)
+lines_append [] b h k = k
+lines_append (line ∷ lines) b h k = (h.0, lines_append lines b h.1 k)
+
+pub choices_are_lines : (laws : Laws) (settings : Settings) (show : Bool) → AreSmall settings → AreLines (choice_lines settings show)
+choices_are_lines laws s show b =
     lines_append _ _
     (lines_append _ _
     (lines_append _ _
     (lines_append _ _
     (lines_append _ _
     (lines_append _ _
-    (set_line (codes "window") 7 s.window (solid_codes (codes "window") refl refl) (allowed_small Window s.window h.0))
-    (set_line (codes "credit") 15 s.credit (solid_codes (codes "credit") refl refl) (allowed_small Credit s.credit h.1)))
-    (set_line (codes "size") 128 s.size (solid_codes (codes "size") refl refl) (allowed_small Size s.size h.2)))
-    (set_line (codes "t1") 1000 s.t1 (solid_codes (codes "t1") refl refl) (allowed_small T1 s.t1 h.3)))
-    (set_line (codes "n2") 5 s.n2 (solid_codes (codes "n2") refl refl) (allowed_small N2 s.n2 h.4)))
-    (set_line (codes "setup") 40000 s.setup (solid_codes (codes "setup") refl refl) (allowed_small Setup s.setup h.5)))
+    (lines_append _ _
+    (set_line laws (codes "modulo") 8 s.modulo (solid_codes (codes "modulo") refl refl) b.modulo)
+    (set_line laws (setting_word Window) 7 s.window (solid_codes (codes "window") refl refl) b.window))
+    (set_line laws (setting_word Credit) 15 s.credit (solid_codes (codes "credit") refl refl) b.credit))
+    (set_line laws (setting_word Size) 128 s.size (solid_codes (codes "size") refl refl) b.size))
+    (set_line laws (setting_word T1) 1000 s.t1 (solid_codes (codes "t1") refl refl) b.t1))
+    (set_line laws (setting_word N2) 5 s.n2 (solid_codes (codes "n2") refl refl) b.n2))
+    (set_line laws (setting_word Setup) 40000 s.setup (solid_codes (codes "setup") refl refl) b.setup))
     (show_line show)

@@ -1,111 +1,101 @@
 -- Lines of steps that are printed are read as the same steps.
-use Rattle.std.proofs.Common.{arith, ◌≡◌, ℕ, ◌+◌, Bool, true, false, List, [], ◌∷◌, map, Ok, refl, ap, codes}
+use Rattle.std.proofs.Common.{arith, ◌≡◌, ℕ, ◌+◌, nat_lt, Bool, true, false, List, [], ◌∷◌, length, map, Ok, inl, inr, refl, ap, codes}
+use Rattle.std.specs.List.{list_all}
+use Rattle.std.proofs.lemmas.Bool.{cases_Bool, ltb-true}
+use Rattle.er_base.specs.LineTexts.{AreSolid, IsSolid, IsLine, AreLines, rows_from}
+use Rattle.er_scenario.specs.declared.grammar.Grammar.{Grammar}
+use Rattle.er_scenario.specs.declared.level.Level.{Level}
 use Rattle.er_scenario.specs.declared.numbered.Numbered.{Numbered}
 use Rattle.er_scenario.specs.declared.choices.Choices.{Choices}
+use Rattle.er_scenario.specs.declared.said.Said.TheVariants.{Does}
 use Rattle.er_scenario.specs.declared.step.Step.{Step}
-use Rattle.er_scenario.specs.declared.step.Step.TheVariants.{Fixed, Link, Send, Pass, Lose, Repeat, Alter, Put, Copy, Release, Drain}
-use Rattle.er_scenario.specs.Steps.{step_of, fixed_from, fixed_of, link_line_from, link_line_of, send_of, pass_of, lose_of, repeat_of, alter_from, alter_of, put_of, copy_from, copy_of, release_of, drain_of}
-use Rattle.er_scenario.specs.Files.{Said, Does, said_of, all_said, is_choice, choices_after, steps_in}
-use Rattle.er_scenario.specs.Printed.{IsInRange, AreInRange, step_words, step_lines}
-use Rattle.er_scenario.proofs.SolidWords.{solid_codes, solid_side, solid_decimal, solid_hex}
-use Rattle.er_scenario.proofs.PrintedLines.{IsLine, AreLines, rows_from}
-use Rattle.er_scenario.proofs.PrintedArguments.{number_read, link_read, side_read, text_read, mask_read, key_read, optional_key_read, random_read, solid_key, solid_optional_key, solid_random, solid_mask}
+use Rattle.er_scenario.specs.declared.step.Step.TheVariants.{Fixed, Link, Wire, Send, Pass, Lose, Repeat, Alter, Put, Copy, Take, Release, Tick, Drain}
+use Rattle.er_scenario.specs.Files.{line_says, body_of}
+use Rattle.er_scenario.specs.Texts.{IsReadable, AreReadable, step_words, step_lines}
+use Rattle.er_scenario.proofs.PrintedArguments.{Laws, octets_within, one_octet, mask_read, key_read, optional_key_read, solid_key, solid_optional_key, link_read}
 
-step_read : (late : Bool) (number : ℕ) (step : Step) → IsInRange step
-    → said_of late (record { number = number; words = step_words step }) ≡ Ok (Does (record { line = number; step = step }))
-unfolding said_of step_of fixed_from fixed_of link_line_from link_line_of send_of pass_of lose_of repeat_of alter_from alter_of put_of copy_from copy_of release_of drain_of
-step_read late number (Fixed link engine rbc ke kr) h =
-    rw (link_read link h.0, number_read 0 16777215 engine (omega arith) (omega (arith, h.1)) (omega (arith, h.1)), number_read 0 16777215 rbc (omega arith) (omega (arith, h.2)) (omega (arith, h.2)), key_read ke h.3, key_read kr h.4)
-    refl
-step_read late number (Link link engine rbc ke kr ra rb) h =
-    rw (link_read link h.0, number_read 0 16777215 engine (omega arith) (omega (arith, h.1)) (omega (arith, h.1)), number_read 0 16777215 rbc (omega arith) (omega (arith, h.2)) (omega (arith, h.2)), key_read ke h.3, optional_key_read kr h.4, random_read ra h.5, random_read rb h.6)
-    refl
-step_read late number (Send link side text) h = rw (link_read link h.0, side_read side, text_read text h.1) refl
-step_read late number (Pass link side) h = rw (link_read link h, side_read side) refl
-step_read late number (Lose link side) h = rw (link_read link h, side_read side) refl
-step_read late number (Repeat link side) h = rw (link_read link h, side_read side) refl
-step_read late number (Alter link side place mask) h =
-    rw (link_read link h.0, side_read side, number_read 0 18446744073709551615 place (omega arith) (omega (arith, h.1)) h.1, mask_read mask h.2 h.3) refl
-step_read late number (Put link side text) h = rw (link_read link h.0, side_read side, text_read text h.1) refl
-step_read late number (Copy link side to_link to_side) h =
-    rw (link_read link h.0, side_read side, link_read to_link h.1, side_read to_side) refl
-step_read late number (Release link side sub) h =
-    rw (link_read link h.0, side_read side, number_read 0 255 sub (omega arith) (omega (arith, h.1)) (omega (arith, h.1))) refl
-step_read late number (Drain link most) h = rw (link_read link h.0, number_read 1 100000 most h.1 h.2 (omega (arith, h.2))) refl
+-- a word that is written out
+solid_from : (word : List ℕ) → list_all (λ x. nat_lt 35 x) word ≡ true → AreSolid word
+solid_from [] h = tt
+solid_from (x ∷ word) h =
+    elim (cases_Bool (nat_lt 35 x)) [
+      | inl t ↦ (ltb-true 35 x t, solid_from word (rw t at h))
+      | inr f ↦ let e : false ≡ true = rw f at h in absurd (cc)
+    ]
 
--- and no step's line begins with `set`
-no_choice : (step : Step) → is_choice (step_words step) ≡ false
-no_choice (Fixed link engine rbc ke kr) = refl
-no_choice (Link link engine rbc ke kr ra rb) = refl
-no_choice (Send link side text) = refl
-no_choice (Pass link side) = refl
-no_choice (Lose link side) = refl
-no_choice (Repeat link side) = refl
-no_choice (Alter link side place mask) = refl
-no_choice (Put link side text) = refl
-no_choice (Copy link side to_link to_side) = refl
-no_choice (Release link side sub) = refl
-no_choice (Drain link most) = refl
+pub solid_codes : (word : List ℕ) → nat_lt 0 (length word) ≡ true → list_all (λ x. nat_lt 35 x) word ≡ true → IsSolid word
+solid_codes word some all = record { some = ltb-true 0 (length word) some; octets = solid_from word all }
 
-step_line : (step : Step) → IsInRange step → IsLine (step_words step)
-step_line (Fixed link engine rbc ke kr) h = (
-  solid_codes (codes "fixed") refl refl,
-  (solid_decimal link (omega (arith, h.0.1)), (solid_decimal engine (omega (arith, h.1)), (solid_decimal rbc (omega (arith, h.2)), (solid_key ke, (solid_key kr, tt))))),
-)
-step_line (Link link engine rbc ke kr ra rb) h = (
-  solid_codes (codes "link") refl refl,
-  (solid_decimal link (omega (arith, h.0.1)), (solid_decimal engine (omega (arith, h.1)), (solid_decimal rbc (omega (arith, h.2)), (solid_key ke, (solid_optional_key kr, (solid_random ra, (solid_random rb, tt))))))),
-)
-step_line (Send link side text) h = (
-  solid_codes (codes "send") refl refl,
-  (solid_decimal link (omega (arith, h.0.1)), (solid_side side, (solid_hex text h.1.1, tt))),
-)
-step_line (Pass link side) h = (solid_codes (codes "pass") refl refl, (solid_decimal link (omega (arith, h.1)), (solid_side side, tt)))
-step_line (Lose link side) h = (solid_codes (codes "lose") refl refl, (solid_decimal link (omega (arith, h.1)), (solid_side side, tt)))
-step_line (Repeat link side) h = (solid_codes (codes "repeat") refl refl, (solid_decimal link (omega (arith, h.1)), (solid_side side, tt)))
-step_line (Alter link side place mask) h = (
-  solid_codes (codes "alter") refl refl,
-  (solid_decimal link (omega (arith, h.0.1)), (solid_side side, (solid_decimal place h.1, (solid_mask mask h.3, tt)))),
-)
-step_line (Put link side text) h = (
-  solid_codes (codes "put") refl refl,
-  (solid_decimal link (omega (arith, h.0.1)), (solid_side side, (solid_hex text h.1.1, tt))),
-)
-step_line (Copy link side to_link to_side) h = (
-  solid_codes (codes "copy") refl refl,
-  (solid_decimal link (omega (arith, h.0.1)), (solid_side side, (solid_decimal to_link (omega (arith, h.1.1)), (solid_side to_side, tt)))),
-)
-step_line (Release link side sub) h = (
-  solid_codes (codes "release") refl refl,
-  (solid_decimal link (omega (arith, h.0.1)), (solid_side side, (solid_decimal sub (omega (arith, h.1)), tt))),
-)
-step_line (Drain link most) h = (
-  solid_codes (codes "drain") refl refl,
-  (solid_decimal link (omega (arith, h.0.1)), (solid_decimal most (omega (arith, h.2)), tt)),
-)
+-- the line of a step that can be read
+step_read : (laws : Laws) (grammar : Grammar) (level : Level) (late : Bool) (choices : Choices) (step : Step) → IsReadable grammar level step
+    → line_says grammar level late choices (step_words step) ≡ Ok (Does step)
+unfolding line_says
+step_read laws grammar level late choices (Fixed link engine rbc ke kr) h =
+    rw (h.named, h.of_level, link_read laws link h.range.0.0 h.range.0.1, laws.words.number 0 16777215 engine (omega arith) (omega (arith, h.range.1)) (omega (arith, h.range.1)), laws.words.number 0 16777215 rbc (omega arith) (omega (arith, h.range.2)) (omega (arith, h.range.2)), key_read laws ke h.range.3, key_read laws kr h.range.4) refl
+step_read laws grammar level late choices (Link link engine rbc ke kr ra rb) h =
+    rw (h.named, h.of_level, link_read laws link h.range.0.0 h.range.0.1, laws.words.number 0 16777215 engine (omega arith) (omega (arith, h.range.1)) (omega (arith, h.range.1)), laws.words.number 0 16777215 rbc (omega arith) (omega (arith, h.range.2)) (omega (arith, h.range.2)), key_read laws ke h.range.3, optional_key_read laws kr h.range.4, laws.words.number16 ra h.range.5, laws.words.number16 rb h.range.6) refl
+step_read laws grammar level late choices (Wire link) h =
+    rw (h.named, h.of_level, link_read laws link h.range.0 h.range.1) refl
+step_read laws grammar level late choices (Send link side text) h =
+    rw (h.named, h.of_level, link_read laws link h.range.0.0 h.range.0.1, laws.words.side side, laws.words.text 4096 text (octets_within text h.range.1) h.range.1.0) refl
+step_read laws grammar level late choices (Pass link side) h =
+    rw (h.named, h.of_level, link_read laws link h.range.0 h.range.1, laws.words.side side) refl
+step_read laws grammar level late choices (Lose link side) h =
+    rw (h.named, h.of_level, link_read laws link h.range.0 h.range.1, laws.words.side side) refl
+step_read laws grammar level late choices (Repeat link side) h =
+    rw (h.named, h.of_level, link_read laws link h.range.0 h.range.1, laws.words.side side) refl
+step_read laws grammar level late choices (Alter link side place mask) h =
+    rw (h.named, h.of_level, link_read laws link h.range.0.0 h.range.0.1, laws.words.side side, laws.words.number 0 18446744073709551615 place (omega arith) (omega (arith, h.range.1)) h.range.1, mask_read laws mask h.range.2 h.range.3) refl
+step_read laws grammar level late choices (Put link side text) h =
+    rw (h.named, h.of_level, link_read laws link h.range.0.0 h.range.0.1, laws.words.side side, laws.words.text 4096 text (octets_within text h.range.1) h.range.1.0) refl
+step_read laws grammar level late choices (Copy link side to_link to_side) h =
+    rw (h.named, h.of_level, link_read laws link h.range.0.0 h.range.0.1, laws.words.side side, link_read laws to_link h.range.1.0 h.range.1.1, laws.words.side to_side) refl
+step_read laws grammar level late choices (Take link side) h =
+    rw (h.named, h.of_level, link_read laws link h.range.0 h.range.1, laws.words.side side) refl
+step_read laws grammar level late choices (Release link side sub) h =
+    rw (h.named, h.of_level, link_read laws link h.range.0.0 h.range.0.1, laws.words.side side, laws.words.number 0 255 sub (omega arith) (omega (arith, h.range.1)) (omega (arith, h.range.1))) refl
+step_read laws grammar level late choices (Tick moment) h =
+    rw (h.named, h.of_level, laws.words.number 0 1000000000000000 moment (omega arith) h.range (omega (arith, h.range))) refl
+step_read laws grammar level late choices (Drain link most) h =
+    rw (h.named, h.of_level, link_read laws link h.range.0.0 h.range.0.1, laws.words.number 1 100000 most h.range.1 h.range.2 (omega (arith, h.range.2))) refl
 
-pub steps_are_lines : (steps : List Numbered) → AreInRange steps → AreLines (step_lines steps)
-steps_are_lines [] h = tt
-steps_are_lines (numbered ∷ steps) h = (step_line numbered.step h.0, steps_are_lines steps h.1)
+-- and it is a line
+step_line : (laws : Laws) (grammar : Grammar) (level : Level) (step : Step) → IsReadable grammar level step → IsLine (step_words step)
+step_line laws grammar level (Fixed link engine rbc ke kr) h = (solid_codes (codes "fixed") refl refl, (laws.words.number_word link (omega (arith, h.range.0.1)), (laws.words.number_word engine (omega (arith, h.range.1)), (laws.words.number_word rbc (omega (arith, h.range.2)), (solid_key laws ke h.range.3, (solid_key laws kr h.range.4, tt))))))
+step_line laws grammar level (Link link engine rbc ke kr ra rb) h = (solid_codes (codes "link") refl refl, (laws.words.number_word link (omega (arith, h.range.0.1)), (laws.words.number_word engine (omega (arith, h.range.1)), (laws.words.number_word rbc (omega (arith, h.range.2)), (solid_key laws ke h.range.3, (solid_optional_key laws kr h.range.4, (laws.words.number16_word ra h.range.5, (laws.words.number16_word rb h.range.6, tt))))))))
+step_line laws grammar level (Wire link) h = (solid_codes (codes "wire") refl refl, (laws.words.number_word link (omega (arith, h.range.1)), tt))
+step_line laws grammar level (Send link side text) h = (solid_codes (codes "send") refl refl, (laws.words.number_word link (omega (arith, h.range.0.1)), (laws.words.side_is_word side, (laws.words.octets_word text (octets_within text h.range.1), tt))))
+step_line laws grammar level (Pass link side) h = (solid_codes (codes "pass") refl refl, (laws.words.number_word link (omega (arith, h.range.1)), (laws.words.side_is_word side, tt)))
+step_line laws grammar level (Lose link side) h = (solid_codes (codes "lose") refl refl, (laws.words.number_word link (omega (arith, h.range.1)), (laws.words.side_is_word side, tt)))
+step_line laws grammar level (Repeat link side) h = (solid_codes (codes "repeat") refl refl, (laws.words.number_word link (omega (arith, h.range.1)), (laws.words.side_is_word side, tt)))
+step_line laws grammar level (Alter link side place mask) h = (solid_codes (codes "alter") refl refl, (laws.words.number_word link (omega (arith, h.range.0.1)), (laws.words.side_is_word side, (laws.words.number_word place h.range.1, (laws.words.octets_word (mask ∷ []) (one_octet mask h.range.3), tt)))))
+step_line laws grammar level (Put link side text) h = (solid_codes (codes "put") refl refl, (laws.words.number_word link (omega (arith, h.range.0.1)), (laws.words.side_is_word side, (laws.words.octets_word text (octets_within text h.range.1), tt))))
+step_line laws grammar level (Copy link side to_link to_side) h = (solid_codes (codes "copy") refl refl, (laws.words.number_word link (omega (arith, h.range.0.1)), (laws.words.side_is_word side, (laws.words.number_word to_link (omega (arith, h.range.1.1)), (laws.words.side_is_word to_side, tt)))))
+step_line laws grammar level (Take link side) h = (solid_codes (codes "take") refl refl, (laws.words.number_word link (omega (arith, h.range.1)), (laws.words.side_is_word side, tt)))
+step_line laws grammar level (Release link side sub) h = (solid_codes (codes "release") refl refl, (laws.words.number_word link (omega (arith, h.range.0.1)), (laws.words.side_is_word side, (laws.words.number_word sub (omega (arith, h.range.1)), tt))))
+step_line laws grammar level (Tick moment) h = (solid_codes (codes "tick") refl refl, (laws.words.number_word moment (omega (arith, h.range)), tt))
+step_line laws grammar level (Drain link most) h = (solid_codes (codes "drain") refl refl, (laws.words.number_word link (omega (arith, h.range.0.1)), (laws.words.number_word most (omega (arith, h.range.2)), tt)))
+
+pub steps_are_lines : (laws : Laws) (grammar : Grammar) (level : Level) (steps : List Numbered) → AreReadable grammar level steps
+    → AreLines (step_lines steps)
+steps_are_lines laws grammar level [] h = tt
+steps_are_lines laws grammar level (numbered ∷ steps) h =
+    (step_line laws grammar level numbered.step h.0, steps_are_lines laws grammar level steps h.1)
 
 -- the steps of lines that are printed, each with its line
-abbrev pub done_from : ℕ → List Numbered → List Said
+abbrev pub done_from : ℕ → List Numbered → List Numbered
 done_from before [] = []
-done_from before (numbered ∷ steps) = Does (record { line = before + 1; step = numbered.step }) ∷ done_from (before + 1) steps
+done_from before (numbered ∷ steps) = record { line = before + 1; step = numbered.step } ∷ done_from (before + 1) steps
 
-pub steps_read : (late : Bool) (before : ℕ) (steps : List Numbered) → AreInRange steps
-    → all_said late (rows_from before (step_lines steps)) ≡ Ok (done_from before steps)
-unfolding all_said
-steps_read late before [] h = refl
-steps_read late before (numbered ∷ steps) h =
-    rw (step_read late (before + 1) numbered.step h.0, no_choice numbered.step, steps_read true (before + 1) steps h.1) refl
+pub steps_read : (laws : Laws) (grammar : Grammar) (level : Level) (late : Bool) (choices : Choices) (before : ℕ) (steps : List Numbered)
+    → AreReadable grammar level steps
+    → body_of grammar level late choices (rows_from before (step_lines steps)) ≡ Ok (record { choices = choices; steps = done_from before steps })
+unfolding body_of
+steps_read laws grammar level late choices before [] h = refl
+steps_read laws grammar level late choices before (numbered ∷ steps) h =
+    rw (step_read laws grammar level late choices numbered.step h.0, steps_read laws grammar level true choices (before + 1) steps h.1) refl
 
--- steps choose nothing
-pub nothing_chosen : (choices : Choices) (before : ℕ) (steps : List Numbered) → choices_after choices (done_from before steps) ≡ choices
-nothing_chosen choices before [] = refl
-nothing_chosen choices before (numbered ∷ steps) = nothing_chosen choices (before + 1) steps
-
--- and are the same, line numbers aside
-pub same_steps : (before : ℕ) (steps : List Numbered) → map (λ n. n.step) (steps_in (done_from before steps)) ≡ map (λ n. n.step) steps
+-- and they are the same, line numbers aside
+pub same_steps : (before : ℕ) (steps : List Numbered) → map (λ n. n.step) (done_from before steps) ≡ map (λ n. n.step) steps
 same_steps before [] = refl
 same_steps before (numbered ∷ steps) = ap (λ (rest : List Step). numbered.step ∷ rest) (same_steps (before + 1) steps)

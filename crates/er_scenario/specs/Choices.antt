@@ -1,65 +1,33 @@
--- The lines `set NAME VALUE` of a drill file (this profile): which value a line chooses, and what all lines so far chose.
-use Rattle.std.specs.Prelude.{ℕ, ◌==◌, ◌&&◌, ◌||◌, nat_le, Bool, true, false, if◌then◌else◌, List, [], ◌∷◌, Option, Some, None, Result, Ok, Err, codes}
+-- The lines `set NAME VALUE` of a drill file (this profile): what may be chosen where some was chosen before, and what holds then.
+use Rattle.std.specs.Prelude.{ℕ, ◌==◌, ◌&&◌, ◌||◌, nat_le, Bool, false, if◌then◌else◌, List, Option, Some, Result, Ok, Err, codes}
+use Rattle.std.specs.Option.{option_map}
 use Rattle.std.specs.Str.{bytes_eq}
 use Rattle.er_base.specs.declared.why.Why.{Why}
-use Rattle.er_base.specs.declared.why.Why.TheVariants.{Count, Late, Number, Value}
+use Rattle.er_base.specs.declared.why.Why.TheVariants.{Number, Value}
+use Rattle.er_base.specs.Arguments.{◌>>=◌, some_or}
 use Rattle.er_base.specs.Numbers.{decimal_of}
 use Rattle.er_settings.specs.declared.settings.Settings.{Settings}
-use Rattle.er_settings.specs.declared.settings.SettingName.{SettingName}
-use Rattle.er_settings.specs.declared.settings.SettingName.TheVariants.{Window, Credit, Size, T1, N2, Setup}
-use Rattle.er_settings.specs.Ranges.{usual_settings}
+use Rattle.er_settings.specs.declared.setting_name.SettingName.{SettingName}
+use Rattle.er_settings.specs.declared.setting_name.SettingName.TheVariants.{Window, Credit, Size, T1, N2, Setup}
+use Rattle.er_settings.specs.Names.{setting_named}
+use Rattle.er_settings.specs.Ranges.{is_allowed, usual_settings}
 use Rattle.er_scenario.specs.declared.choices.Choices.{Choices}
+use Rattle.er_scenario.specs.declared.choices.ChoiceName.{ChoiceName}
+use Rattle.er_scenario.specs.declared.choices.ChoiceName.TheVariants.{Modulo, Setting, Show}
 
--- what one line chooses: the value of a setting, or whether frames are shown
-pub data Choice : Type 0 where
-  Setting : SettingName → ℕ → Choice
-  Show : Bool → Choice
+-- what NAME names, where it names anything
+abbrev pub choice_named : List ℕ → Option ChoiceName
+choice_named word =
+    if bytes_eq word (codes "modulo") then Some Modulo
+    else if bytes_eq word (codes "show") then Some Show
+    else option_map Setting (setting_named word)
 
--- a number from `least` to `most`
-abbrev pub is_between : ℕ → ℕ → ℕ → Bool
-is_between least most n = nat_le least n && nat_le n most
-
--- the settings' ranges, times in milliseconds
-abbrev pub is_allowed : SettingName → ℕ → Bool
-is_allowed Window n = is_between 1 7 n
-is_allowed Credit n = is_between 1 15 n
-is_allowed Size n = n == 128 || n == 256 || n == 512 || n == 1024
-is_allowed T1 n = is_between 100 60000 n
-is_allowed N2 n = is_between 1 10 n
-is_allowed Setup n = is_between 1000 600000 n
-
--- NAME, where it names a setting
-abbrev pub setting_named : List ℕ → Option SettingName
-setting_named word =
-    if bytes_eq word (codes "window") then Some Window
-    else if bytes_eq word (codes "credit") then Some Credit
-    else if bytes_eq word (codes "size") then Some Size
-    else if bytes_eq word (codes "t1") then Some T1
-    else if bytes_eq word (codes "n2") then Some N2
-    else if bytes_eq word (codes "setup") then Some Setup
-    else None
-
--- VALUE of `show`: 0 or 1
-abbrev pub show_chosen : Option ℕ → Result Choice Why
-show_chosen None = Err Number
-show_chosen (Some n) = if n == 0 then Ok (Show false) else if n == 1 then Ok (Show true) else Err Value
-
--- VALUE of a setting; an unknown NAME is a fault before its VALUE is looked at
-abbrev pub setting_chosen : Option SettingName → Option ℕ → Result Choice Why
-setting_chosen None n = Err Value
-setting_chosen (Some name) None = Err Number
-setting_chosen (Some name) (Some n) = if is_allowed name n then Ok (Setting name n) else Err Value
-
--- NAME and VALUE
-unfoldable pub chosen_by : List ℕ → List ℕ → Result Choice Why
-chosen_by name value =
-    if bytes_eq name (codes "show") then show_chosen (decimal_of value)
-    else setting_chosen (setting_named name) (decimal_of value)
-
--- the words behind `set`, where a line of another word stands before it or doesn't
-unfoldable pub choice_of : Bool → List (List ℕ) → Result Choice Why
-choice_of late (name ∷ value ∷ []) = if late then Err Late else chosen_by name value
-choice_of late words = Err Count
+-- the values that NAME may have where these settings were chosen before: modulo 8 where the window is at most 7, the window by
+-- the modulo, and the others by their ranges
+abbrev pub may_choose : Settings → ChoiceName → ℕ → Bool
+may_choose settings Modulo n = (n == 8 && nat_le settings.window 7) || n == 128
+may_choose settings (Setting name) n = is_allowed settings.modulo name n
+may_choose settings Show n = n == 0 || n == 1
 
 -- settings with one value changed
 abbrev pub with_setting : Settings → SettingName → ℕ → Settings
@@ -70,16 +38,19 @@ with_setting settings T1 n = record settings { t1 = n }
 with_setting settings N2 n = record settings { n2 = n }
 with_setting settings Setup n = record settings { setup = n }
 
--- the newest choice of a name counts
-abbrev pub with_choice : Choices → Choice → Choices
-with_choice choices (Setting name n) = record choices { settings = with_setting choices.settings name n }
-with_choice choices (Show show) = record choices { show = show }
+-- the newest line of a name counts
+abbrev pub with_choice : Choices → ChoiceName → ℕ → Choices
+with_choice choices Modulo n = record choices { settings = record choices.settings { modulo = n } }
+with_choice choices (Setting name) n = record choices { settings = with_setting choices.settings name n }
+with_choice choices Show n = record choices { show = n == 1 }
 
--- the choices after a line, where it isn't refused
-abbrev pub choices_with : Choices → Result Choice Why → Result Choices Why
-choices_with choices (Err why) = Err why
-choices_with choices (Ok choice) = Ok (with_choice choices choice)
+-- NAME and VALUE: an unknown NAME is a fault before VALUE is looked at
+unfoldable pub chosen_by : Choices → List ℕ → List ℕ → Result Choices Why
+chosen_by choices word value = do
+  name ← some_or Value (choice_named word)
+  n ← some_or Number (decimal_of value)
+  if may_choose choices.settings name n then Ok (with_choice choices name n) else Err Value
 
 -- what holds where no line chooses
-abbrev pub no_choices : Choices
-no_choices = record { settings = usual_settings; show = false }
+abbrev pub default_choices : Choices
+default_choices = record { settings = usual_settings; show = false }

@@ -1,95 +1,126 @@
 -- A drill file (this profile): the header, then `set` lines, then steps. What a file says, or its first faulty line with its
 -- first fault.
 use Rattle.std.specs.Prelude.{ℕ, ◌&&◌, nat_lt, Bool, true, false, if◌then◌else◌, List, [], ◌∷◌, length, Option, Some, None, Result, Ok, Err, codes}
+use Rattle.std.specs.Option.{option_map}
 use Rattle.std.specs.Str.{bytes_eq}
 use Rattle.er_base.specs.declared.why.Why.{Why}
 use Rattle.er_base.specs.declared.why.Why.TheVariants.{Header, Word, Long}
 use Rattle.er_base.specs.declared.text_fault.TextFault.{TextFault}
 use Rattle.er_base.specs.declared.text_fault.TextFault.TheVariants.{At}
+use Rattle.er_base.specs.Arguments.{◌>>=◌}
+use Rattle.er_base.specs.LineFaults.{Table, Values, line_read}
+use Rattle.er_base.specs.Lines.{Row, rows_of, lines_of}
+use Rattle.er_scenario.specs.declared.grammar.Grammar.{Grammar}
+use Rattle.er_scenario.specs.declared.grammar.Grammar.TheVariants.{Running}
 use Rattle.er_scenario.specs.declared.level.Level.{Level}
-use Rattle.er_scenario.specs.declared.level.Level.TheVariants.{Safe}
+use Rattle.er_scenario.specs.declared.step_name.StepName.{StepName}
 use Rattle.er_scenario.specs.declared.numbered.Numbered.{Numbered}
 use Rattle.er_scenario.specs.declared.scenario.Scenario.{Scenario}
 use Rattle.er_scenario.specs.declared.choices.Choices.{Choices}
-use Rattle.er_scenario.specs.Lines.{Row, rows_of, lines_of}
-use Rattle.er_scenario.specs.Arguments.{◌>>=◌}
-use Rattle.er_scenario.specs.Steps.{step_of}
-use Rattle.er_scenario.specs.Choices.{Choice, choice_of, with_choice, no_choices}
+use Rattle.er_scenario.specs.declared.said.Said.{Said}
+use Rattle.er_scenario.specs.declared.said.Said.TheVariants.{Chooses, Does}
+use Rattle.er_scenario.specs.Table.{Kind, AnyWord, Meaning, kinds_of, levels_of, has_level, level_named, step_named, argument_of, step_made}
+use Rattle.er_scenario.specs.Choices.{chosen_by, default_choices}
 
--- the header `drill 1 safe`; no other level is built
-abbrev pub level_of : List (List ℕ) → Option Level
-level_of (drill ∷ version ∷ level ∷ []) =
-    if bytes_eq drill (codes "drill") && bytes_eq version (codes "1") && bytes_eq level (codes "safe")
-    then Some Safe
-    else None
-level_of words = None
+-- the lines behind the header: `set` lines, and those that are steps
+pub data Line : Type 0 where
+  SetLine : Line
+  StepLine : StepName → Line
 
--- what a line behind the header says: a choice, or a step with the line's number
-pub data Said : Type 0 where
-  Chooses : Choice → Said
-  Does : Numbered → Said
+-- the line that a first word begins, where it begins one
+abbrev pub line_named : Grammar → List ℕ → Option Line
+line_named grammar word = if bytes_eq word (codes "set") then Some SetLine else option_map StepLine (step_named grammar word)
 
--- a line that chooses begins with `set`
-abbrev pub is_choice : List (List ℕ) → Bool
-is_choice [] = false
-is_choice (name ∷ words) = bytes_eq name (codes "set")
+-- the kinds of its arguments: NAME and VALUE of a `set` are looked at behind all else
+abbrev pub line_kinds : Line → List Kind
+line_kinds SetLine = AnyWord ∷ AnyWord ∷ []
+line_kinds (StepLine name) = kinds_of name
 
--- a line's words: a `set` line or a step
-abbrev pub said_by : Bool → ℕ → List (List ℕ) → Result Said Why
-said_by late number [] = Err Word
-said_by late number (name ∷ words) =
-    if bytes_eq name (codes "set") then (choice_of late words >>= λ choice. Ok (Chooses choice))
-    else (step_of name words >>= λ step. Ok (Does (record { line = number; step = step })))
+-- a `set` is one of all levels
+abbrev pub line_has_level : Level → Line → Bool
+line_has_level level SetLine = true
+line_has_level level (StepLine name) = has_level (levels_of name) level
 
--- what a line says, where a step stands before it or doesn't
-unfoldable pub said_of : Bool → Row → Result Said Why
-said_of late row = said_by late row.number row.words
+-- a `set` is late where a line of another word stands before it
+abbrev pub line_is_late : Bool → Line → Bool
+line_is_late late SetLine = late
+line_is_late late (StepLine name) = false
 
--- a line before those that follow it: the first faulty line counts
-abbrev pub before : ℕ → Result Said Why → Result (List Said) TextFault → Result (List Said) TextFault
-before number (Err why) rest = Err (At number why)
-before number (Ok said) (Err fault) = Err fault
-before number (Ok said) (Ok rest) = Ok (said ∷ rest)
+-- the table of a file's lines, at its level, where a line of another word than `set` stands before or doesn't
+abbrev pub table : Grammar → Level → Bool → Table Line Kind Meaning
+table grammar level late =
+    record {
+      line_named = line_named grammar;
+      kinds_of = line_kinds;
+      read = argument_of;
+      is_of_level = line_has_level level;
+      is_late = line_is_late late;
+    }
 
--- what all lines say, or the first faulty one of them; a `set` is late where a line of another word stands before it
-unfoldable pub all_said : Bool → List Row → Result (List Said) TextFault
-all_said late [] = Ok []
-all_said late (row ∷ rows) =
-    before row.number (said_of late row) (all_said (if is_choice row.words then late else true) rows)
+-- what a line's arguments mean: new choices, or a step
+abbrev pub line_means : Choices → (line : Line) → Values Meaning (line_kinds line) → Result Said Why
+line_means choices SetLine (name, (value, end)) = chosen_by choices name value >>= λ new. Ok (Chooses new)
+line_means choices (StepLine name) values = Ok (Does (step_made name values))
 
--- what was chosen in the end
-abbrev pub choices_after : Choices → List Said → Choices
-choices_after choices [] = choices
-choices_after choices (Chooses choice ∷ said) = choices_after (with_choice choices choice) said
-choices_after choices (Does step ∷ said) = choices_after choices said
+-- what a line says, or its first fault
+unfoldable pub line_says : Grammar → Level → Bool → Choices → List (List ℕ) → Result Said Why
+line_says grammar level late choices [] = Err Word
+line_says grammar level late choices (name ∷ words) =
+    line_read (table grammar level late) name words >>= λ read. line_means choices read.0 read.1
 
--- the steps, in their order
-abbrev pub steps_in : List Said → List Numbered
-steps_in [] = []
-steps_in (Chooses choice ∷ said) = steps_in said
-steps_in (Does step ∷ said) = step ∷ steps_in said
+-- what the lines behind the header say: the choices in the end, and the steps
+pub record Body : Type 0 where
+  pub choices : Choices
+  pub steps : List Numbered
 
--- a scenario, from what its lines say
-abbrev pub scenario_from : Level → Result (List Said) TextFault → Result Scenario TextFault
+-- a step before those that follow it
+abbrev pub with_step : Numbered → Result Body TextFault → Result Body TextFault
+with_step step (Err fault) = Err fault
+with_step step (Ok body) = Ok (record body { steps = step ∷ body.steps })
+
+-- a line before those that follow it, which are read with its choices, or behind its step: the first faulty line counts
+abbrev pub before_rest : ℕ → Result Said Why → (Choices → Result Body TextFault) → Result Body TextFault → Result Body TextFault
+before_rest number (Err why) chosen done = Err (At number why)
+before_rest number (Ok (Chooses choices)) chosen done = chosen choices
+before_rest number (Ok (Does step)) chosen done = with_step (record { line = number; step = step }) done
+
+-- all lines behind the header, where lines before them chose and a step stands before them or doesn't
+unfoldable pub body_of : Grammar → Level → Bool → Choices → List Row → Result Body TextFault
+body_of grammar level late choices [] = Ok (record { choices = choices; steps = [] })
+body_of grammar level late choices (row ∷ rows) =
+    before_rest row.number (line_says grammar level late choices row.words) (λ new. body_of grammar level late new rows)
+    (body_of grammar level true choices rows)
+
+-- a scenario of a level
+abbrev pub scenario_from : Level → Result Body TextFault → Result Scenario TextFault
 scenario_from level (Err fault) = Err fault
-scenario_from level (Ok said) =
-    Ok (record {
-      level = level;
-      settings = (choices_after no_choices said).settings;
-      show = (choices_after no_choices said).show;
-      steps = steps_in said;
-    })
+scenario_from level (Ok body) =
+    Ok (record { level = level; settings = body.choices.settings; show = body.choices.show; steps = body.steps })
+
+-- the level of the header `drill 1 LEVEL`
+abbrev pub level_of : Grammar → List (List ℕ) → Option Level
+level_of grammar [] = None
+level_of grammar (drill ∷ []) = None
+level_of grammar (drill ∷ version ∷ []) = None
+level_of grammar (drill ∷ version ∷ level ∷ []) =
+    if bytes_eq drill (codes "drill") && bytes_eq version (codes "1") then level_named grammar level else None
+level_of grammar (drill ∷ version ∷ level ∷ word ∷ words) = None
 
 -- the header, then the lines behind it
-abbrev pub behind_header : ℕ → Option Level → List Row → Result Scenario TextFault
-behind_header number None rows = Err (At number Header)
-behind_header number (Some level) rows = scenario_from level (all_said false rows)
+abbrev pub behind_header : Grammar → ℕ → Option Level → List Row → Result Scenario TextFault
+behind_header grammar number None rows = Err (At number Header)
+behind_header grammar number (Some level) rows = scenario_from level (body_of grammar level false default_choices rows)
 
 -- the first line that isn't skipped is the header; a file without such a line is faulty at line 1
-abbrev pub scenario_in : List Row → Result Scenario TextFault
-scenario_in [] = Err (At 1 Header)
-scenario_in (header ∷ rows) = behind_header header.number (level_of header.words) rows
+abbrev pub scenario_in : Grammar → List Row → Result Scenario TextFault
+scenario_in grammar [] = Err (At 1 Header)
+scenario_in grammar (header ∷ rows) = behind_header grammar header.number (level_of grammar header.words) rows
 
 -- what a file says, or its first fault; a file has at most 16,777,216 octets, and a longer one is faulty as a whole
-unfoldable pub scenario_of : List ℕ → Result Scenario TextFault
-scenario_of text = if nat_lt 16777216 (length text) then Err (At 0 Long) else scenario_in (rows_of 0 (lines_of text))
+unfoldable pub file_says : Grammar → List ℕ → Result Scenario TextFault
+file_says grammar text =
+    if nat_lt 16777216 (length text) then Err (At 0 Long) else scenario_in grammar (rows_of 0 (lines_of text))
+
+-- the same by what the program can run so far
+abbrev pub scenario_of : List ℕ → Result Scenario TextFault
+scenario_of text = file_says Running text

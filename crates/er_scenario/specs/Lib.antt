@@ -1,8 +1,9 @@
-pub mod Lines
-pub mod Arguments
-pub mod Steps
+pub mod StepRanges
+pub mod Running
+pub mod Table
 pub mod Choices
 pub mod Files
-pub mod Readings
-pub mod Printed
+pub mod Answers
+pub mod Texts
 pub mod Laws
+pub mod Readings

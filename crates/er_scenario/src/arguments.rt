@@ -1,123 +1,56 @@
-//! The arguments of the lines: each is read by itself, and answers its first fault.
+//! The arguments that drill files alone have.
 
-ghost use Rattle.std.specs.Prelude.{◌≡◌, ◌<◌, ◌≤◌, ◌^◌, ℕ, length, slice_index, IfOk};
-ghost use Rattle.er_scenario.specs.Arguments.{number_of, link_of, etcs_number_of, sub_reason_of, most_of, place_of, side_of, octets_named, three_keys, key_from, key_of, optional_key_of, number_from, number_named, text_of, mask_from, mask_of};
-ghost use Rattle.er_scenario.specs.Readings.{Gives};
-ghost use Rattle.er_scenario.specs.Printed.{IsLink, IsKey, IsOptionalKey, IsText};
+ghost use Rattle.std.specs.Prelude.{◌≡◌, ◌<◌, ◌≤◌, length, IfOk};
+ghost use Rattle.er_base.specs.Octets.{number_in};
+ghost use Rattle.er_base.specs.Rows.{Gives};
+ghost use Rattle.er_scenario.specs.Table.{three_keys, key_argument, optional_key_argument, mask_from, mask_argument};
+ghost use Rattle.er_scenario.specs.StepRanges.{IsLink, IsEtcsNumber, IsKey, IsOptionalKey, IsText};
+ghost use Rattle.er_base.specs.Arguments.{number_argument, text_argument};
 
-use crate::line_fault::LineFault;
 use des_block::TripleKey;
-use er_base::{HexFault, Octets, Side, Why, decimal, octets_of};
+use er_base::{LineFault, Octets, Why, number_of, read_exact, read_number, read_text};
 use std::alloc::Global;
 
 /// The greatest link.
 const MOST_LINKS: u64 = 64;
 /// The greatest ETCS number.
 const GREATEST_NUMBER: u64 = 16_777_215;
-/// The most passes of a drain.
-const MOST_PASSES: u64 = 100_000;
 /// The most octets of a HEX word.
 const MOST_TEXT_OCTETS: usize = 4_096;
 /// The octets of three keys.
 const KEY_OCTETS: usize = 24;
-/// The octets of a random number.
-const NUMBER_OCTETS: usize = 8;
-
-// A decimal number from `least` to `most`.
-#[tactic(auto, unfolding(crate::specs::Arguments::number_of))]
-fn number(word: &[u8], least: u64, most: u64) -> Result<u64, Why>
-    ensures value { result ≡ number_of least most word.now }
-    ensures range { IfOk result (λ n. (least ≤ n) × (n ≤ most)) }
-{
-    let Some(number) = decimal(word) else {
-        return Err(Why::Number);
-    };
-    if number < least {
-        return Err(Why::Value);
-    }
-    if number > most {
-        return Err(Why::Value);
-    }
-    Ok(number)
-}
 
 /// A link, 1 to 64.
-pub fn link(word: &[u8]) -> Result<u8, Why>
-    ensures value { result ≡ link_of word.now }
+pub fn read_link(word: &[u8]) -> Result<u8, Why>
+    ensures value { result ≡ number_argument 1 64 word.now }
     ensures range { IfOk result (λ n. IsLink n) }
 {
-    Ok(number(word, 1, MOST_LINKS)? as u8)
+    Ok(read_number(word, 1, MOST_LINKS)? as u8)
 }
 
 /// An ETCS number, below 2^24.
-pub fn etcs_number(word: &[u8]) -> Result<u32, Why>
-    ensures value { result ≡ etcs_number_of word.now }
-    ensures range { IfOk result (λ n. n < 16777216) }
+pub fn read_etcs_number(word: &[u8]) -> Result<u32, Why>
+    ensures value { result ≡ number_argument 0 16777215 word.now }
+    ensures range { IfOk result (λ n. IsEtcsNumber n) }
 {
-    Ok(number(word, 0, GREATEST_NUMBER)? as u32)
+    Ok(read_number(word, 0, GREATEST_NUMBER)? as u32)
 }
 
-/// The sub-reason of a release, an octet.
-pub fn sub_reason(word: &[u8]) -> Result<u8, Why>
-    ensures value { result ≡ sub_reason_of word.now }
-    ensures range { IfOk result (λ n. n < 256) }
+/// The octets of a message or a frame, at most 4,096.
+pub fn read_octets(alloc: Global, word: &[u8]) -> Result<Octets, LineFault>
+    ensures value { Gives result (text_argument 4096 word.now) }
+    ensures range { IfOk result (λ t. IsText t) }
 {
-    Ok(number(word, 0, u8::MAX as u64)? as u8)
-}
-
-/// The most passes of a drain, 1 to 100,000.
-pub fn most_passes(word: &[u8]) -> Result<u32, Why>
-    ensures value { result ≡ most_of word.now }
-    ensures range { IfOk result (λ n. (1 ≤ n) × (n ≤ 100000)) }
-{
-    Ok(number(word, 1, MOST_PASSES)? as u32)
-}
-
-/// The place of an octet in a frame.
-pub fn place(word: &[u8]) -> Result<u64, Why>
-    ensures value { result ≡ place_of word.now }
-    ensures range { IfOk result (λ n. n < 2 ^ 64) }
-{
-    number(word, 0, u64::MAX)
-}
-
-/// The engine's side, `e`, or that of the radio block centre, `r`.
-#[tactic(auto, unfolding(crate::specs::Arguments::side_of))]
-pub fn side(word: &[u8]) -> Result<Side, Why>
-    ensures { result ≡ side_of word.now }
-{
-    if word == b"e".as_slice() {
-        Ok(Side::E)
-    } else if word == b"r".as_slice() {
-        Ok(Side::R)
-    } else {
-        Err(Why::Number)
-    }
-}
-
-// The octets of a HEX word.
-#[tactic(auto, unfolding(crate::specs::Arguments::octets_named))]
-fn octets(alloc: Global, word: &[u8]) -> Result<Octets, LineFault>
-    ensures value { Gives result (octets_named word.now) }
-    ensures range { IfOk result (λ o. (k : ℕ) → k < length o → slice_index o k < 256) }
-{
-    let mut octets = Vec::new(alloc);
-    match octets_of(alloc, word, &mut octets) {
-        Ok(()) => Ok(Octets::new(octets)),
-        Err(HexFault::Hex) => Err(LineFault::Refused(Why::Hex)),
-        Err(HexFault::NoMemory) => Err(LineFault::NoMemory),
-    }
+    read_text(alloc, word, MOST_TEXT_OCTETS)
 }
 
 // Three keys of eight octets.
-#[tactic(auto, unfolding(crate::specs::Arguments::three_keys))]
+#[tactic(auto, unfolding(crate::specs::Table::three_keys))]
 fn keys(octets: &[u8]) -> Result<TripleKey, Why>
-    ensures value { result ≡ key_from octets.now }
+    requires { length octets.now ≡ 24 }
+    ensures value { result ≡ Ok (three_keys octets.now) }
     ensures range { IfOk result (λ k. IsKey k) }
 {
-    if octets.len() != KEY_OCTETS {
-        return Err(Why::Hex);
-    }
     let Some((first, rest)) = octets.split_first_chunk::<8>() else {
         return Err(Why::Hex);
     };
@@ -128,69 +61,32 @@ fn keys(octets: &[u8]) -> Result<TripleKey, Why>
         return Err(Why::Hex);
     };
     Ok(TripleKey {
-        first: u64::from_be_bytes(*first),
-        second: u64::from_be_bytes(*second),
-        third: u64::from_be_bytes(*third),
+        first: number_of(first),
+        second: number_of(second),
+        third: number_of(third),
     })
 }
 
 /// Three keys, 48 hexadecimal digits.
-#[tactic(auto, unfolding(crate::specs::Arguments::key_of))]
-pub fn key(alloc: Global, word: &[u8]) -> Result<TripleKey, LineFault>
-    ensures value { Gives result (key_of word.now) }
+#[tactic(auto, unfolding(crate::specs::Table::key_argument))]
+pub fn read_key(alloc: Global, word: &[u8]) -> Result<TripleKey, LineFault>
+    ensures value { Gives result (key_argument word.now) }
     ensures range { IfOk result (λ k. IsKey k) }
 {
-    let octets = octets(alloc, word)?;
+    let octets = read_exact(alloc, word, KEY_OCTETS)?;
     Ok(keys(octets.as_slice())?)
 }
 
 /// Three keys, or `-` where there are none.
-#[tactic(auto, unfolding(crate::specs::Arguments::optional_key_of))]
-pub fn optional_key(alloc: Global, word: &[u8]) -> Result<Option<TripleKey>, LineFault>
-    ensures value { Gives result (optional_key_of word.now) }
+#[tactic(auto, unfolding(crate::specs::Table::optional_key_argument))]
+pub fn read_optional_key(alloc: Global, word: &[u8]) -> Result<Option<TripleKey>, LineFault>
+    ensures value { Gives result (optional_key_argument word.now) }
     ensures range { IfOk result (λ k. IsOptionalKey k) }
 {
     if word == b"-".as_slice() {
         return Ok(None);
     }
-    Ok(Some(key(alloc, word)?))
-}
-
-// A number of eight octets.
-fn eight_octets(octets: &[u8]) -> Result<u64, Why>
-    ensures value { result ≡ number_from octets.now }
-    ensures range { IfOk result (λ n. n < 2 ^ 64) }
-{
-    if octets.len() != NUMBER_OCTETS {
-        return Err(Why::Hex);
-    }
-    let Some((number, _)) = octets.split_first_chunk::<8>() else {
-        return Err(Why::Hex);
-    };
-    Ok(u64::from_be_bytes(*number))
-}
-
-/// A random number, 16 hexadecimal digits.
-#[tactic(auto, unfolding(crate::specs::Arguments::number_named))]
-pub fn random_number(alloc: Global, word: &[u8]) -> Result<u64, LineFault>
-    ensures value { Gives result (number_named word.now) }
-    ensures range { IfOk result (λ n. n < 2 ^ 64) }
-{
-    let octets = octets(alloc, word)?;
-    Ok(eight_octets(octets.as_slice())?)
-}
-
-/// The octets of a message or a frame, at most 4,096.
-#[tactic(auto, unfolding(crate::specs::Arguments::text_of))]
-pub fn text(alloc: Global, word: &[u8]) -> Result<Octets, LineFault>
-    ensures value { Gives result (text_of word.now) }
-    ensures range { IfOk result (λ t. IsText t) }
-{
-    let octets = octets(alloc, word)?;
-    if octets.as_slice().len() > MOST_TEXT_OCTETS {
-        return Err(LineFault::Refused(Why::Value));
-    }
-    Ok(octets)
+    Ok(Some(read_key(alloc, word)?))
 }
 
 // One octet other than 00.
@@ -199,23 +95,17 @@ fn one_octet(octets: &[u8]) -> Result<u8, Why>
     ensures range { IfOk result (λ m. (1 ≤ m) × (m < 256)) }
 {
     match octets {
-        [octet] => {
-            if *octet == 0 {
-                Err(Why::Value)
-            } else {
-                Ok(*octet)
-            }
-        }
+        [octet] if *octet != 0 => Ok(*octet),
         _ => Err(Why::Value),
     }
 }
 
 /// What an octet is altered with, one octet other than 00.
-#[tactic(auto, unfolding(crate::specs::Arguments::mask_of))]
-pub fn mask(alloc: Global, word: &[u8]) -> Result<u8, LineFault>
-    ensures value { Gives result (mask_of word.now) }
+#[tactic(auto, unfolding(crate::specs::Table::mask_argument))]
+pub fn read_mask(alloc: Global, word: &[u8]) -> Result<u8, LineFault>
+    ensures value { Gives result (mask_argument word.now) }
     ensures range { IfOk result (λ m. (1 ≤ m) × (m < 256)) }
 {
-    let octets = octets(alloc, word)?;
+    let octets = read_octets(alloc, word)?;
     Ok(one_octet(octets.as_slice())?)
 }

@@ -1,9 +1,8 @@
 //! The lines `set NAME VALUE`.
 
-ghost use Rattle.std.specs.Prelude.{◌≡◌, if◌then◌else◌, map, IfOk, IfSome};
-ghost use Rattle.er_base.specs.Numbers.{decimal_of};
+ghost use Rattle.std.specs.Prelude.{◌≡◌, true, IfOk};
 ghost use Rattle.er_settings.specs.Ranges.{AllAllowed};
-ghost use Rattle.er_scenario.specs.Choices.{is_allowed, setting_named, setting_chosen, show_chosen, chosen_by, choice_of, with_setting, choices_with, no_choices};
+ghost use Rattle.er_scenario.specs.Choices.{choice_named, may_choose, with_setting, with_choice, chosen_by, default_choices};
 
 use er_base::{Why, decimal};
 use er_settings::{SettingName, Settings};
@@ -17,9 +16,49 @@ pub struct Choices {
     pub show: bool,
 }
 
+/// What a `set` line names.
+#[derive(Clone, Copy, Debug, PartialEq, Eq)]
+pub enum ChoiceName {
+    /// The modulo of the numbers of I frames.
+    Modulo,
+    /// Another setting.
+    Setting(SettingName),
+    /// Whether frames are shown.
+    Show,
+}
+
+impl ChoiceName {
+    // What a word names, or None where it names nothing.
+    fn named(word: &[u8]) -> Option<ChoiceName>
+        ensures { result ≡ choice_named word.now }
+    {
+        if word == b"modulo".as_slice() {
+            return Some(ChoiceName::Modulo);
+        }
+        if word == b"show".as_slice() {
+            return Some(ChoiceName::Show);
+        }
+        match SettingName::named(word) {
+            Some(name) => Some(ChoiceName::Setting(name)),
+            None => None,
+        }
+    }
+
+    // Whether it may have this value where these settings were chosen before.
+    fn allows(self, settings: &Settings, value: u64) -> bool
+        ensures { result ≡ may_choose settings.now self value }
+    {
+        match self {
+            ChoiceName::Modulo => (value == 8 && settings.window <= 7) || value == 128,
+            ChoiceName::Setting(name) => name.allows(settings.modulo, value),
+            ChoiceName::Show => value <= 1,
+        }
+    }
+}
+
 /// What holds where no line chooses.
 pub fn defaults() -> Choices
-    ensures value { result ≡ no_choices }
+    ensures value { result ≡ default_choices }
     ensures allowed { AllAllowed result.settings }
 {
     Choices {
@@ -28,111 +67,74 @@ pub fn defaults() -> Choices
     }
 }
 
-// The settings with one value changed, where the setting may have it.
-#[tactic(auto, using(crate::proofs::Ranges::range_lemmas))]
-fn changed(settings: &Settings, name: SettingName, value: u64) -> Option<Settings>
-    requires { AllAllowed settings.now }
-    ensures value { result ≡ (if is_allowed name value then Some (with_setting settings.now name value) else None) }
-    ensures allowed { IfSome result (λ made. AllAllowed made) }
+// The settings with one value changed.
+fn changed(settings: &Settings, name: SettingName, value: u64) -> Settings
+    requires allowed { AllAllowed settings.now }
+    requires may { may_choose settings.now (ChoiceName.Setting name) value ≡ true }
+    ensures value { result ≡ with_setting settings.now name value }
+    ensures allowed { AllAllowed result }
 {
-    let Settings {
-        window,
-        credit,
-        size,
-        t1,
-        n2,
-        setup,
-    } = *settings;
-    let (window, credit, size, n2) = (window as u64, credit as u64, size as u64, n2 as u64);
+    let settings = *settings;
     match name {
-        SettingName::Window => Settings::new(value, credit, size, t1, n2, setup).ok(),
-        SettingName::Credit => Settings::new(window, value, size, t1, n2, setup).ok(),
-        SettingName::Size => Settings::new(window, credit, value, t1, n2, setup).ok(),
-        SettingName::T1 => Settings::new(window, credit, size, value, n2, setup).ok(),
-        SettingName::N2 => Settings::new(window, credit, size, t1, value, setup).ok(),
-        SettingName::Setup => Settings::new(window, credit, size, t1, n2, value).ok(),
+        SettingName::Window => Settings {
+            window: value as u8,
+            ..settings
+        },
+        SettingName::Credit => Settings {
+            credit: value as u8,
+            ..settings
+        },
+        SettingName::Size => Settings {
+            size: value as u16,
+            ..settings
+        },
+        SettingName::T1 => Settings {
+            t1: value,
+            ..settings
+        },
+        SettingName::N2 => Settings {
+            n2: value as u8,
+            ..settings
+        },
+        SettingName::Setup => Settings {
+            setup: value,
+            ..settings
+        },
     }
 }
 
-fn setting_name(word: &[u8]) -> Option<SettingName>
-    ensures { result ≡ setting_named word.now }
-{
-    if word == b"window".as_slice() {
-        Some(SettingName::Window)
-    } else if word == b"credit".as_slice() {
-        Some(SettingName::Credit)
-    } else if word == b"size".as_slice() {
-        Some(SettingName::Size)
-    } else if word == b"t1".as_slice() {
-        Some(SettingName::T1)
-    } else if word == b"n2".as_slice() {
-        Some(SettingName::N2)
-    } else if word == b"setup".as_slice() {
-        Some(SettingName::Setup)
-    } else {
-        None
-    }
-}
-
-// The choices after a line that names a setting.
-fn choose_setting(choices: &Choices, name: &[u8], value: &[u8]) -> Result<Choices, Why>
+/// The choices after one more `set` line, from its NAME and VALUE.
+#[tactic(auto, unfolding(crate::specs::Choices::chosen_by))]
+pub fn choose(choices: &Choices, name: &[u8], value: &[u8]) -> Result<Choices, Why>
     requires { AllAllowed choices.now.settings }
-    ensures value { result ≡ choices_with choices.now (setting_chosen (setting_named name.now) (decimal_of value.now)) }
+    ensures value { result ≡ chosen_by choices.now name.now value.now }
     ensures allowed { IfOk result (λ made. AllAllowed made.settings) }
 {
-    let Some(name) = setting_name(name) else {
+    let Some(name) = ChoiceName::named(name) else {
         return Err(Why::Value);
     };
     let Some(value) = decimal(value) else {
         return Err(Why::Number);
     };
-    match changed(&choices.settings, name, value) {
-        Some(settings) => Ok(Choices {
+    if !name.allows(&choices.settings, value) {
+        return Err(Why::Value);
+    }
+    let Choices { settings, show } = *choices;
+    Ok(match name {
+        ChoiceName::Modulo => Choices {
+            settings: Settings {
+                modulo: value as u8,
+                ..settings
+            },
+            show,
+        },
+        ChoiceName::Setting(name) => Choices {
+            settings: changed(&settings, name, value),
+            show,
+        },
+        ChoiceName::Show => Choices {
             settings,
-            show: choices.show,
-        }),
-        None => Err(Why::Value),
-    }
-}
-
-// The choices after a line that names `show`.
-fn choose_show(choices: &Choices, value: &[u8]) -> Result<Choices, Why>
-    ensures { result ≡ choices_with choices.now (show_chosen (decimal_of value.now)) }
-{
-    let Some(value) = decimal(value) else {
-        return Err(Why::Number);
-    };
-    if value == 0 {
-        return Ok(Choices {
-            settings: choices.settings,
-            show: false,
-        });
-    }
-    if value == 1 {
-        return Ok(Choices {
-            settings: choices.settings,
-            show: true,
-        });
-    }
-    Err(Why::Value)
-}
-
-/// The choices after one more `set` line, from the words behind its first one.
-#[tactic(auto, unfolding(crate::specs::Choices::choice_of, crate::specs::Choices::chosen_by))]
-pub fn choose(choices: &Choices, is_late: bool, words: &[&[u8]]) -> Result<Choices, Why>
-    requires { AllAllowed choices.now.settings }
-    ensures value { result ≡ choices_with choices.now (choice_of is_late (map (λ w. w.now) words.now)) }
-    ensures allowed { IfOk result (λ made. AllAllowed made.settings) }
-{
-    let [name, value] = words else {
-        return Err(Why::Count);
-    };
-    if is_late {
-        return Err(Why::Late);
-    }
-    if *name == b"show".as_slice() {
-        choose_show(choices, value)
-    } else {
-        choose_setting(choices, name, value)
-    }
+            show: value == 1,
+        },
+    })
 }

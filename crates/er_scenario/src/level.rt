@@ -1,6 +1,39 @@
+ghost use Rattle.std.specs.Prelude.{◌≡◌};
+ghost use Rattle.er_scenario.specs.Table.{level_word, level_named};
+
+use crate::grammar::Grammar;
+
 /// How much of the stack a drill runs.
 #[derive(Clone, Copy, Debug, PartialEq, Eq)]
 pub enum Level {
     /// The safety layer alone: what waits between two ends are SaPDUs.
     Safe,
+    /// Two HDLC stations: what waits between them are frames, from flag to flag.
+    Link,
+    /// The whole stack: what waits between two ends are frames, from flag to flag.
+    Full,
+}
+
+impl Level {
+    /// The word of this level in a header.
+    pub fn word(self) -> &'static [u8]
+        ensures { result.now ≡ level_word self }
+    {
+        match self {
+            Level::Safe => b"safe",
+            Level::Link => b"link",
+            Level::Full => b"full",
+        }
+    }
+
+    // The level that a word of a header names, or None where it names none that is read.
+    pub(crate) fn named(grammar: Grammar, word: &[u8]) -> Option<Level>
+        ensures { result ≡ level_named grammar word.now }
+    {
+        grammar
+            .levels()
+            .iter()
+            .copied()
+            .find(|level| word == level.word())
+    }
 }

@@ -1,4 +1,4 @@
-//! The drill file of this profile: its grammar at level safe, read into a scenario and printed from one.
+//! The drill file of this profile: its grammar, read into a scenario and printed from one.
 //!
 //! A drill file has a header, lines that choose settings, and lines that are the steps of a run. Whether a step can
 //! be carried out, as that its link was opened, is no matter of the grammar, and nothing is run here.
@@ -6,17 +6,18 @@
 
 mod arguments;
 mod choices;
+mod grammar;
 mod header;
 pub mod laws;
 mod level;
-mod line_fault;
-mod lines;
 mod numbered;
 mod printer;
 mod reader;
+mod said;
 mod scenario;
 mod step;
 mod step_list;
+mod step_name;
 mod steps;
 #[cfg(test)]
 mod tests;

@@ -1,94 +1,113 @@
 //! Reads a drill file, line by line.
 
-ghost use Rattle.std.specs.Prelude.{◌≡◌, ◌≤◌, ◌+◌, false, length, IfOk, IfErr};
+ghost use Rattle.std.specs.Prelude.{◌≡◌, ◌≤◌, ◌+◌, false, length, map, IfOk};
+ghost use Rattle.er_base.specs.Lines.{lines_of, rows_of};
+ghost use Rattle.er_base.specs.Rows.{Gives};
 ghost use Rattle.er_settings.specs.Ranges.{AllAllowed};
-ghost use Rattle.er_scenario.specs.Lines.{lines_of, rows_of};
-ghost use Rattle.er_scenario.specs.Files.{said_of, all_said, scenario_from, scenario_in, scenario_of};
-ghost use Rattle.er_scenario.specs.Readings.{IsFirstFault, Gives, Answers, StaysAllowed, row_view, lines_with, fault_at};
-ghost use Rattle.er_scenario.specs.Printed.{CanBeRead};
+ghost use Rattle.er_scenario.specs.Answers.{Answers};
+ghost use Rattle.er_scenario.specs.Choices.{default_choices};
+ghost use Rattle.er_scenario.specs.Files.{line_says, body_of, scenario_from, file_says, scenario_of};
+ghost use Rattle.er_scenario.specs.Readings.{IsWellSaid, fault_at};
+ghost use Rattle.er_scenario.specs.Texts.{AreReadable, IsInGrammar, CanBeRead};
 
 use crate::choices::{Choices, choose, defaults};
+use crate::grammar::Grammar;
 use crate::header::header_level;
 use crate::level::Level;
-use crate::line_fault::LineFault;
-use crate::lines::{Row, next_row};
 use crate::numbered::Numbered;
+use crate::said::Said;
 use crate::scenario::Scenario;
 use crate::step_list::StepList;
+use crate::step_name::StepName;
 use crate::steps::read_step;
-use er_base::{TextFault, Why};
+use er_base::{LineFault, TextFault, Why, next_row};
 use std::alloc::Global;
 
 /// The most octets that a drill file has.
 const MOST_OCTETS: usize = 16_777_216;
 
-/// What a line behind the header says.
-#[derive(Drop)]
-pub enum Line {
-    /// The choices with its own among them.
-    Chosen(Choices),
-    /// A step.
-    Step(Numbered),
-}
-
-fn at(fault: LineFault, line: usize) -> TextFault
+fn at(line: usize, fault: LineFault) -> TextFault
     ensures { result ≡ fault_at line fault }
 {
     match fault {
         LineFault::Refused(why) => TextFault::At { line, why },
-        LineFault::NoMemory => TextFault::NoMemory,
+        LineFault::NoMemory(want) => TextFault::NoMemory(want),
     }
 }
 
-// What a line says, where a step stands before it or doesn't.
-#[tactic(auto, unfolding(crate::specs::Files::said_of))]
+// What a line behind the header says, from its words.
+#[tactic(auto, unfolding(crate::specs::Files::line_says))]
 fn read_line(
     alloc: Global,
-    row: &Row<'_>,
+    grammar: Grammar,
+    level: Level,
     is_late: bool,
     choices: &Choices,
-) -> Result<Line, LineFault>
+    words: &[&[u8]],
+) -> Result<Said, LineFault>
     requires { AllAllowed choices.now.settings }
-    ensures line { Gives result (lines_with choices.now (said_of is_late (row_view row.now))) }
-    ensures allowed { IfOk result (λ line. StaysAllowed line) }
+    ensures said { Gives result (line_says grammar level is_late choices.now (map (λ w. w.now) words.now)) }
+    ensures range { IfOk result (λ said. IsWellSaid grammar level said) }
 {
-    let Some((name, words)) = row.words.as_slice().split_first() else {
+    let Some((first, arguments)) = words.split_first() else {
         return Err(LineFault::Refused(Why::Word));
     };
-    if *name == b"set".as_slice() {
-        return Ok(Line::Chosen(choose(choices, is_late, words)?));
+    if *first == b"set".as_slice() {
+        let [name, value] = arguments else {
+            return Err(LineFault::Refused(Why::Count));
+        };
+        if is_late {
+            return Err(LineFault::Refused(Why::Late));
+        }
+        return Ok(Said::Chooses(choose(choices, name, value)?));
     }
-    let step = read_step(alloc, name, words)?;
-    Ok(Line::Step(Numbered {
-        line: row.number,
-        step,
-    }))
+    let Some(name) = StepName::named(grammar, first) else {
+        return Err(LineFault::Refused(Why::Word));
+    };
+    if arguments.len() != name.arguments() {
+        return Err(LineFault::Refused(Why::Count));
+    }
+    if !name.is_of(level) {
+        return Err(LineFault::Refused(Why::Level));
+    }
+    Ok(Said::Does(read_step(alloc, name, arguments)?))
 }
 
 // The scenario of the lines behind the header, whose number is `header`.
-fn read_body(alloc: Global, level: Level, header: usize, text: &[u8]) -> Result<Scenario, TextFault>
+fn read_body(
+    alloc: Global,
+    grammar: Grammar,
+    level: Level,
+    header: usize,
+    text: &[u8],
+) -> Result<Scenario, TextFault>
     requires { header + length text.now ≤ 16777216 }
-    ensures answer { Answers result (scenario_from level (all_said false (rows_of header (lines_of text.now)))) }
-    ensures range { IfOk result (λ scenario. CanBeRead scenario) }
+    ensures exact { Answers result
+        (scenario_from level (body_of grammar level false default_choices (rows_of header (lines_of text.now)))) }
+    ensures range { IfOk result (λ scenario. AllAllowed scenario.settings × AreReadable grammar scenario.level scenario.steps) }
 {
     let mut choices = defaults();
     let mut steps = Vec::new(alloc);
     let mut is_late = false;
     let mut number = header;
     let mut rest = text;
-    while let Some((row, behind)) = next_row(alloc, number, rest)? {
+    while let Some((row, behind)) = next_row(number, rest) {
         number = row.number;
         rest = behind;
-        let line = match read_line(alloc, &row, is_late, &choices) {
-            Ok(line) => line,
-            Err(fault) => return Err(at(fault, number)),
-        };
-        match line {
-            Line::Chosen(chosen) => choices = chosen,
-            Line::Step(step) => {
-                steps.push(step)?;
+        match read_line(
+            alloc,
+            grammar,
+            level,
+            is_late,
+            &choices,
+            row.words.as_slice(),
+        ) {
+            Ok(Said::Chooses(chosen)) => choices = chosen,
+            Ok(Said::Does(step)) => {
+                steps.push(Numbered { line: number, step })?;
                 is_late = true;
             }
+            Err(fault) => return Err(at(number, fault)),
         }
     }
     Ok(Scenario {
@@ -99,37 +118,11 @@ fn read_body(alloc: Global, level: Level, header: usize, text: &[u8]) -> Result<
     })
 }
 
-// The scenario of the lines of a text that isn't too long.
-fn read_lines(alloc: Global, text: &[u8]) -> Result<Scenario, TextFault>
-    requires { length text.now ≤ 16777216 }
-    ensures answer { Answers result (scenario_in (rows_of 0 (lines_of text.now))) }
-    ensures range { IfOk result (λ scenario. CanBeRead scenario) }
-{
-    let Some((header, rest)) = next_row(alloc, 0, text)? else {
-        return Err(TextFault::At {
-            line: 1,
-            why: Why::Header,
-        });
-    };
-    let Some(level) = header_level(header.words.as_slice()) else {
-        return Err(TextFault::At {
-            line: header.number,
-            why: Why::Header,
-        });
-    };
-    read_body(alloc, level, header.number, rest)
-}
-
-/// Reads a drill file of level safe: the header `drill 1 safe`, `set` lines, then steps.
-///
-/// Comments and blank lines are skipped, words are parted by spaces, and a last line without LF is read too. A refused
-/// file is refused by the first faulty line and the first fault of that line; a file of more than 16,777,216 octets is
-/// `Long` at line 0, and one without a line that isn't skipped is `Header` at line 1.
-#[tactic(auto, unfolding(crate::specs::Files::scenario_of))]
-pub fn read(alloc: Global, bytes: &[u8]) -> Result<Scenario, TextFault>
-    ensures ok { IfOk result (λ scenario. scenario_of bytes.now ≡ Ok scenario) }
-    ensures fault { IfErr result (λ fault. IsFirstFault bytes.now fault) }
-    ensures range { IfOk result (λ scenario. CanBeRead scenario) }
+// The scenario of a text by a grammar.
+#[tactic(auto, unfolding(crate::specs::Files::file_says))]
+pub fn read_by(alloc: Global, grammar: Grammar, bytes: &[u8]) -> Result<Scenario, TextFault>
+    ensures exact { Answers result (file_says grammar bytes.now) }
+    ensures range { IfOk result (λ scenario. IsInGrammar grammar scenario) }
 {
     if bytes.len() > MOST_OCTETS {
         return Err(TextFault::At {
@@ -137,5 +130,30 @@ pub fn read(alloc: Global, bytes: &[u8]) -> Result<Scenario, TextFault>
             why: Why::Long,
         });
     }
-    read_lines(alloc, bytes)
+    let Some((header, rest)) = next_row(0, bytes) else {
+        return Err(TextFault::At {
+            line: 1,
+            why: Why::Header,
+        });
+    };
+    let Some(level) = header_level(grammar, header.words.as_slice()) else {
+        return Err(TextFault::At {
+            line: header.number,
+            why: Why::Header,
+        });
+    };
+    read_body(alloc, grammar, level, header.number, rest)
+}
+
+/// Reads a drill file: the header `drill 1 LEVEL`, `set` lines, then steps.
+///
+/// Comments and blank lines are skipped, words are parted by spaces, and a last line without LF is read too. A refused
+/// file is refused by the first faulty line and the first fault of that line; a file of more than 16,777,216 octets is
+/// `Long` at line 0, and one without a line that isn't skipped is `Header` at line 1. Lines and levels that the program
+/// can't run yet are refused as if the table of lines hadn't them.
+pub fn read(alloc: Global, bytes: &[u8]) -> Result<Scenario, TextFault>
+    ensures exact { Answers result (scenario_of bytes.now) }
+    ensures range { IfOk result (λ scenario. CanBeRead scenario) }
+{
+    read_by(alloc, Grammar::Running, bytes)
 }

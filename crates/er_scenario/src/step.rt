@@ -34,6 +34,11 @@ pub enum Step {
         /// The engine's random number.
         rb: u64,
     },
+    /// Opens a link between two stations; the calling one starts at once.
+    Wire {
+        /// The link, 1 to 64.
+        link: u8,
+    },
     /// The user at a side sends octets.
     Send {
         /// The link, 1 to 64.
@@ -95,6 +100,13 @@ pub enum Step {
         /// The side that seems to have sent the copy.
         to_side: Side,
     },
+    /// The user at a side takes a message.
+    Take {
+        /// The link, 1 to 64.
+        link: u8,
+        /// The side whose user takes.
+        side: Side,
+    },
     /// The user at a side releases the connection.
     Release {
         /// The link, 1 to 64.
@@ -103,6 +115,11 @@ pub enum Step {
         side: Side,
         /// The sub-reason beside the reason 0.
         sub: u8,
+    },
+    /// The moment is set, and every end is told of it.
+    Tick {
+        /// The moment in milliseconds, at most 10^15.
+        moment: u64,
     },
     /// Waiting frames are passed until none is left or as many as named were passed.
     Drain {

@@ -1,321 +1,252 @@
 //! The lines that are steps: each reads the words behind its first one.
 
-ghost use Rattle.std.specs.Prelude.{map, IfOk};
-ghost use Rattle.er_scenario.specs.Steps.{fixed_from, fixed_of, link_line_from, link_line_of, send_of, pass_of, lose_of, repeat_of, alter_from, alter_of, put_of, copy_from, copy_of, release_of, drain_of, step_of};
-ghost use Rattle.er_scenario.specs.Readings.{Gives};
-ghost use Rattle.er_scenario.specs.Printed.{IsInRange};
+ghost use Rattle.std.specs.Prelude.{◌≡◌, length, map, IfOk};
+ghost use Rattle.er_base.specs.Rows.{Gives};
+ghost use Rattle.er_scenario.specs.Table.{kinds_of};
+ghost use Rattle.er_scenario.specs.Readings.{step_said, IsStepOf};
 
 use crate::arguments::{
-    etcs_number, key, link, mask, most_passes, optional_key, place, random_number, side,
-    sub_reason, text,
+    read_etcs_number, read_key, read_link, read_mask, read_octets, read_optional_key,
 };
-use crate::line_fault::LineFault;
 use crate::step::Step;
-use er_base::Why;
+use crate::step_name::StepName;
+use er_base::{LineFault, Side, Why, read_number, read_number16, read_side};
 use std::alloc::Global;
 
-#[tactic(auto, unfolding(crate::specs::Steps::fixed_from))]
-fn fixed_with(
-    alloc: Global,
-    link_word: &[u8],
-    engine_word: &[u8],
-    rbc_word: &[u8],
-    engine_key_word: &[u8],
-    rbc_key_word: &[u8],
-) -> Result<Step, LineFault>
-    ensures step { Gives result (fixed_from link_word.now engine_word.now rbc_word.now engine_key_word.now rbc_key_word.now) }
-    ensures range { IfOk result (λ step. IsInRange step) }
-{
-    let link = link(link_word)?;
-    let engine = etcs_number(engine_word)?;
-    let rbc = etcs_number(rbc_word)?;
-    let ke = key(alloc, engine_key_word)?;
-    let kr = key(alloc, rbc_key_word)?;
-    Ok(Step::Fixed {
-        link,
-        engine,
-        rbc,
-        ke,
-        kr,
-    })
-}
+/// The most passes of a drain.
+const MOST_PASSES: u64 = 100_000;
+/// The greatest moment.
+const GREATEST_MOMENT: u64 = 1_000_000_000_000_000;
 
-#[tactic(auto, unfolding(crate::specs::Steps::fixed_of))]
 fn fixed(alloc: Global, words: &[&[u8]]) -> Result<Step, LineFault>
-    ensures step { Gives result (fixed_of (map (λ w. w.now) words.now)) }
-    ensures range { IfOk result (λ step. IsInRange step) }
+    requires { length words.now ≡ 5 }
+    ensures step { Gives result (step_said StepName.Fixed (map (λ w. w.now) words.now)) }
+    ensures range { IfOk result (λ step. IsStepOf StepName.Fixed step) }
 {
-    let [
-        link_word,
-        engine_word,
-        rbc_word,
-        engine_key_word,
-        rbc_key_word,
-    ] = words
-    else {
+    let [link, engine, rbc, ke, kr] = words else {
         return Err(LineFault::Refused(Why::Count));
     };
-    fixed_with(
-        alloc,
-        link_word,
-        engine_word,
-        rbc_word,
-        engine_key_word,
-        rbc_key_word,
-    )
+    Ok(Step::Fixed {
+        link: read_link(link)?,
+        engine: read_etcs_number(engine)?,
+        rbc: read_etcs_number(rbc)?,
+        ke: read_key(alloc, ke)?,
+        kr: read_key(alloc, kr)?,
+    })
 }
 
-#[tactic(auto, unfolding(crate::specs::Steps::link_line_from))]
-fn link_line_with(
-    alloc: Global,
-    link_word: &[u8],
-    engine_word: &[u8],
-    rbc_word: &[u8],
-    engine_kmac_word: &[u8],
-    rbc_kmac_word: &[u8],
-    rbc_random_word: &[u8],
-    engine_random_word: &[u8],
-) -> Result<Step, LineFault>
-    ensures step { Gives result (link_line_from link_word.now engine_word.now rbc_word.now engine_kmac_word.now rbc_kmac_word.now rbc_random_word.now engine_random_word.now) }
-    ensures range { IfOk result (λ step. IsInRange step) }
+fn link(alloc: Global, words: &[&[u8]]) -> Result<Step, LineFault>
+    requires { length words.now ≡ 7 }
+    ensures step { Gives result (step_said StepName.Link (map (λ w. w.now) words.now)) }
+    ensures range { IfOk result (λ step. IsStepOf StepName.Link step) }
 {
-    let link = link(link_word)?;
-    let engine = etcs_number(engine_word)?;
-    let rbc = etcs_number(rbc_word)?;
-    let ke = key(alloc, engine_kmac_word)?;
-    let kr = optional_key(alloc, rbc_kmac_word)?;
-    let ra = random_number(alloc, rbc_random_word)?;
-    let rb = random_number(alloc, engine_random_word)?;
+    let [link, engine, rbc, ke, kr, ra, rb] = words else {
+        return Err(LineFault::Refused(Why::Count));
+    };
     Ok(Step::Link {
-        link,
-        engine,
-        rbc,
-        ke,
-        kr,
-        ra,
-        rb,
+        link: read_link(link)?,
+        engine: read_etcs_number(engine)?,
+        rbc: read_etcs_number(rbc)?,
+        ke: read_key(alloc, ke)?,
+        kr: read_optional_key(alloc, kr)?,
+        ra: read_number16(alloc, ra)?,
+        rb: read_number16(alloc, rb)?,
     })
 }
 
-#[tactic(auto, unfolding(crate::specs::Steps::link_line_of))]
-fn link_line(alloc: Global, words: &[&[u8]]) -> Result<Step, LineFault>
-    ensures step { Gives result (link_line_of (map (λ w. w.now) words.now)) }
-    ensures range { IfOk result (λ step. IsInRange step) }
+fn wire(words: &[&[u8]]) -> Result<Step, LineFault>
+    requires { length words.now ≡ 1 }
+    ensures step { Gives result (step_said StepName.Wire (map (λ w. w.now) words.now)) }
+    ensures range { IfOk result (λ step. IsStepOf StepName.Wire step) }
 {
-    let [
-        link_word,
-        engine_word,
-        rbc_word,
-        engine_kmac_word,
-        rbc_kmac_word,
-        rbc_random_word,
-        engine_random_word,
-    ] = words
-    else {
+    let [link] = words else {
         return Err(LineFault::Refused(Why::Count));
     };
-    link_line_with(
-        alloc,
-        link_word,
-        engine_word,
-        rbc_word,
-        engine_kmac_word,
-        rbc_kmac_word,
-        rbc_random_word,
-        engine_random_word,
-    )
+    Ok(Step::Wire {
+        link: read_link(link)?,
+    })
 }
 
-#[tactic(auto, unfolding(crate::specs::Steps::send_of))]
 fn send(alloc: Global, words: &[&[u8]]) -> Result<Step, LineFault>
-    ensures step { Gives result (send_of (map (λ w. w.now) words.now)) }
-    ensures range { IfOk result (λ step. IsInRange step) }
+    requires { length words.now ≡ 3 }
+    ensures step { Gives result (step_said StepName.Send (map (λ w. w.now) words.now)) }
+    ensures range { IfOk result (λ step. IsStepOf StepName.Send step) }
 {
-    let [link_word, side_word, text_word] = words else {
+    let [link, side, text] = words else {
         return Err(LineFault::Refused(Why::Count));
     };
-    let link = link(link_word)?;
-    let side = side(side_word)?;
-    let text = text(alloc, text_word)?;
-    Ok(Step::Send { link, side, text })
+    Ok(Step::Send {
+        link: read_link(link)?,
+        side: read_side(side)?,
+        text: read_octets(alloc, text)?,
+    })
 }
 
-#[tactic(auto, unfolding(crate::specs::Steps::pass_of))]
 fn pass(words: &[&[u8]]) -> Result<Step, LineFault>
-    ensures step { Gives result (pass_of (map (λ w. w.now) words.now)) }
-    ensures range { IfOk result (λ step. IsInRange step) }
+    requires { length words.now ≡ 2 }
+    ensures step { Gives result (step_said StepName.Pass (map (λ w. w.now) words.now)) }
+    ensures range { IfOk result (λ step. IsStepOf StepName.Pass step) }
 {
-    let [link_word, side_word] = words else {
+    let [link, side] = words else {
         return Err(LineFault::Refused(Why::Count));
     };
-    let link = link(link_word)?;
-    let side = side(side_word)?;
-    Ok(Step::Pass { link, side })
+    Ok(Step::Pass {
+        link: read_link(link)?,
+        side: read_side(side)?,
+    })
 }
 
-#[tactic(auto, unfolding(crate::specs::Steps::lose_of))]
 fn lose(words: &[&[u8]]) -> Result<Step, LineFault>
-    ensures step { Gives result (lose_of (map (λ w. w.now) words.now)) }
-    ensures range { IfOk result (λ step. IsInRange step) }
+    requires { length words.now ≡ 2 }
+    ensures step { Gives result (step_said StepName.Lose (map (λ w. w.now) words.now)) }
+    ensures range { IfOk result (λ step. IsStepOf StepName.Lose step) }
 {
-    let [link_word, side_word] = words else {
+    let [link, side] = words else {
         return Err(LineFault::Refused(Why::Count));
     };
-    let link = link(link_word)?;
-    let side = side(side_word)?;
-    Ok(Step::Lose { link, side })
+    Ok(Step::Lose {
+        link: read_link(link)?,
+        side: read_side(side)?,
+    })
 }
 
-#[tactic(auto, unfolding(crate::specs::Steps::repeat_of))]
 fn repeat(words: &[&[u8]]) -> Result<Step, LineFault>
-    ensures step { Gives result (repeat_of (map (λ w. w.now) words.now)) }
-    ensures range { IfOk result (λ step. IsInRange step) }
+    requires { length words.now ≡ 2 }
+    ensures step { Gives result (step_said StepName.Repeat (map (λ w. w.now) words.now)) }
+    ensures range { IfOk result (λ step. IsStepOf StepName.Repeat step) }
 {
-    let [link_word, side_word] = words else {
+    let [link, side] = words else {
         return Err(LineFault::Refused(Why::Count));
     };
-    let link = link(link_word)?;
-    let side = side(side_word)?;
-    Ok(Step::Repeat { link, side })
-}
-
-#[tactic(auto, unfolding(crate::specs::Steps::alter_from))]
-fn alter_with(
-    alloc: Global,
-    link_word: &[u8],
-    side_word: &[u8],
-    place_word: &[u8],
-    mask_word: &[u8],
-) -> Result<Step, LineFault>
-    ensures step { Gives result (alter_from link_word.now side_word.now place_word.now mask_word.now) }
-    ensures range { IfOk result (λ step. IsInRange step) }
-{
-    let link = link(link_word)?;
-    let side = side(side_word)?;
-    let place = place(place_word)?;
-    let mask = mask(alloc, mask_word)?;
-    Ok(Step::Alter {
-        link,
-        side,
-        place,
-        mask,
+    Ok(Step::Repeat {
+        link: read_link(link)?,
+        side: read_side(side)?,
     })
 }
 
-#[tactic(auto, unfolding(crate::specs::Steps::alter_of))]
 fn alter(alloc: Global, words: &[&[u8]]) -> Result<Step, LineFault>
-    ensures step { Gives result (alter_of (map (λ w. w.now) words.now)) }
-    ensures range { IfOk result (λ step. IsInRange step) }
+    requires { length words.now ≡ 4 }
+    ensures step { Gives result (step_said StepName.Alter (map (λ w. w.now) words.now)) }
+    ensures range { IfOk result (λ step. IsStepOf StepName.Alter step) }
 {
-    let [link_word, side_word, place_word, mask_word] = words else {
+    let [link, side, place, mask] = words else {
         return Err(LineFault::Refused(Why::Count));
     };
-    alter_with(alloc, link_word, side_word, place_word, mask_word)
-}
-
-#[tactic(auto, unfolding(crate::specs::Steps::put_of))]
-fn put(alloc: Global, words: &[&[u8]]) -> Result<Step, LineFault>
-    ensures step { Gives result (put_of (map (λ w. w.now) words.now)) }
-    ensures range { IfOk result (λ step. IsInRange step) }
-{
-    let [link_word, side_word, text_word] = words else {
-        return Err(LineFault::Refused(Why::Count));
-    };
-    let link = link(link_word)?;
-    let side = side(side_word)?;
-    let text = text(alloc, text_word)?;
-    Ok(Step::Put { link, side, text })
-}
-
-#[tactic(auto, unfolding(crate::specs::Steps::copy_from))]
-fn copy_with(
-    link_word: &[u8],
-    side_word: &[u8],
-    to_link_word: &[u8],
-    to_side_word: &[u8],
-) -> Result<Step, LineFault>
-    ensures step { Gives result (copy_from link_word.now side_word.now to_link_word.now to_side_word.now) }
-    ensures range { IfOk result (λ step. IsInRange step) }
-{
-    let from_link = link(link_word)?;
-    let from_side = side(side_word)?;
-    let to_link = link(to_link_word)?;
-    let to_side = side(to_side_word)?;
-    Ok(Step::Copy {
-        link: from_link,
-        side: from_side,
-        to_link,
-        to_side,
+    Ok(Step::Alter {
+        link: read_link(link)?,
+        side: read_side(side)?,
+        place: read_number(place, 0, u64::MAX)?,
+        mask: read_mask(alloc, mask)?,
     })
 }
 
-#[tactic(auto, unfolding(crate::specs::Steps::copy_of))]
+fn put(alloc: Global, words: &[&[u8]]) -> Result<Step, LineFault>
+    requires { length words.now ≡ 3 }
+    ensures step { Gives result (step_said StepName.Put (map (λ w. w.now) words.now)) }
+    ensures range { IfOk result (λ step. IsStepOf StepName.Put step) }
+{
+    let [link, side, text] = words else {
+        return Err(LineFault::Refused(Why::Count));
+    };
+    Ok(Step::Put {
+        link: read_link(link)?,
+        side: read_side(side)?,
+        text: read_octets(alloc, text)?,
+    })
+}
+
 fn copy(words: &[&[u8]]) -> Result<Step, LineFault>
-    ensures step { Gives result (copy_of (map (λ w. w.now) words.now)) }
-    ensures range { IfOk result (λ step. IsInRange step) }
+    requires { length words.now ≡ 4 }
+    ensures step { Gives result (step_said StepName.Copy (map (λ w. w.now) words.now)) }
+    ensures range { IfOk result (λ step. IsStepOf StepName.Copy step) }
 {
-    let [link_word, side_word, to_link_word, to_side_word] = words else {
+    let [link, side, to_link, to_side] = words else {
         return Err(LineFault::Refused(Why::Count));
     };
-    copy_with(link_word, side_word, to_link_word, to_side_word)
+    Ok(Step::Copy {
+        link: read_link(link)?,
+        side: read_side(side)?,
+        to_link: read_link(to_link)?,
+        to_side: read_side(to_side)?,
+    })
 }
 
-#[tactic(auto, unfolding(crate::specs::Steps::release_of))]
+fn take(words: &[&[u8]]) -> Result<Step, LineFault>
+    requires { length words.now ≡ 2 }
+    ensures step { Gives result (step_said StepName.Take (map (λ w. w.now) words.now)) }
+    ensures range { IfOk result (λ step. IsStepOf StepName.Take step) }
+{
+    let [link, side] = words else {
+        return Err(LineFault::Refused(Why::Count));
+    };
+    Ok(Step::Take {
+        link: read_link(link)?,
+        side: read_side(side)?,
+    })
+}
+
 fn release(words: &[&[u8]]) -> Result<Step, LineFault>
-    ensures step { Gives result (release_of (map (λ w. w.now) words.now)) }
-    ensures range { IfOk result (λ step. IsInRange step) }
+    requires { length words.now ≡ 3 }
+    ensures step { Gives result (step_said StepName.Release (map (λ w. w.now) words.now)) }
+    ensures range { IfOk result (λ step. IsStepOf StepName.Release step) }
 {
-    let [link_word, side_word, sub_word] = words else {
+    let [link, side, sub] = words else {
         return Err(LineFault::Refused(Why::Count));
     };
-    let link = link(link_word)?;
-    let side = side(side_word)?;
-    let sub = sub_reason(sub_word)?;
-    Ok(Step::Release { link, side, sub })
+    Ok(Step::Release {
+        link: read_link(link)?,
+        side: read_side(side)?,
+        sub: read_number(sub, 0, u8::MAX as u64)? as u8,
+    })
 }
 
-#[tactic(auto, unfolding(crate::specs::Steps::drain_of))]
+fn tick(words: &[&[u8]]) -> Result<Step, LineFault>
+    requires { length words.now ≡ 1 }
+    ensures step { Gives result (step_said StepName.Tick (map (λ w. w.now) words.now)) }
+    ensures range { IfOk result (λ step. IsStepOf StepName.Tick step) }
+{
+    let [moment] = words else {
+        return Err(LineFault::Refused(Why::Count));
+    };
+    Ok(Step::Tick {
+        moment: read_number(moment, 0, GREATEST_MOMENT)?,
+    })
+}
+
 fn drain(words: &[&[u8]]) -> Result<Step, LineFault>
-    ensures step { Gives result (drain_of (map (λ w. w.now) words.now)) }
-    ensures range { IfOk result (λ step. IsInRange step) }
+    requires { length words.now ≡ 2 }
+    ensures step { Gives result (step_said StepName.Drain (map (λ w. w.now) words.now)) }
+    ensures range { IfOk result (λ step. IsStepOf StepName.Drain step) }
 {
-    let [link_word, most_word] = words else {
+    let [link, most] = words else {
         return Err(LineFault::Refused(Why::Count));
     };
-    let link = link(link_word)?;
-    let most = most_passes(most_word)?;
-    Ok(Step::Drain { link, most })
+    Ok(Step::Drain {
+        link: read_link(link)?,
+        most: read_number(most, 1, MOST_PASSES)? as u32,
+    })
 }
 
-/// The step of a line that begins with this word, from the words behind it.
-#[tactic(auto, unfolding(crate::specs::Steps::step_of))]
-pub fn read_step(alloc: Global, name: &[u8], words: &[&[u8]]) -> Result<Step, LineFault>
-    ensures step { Gives result (step_of name.now (map (λ w. w.now) words.now)) }
-    ensures range { IfOk result (λ step. IsInRange step) }
+/// The step of a line whose first word names it, from the words behind it, as many as it wants.
+pub fn read_step(alloc: Global, name: StepName, words: &[&[u8]]) -> Result<Step, LineFault>
+    requires { length words.now ≡ length (kinds_of name) }
+    ensures step { Gives result (step_said name (map (λ w. w.now) words.now)) }
+    ensures range { IfOk result (λ step. IsStepOf name step) }
 {
-    if name == b"fixed".as_slice() {
-        fixed(alloc, words)
-    } else if name == b"link".as_slice() {
-        link_line(alloc, words)
-    } else if name == b"send".as_slice() {
-        send(alloc, words)
-    } else if name == b"pass".as_slice() {
-        pass(words)
-    } else if name == b"lose".as_slice() {
-        lose(words)
-    } else if name == b"repeat".as_slice() {
-        repeat(words)
-    } else if name == b"alter".as_slice() {
-        alter(alloc, words)
-    } else if name == b"put".as_slice() {
-        put(alloc, words)
-    } else if name == b"copy".as_slice() {
-        copy(words)
-    } else if name == b"release".as_slice() {
-        release(words)
-    } else if name == b"drain".as_slice() {
-        drain(words)
-    } else {
-        Err(LineFault::Refused(Why::Word))
+    match name {
+        StepName::Fixed => fixed(alloc, words),
+        StepName::Link => link(alloc, words),
+        StepName::Wire => wire(words),
+        StepName::Send => send(alloc, words),
+        StepName::Pass => pass(words),
+        StepName::Lose => lose(words),
+        StepName::Repeat => repeat(words),
+        StepName::Alter => alter(alloc, words),
+        StepName::Put => put(alloc, words),
+        StepName::Copy => copy(words),
+        StepName::Take => take(words),
+        StepName::Release => release(words),
+        StepName::Tick => tick(words),
+        StepName::Drain => drain(words),
     }
 }

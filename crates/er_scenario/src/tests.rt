@@ -1,8 +1,11 @@
+use crate::grammar::Grammar;
+use crate::printer::put_text;
+use crate::reader::read_by;
 use crate::{Level, Numbered, Scenario, Step, StepList, laws, print, read};
 use des_block::TripleKey;
-use er_base::{Octets, Side, TextFault, Why};
+use er_base::{NoMemory, Octets, Side, TextFault, Why};
 use er_settings::Settings;
-use std::alloc::{AllocError, Global};
+use std::alloc::Global;
 use std::test::Fail;
 
 const KEY: &str = "0123456789abcdef23456789abcdef01456789abcdef0123";
@@ -16,7 +19,7 @@ const KEYS: TripleKey = TripleKey {
 };
 
 // A text in which each K stands for 48 digits, each R for 16, and each semicolon for LF.
-fn spelled_out(alloc: Global, text: &str) -> Result<Vec<u8>, AllocError> {
+fn spelled_out(alloc: Global, text: &str) -> Result<Vec<u8>, NoMemory> {
     let mut octets = Vec::new(alloc);
     for octet in text.as_bytes() {
         match *octet {
@@ -30,11 +33,15 @@ fn spelled_out(alloc: Global, text: &str) -> Result<Vec<u8>, AllocError> {
 }
 
 // The line and the word of a text's fault.
-fn fault_in(alloc: Global, text: &[u8]) -> Result<Option<(usize, Why)>, AllocError> {
-    match read(alloc, text) {
+fn fault_in(
+    alloc: Global,
+    grammar: Grammar,
+    text: &[u8],
+) -> Result<Option<(usize, Why)>, NoMemory> {
+    match read_by(alloc, grammar, text) {
         Ok(_) => Ok(None),
         Err(TextFault::At { line, why }) => Ok(Some((line, why))),
-        Err(TextFault::NoMemory) => Err(AllocError),
+        Err(TextFault::NoMemory(want)) => Err(want),
     }
 }
 
@@ -87,7 +94,6 @@ fn reads_and_prints_one_sealed_message(rt: HostRuntime) -> Result<(), Fail> {
     expected.extend_from_slice(text.as_slice())?;
     assert_eq!(rt; out.as_slice(), expected.as_slice());
     laws::printed_is_read();
-    laws::ranges_are_the_settings();
     Ok(())
 }
 
@@ -129,55 +135,56 @@ fn reads_links_with_and_without_a_key(rt: HostRuntime) -> Result<(), Fail> {
     Ok(())
 }
 
-// Each line as it is written and as it is printed, by hand from the table of lines.
+// Each line as it is written and as it is printed, behind its header, by hand from the table of lines.
+const PRINTED: &str = "\
+safe|fixed 64 0 16777215 K K|fixed 64 0 16777215 K K
+safe|link 64 0 16777215 K - 0000000000000000 FFFFFFFFffffffff|link 64 0 16777215 K - 0000000000000000 ffffffffffffffff
+full|link 1 5 9 K K R 00000000000000aB|link 1 5 9 K K R 00000000000000ab
+link|wire 64|wire 64
+safe| send  1 e -  |send 1 e -
+link|send 1 r 0aFf|send 1 r 0aff
+safe|pass 1 e|pass 1 e
+full|lose 2 r|lose 2 r
+link|repeat 3 e|repeat 3 e
+safe|alter 1 e 18446744073709551615 FF|alter 1 e 18446744073709551615 ff
+full|put 1 r 00|put 1 r 00
+safe|copy 1 e 64 r|copy 1 e 64 r
+full|take 1 r|take 1 r
+link|release 1 r 255|release 1 r 255
+full|tick 1000000000000000|tick 1000000000000000
+link|drain 1 100000|drain 1 100000
+safe|set window 1|set window 1
+safe|set credit 1|set credit 1
+safe|set size 1024|set size 1024
+safe|set t1 60000|set t1 60000
+safe|set n2 10|set n2 10
+safe|set setup 1000|set setup 1000
+safe|set show 1|set show 1
+safe|set window 1;set window 2;set n2 5|set window 2
+safe|set show 1;set size 256;set show 0;set credit 3|set credit 3;set size 256
+link|set n2 1;set modulo 128;set window 31|set modulo 128;set window 31;set n2 1
+link|set modulo 128;set window 31;set window 7;set modulo 8|
+safe|set modulo 128|set modulo 128
+safe|# set window 9;;   ;pass 1 e;#|pass 1 e";
+
 #[test]
 fn prints_each_line_as_it_is_written(rt: HostRuntime) -> Result<(), Fail> {
-    let rows = [
-        ("fixed 64 0 16777215 K K", "fixed 64 0 16777215 K K"),
-        (
-            "link 64 0 16777215 K - 0000000000000000 FFFFFFFFffffffff",
-            "link 64 0 16777215 K - 0000000000000000 ffffffffffffffff",
-        ),
-        (
-            "link 1 5 9 K K R 00000000000000aB",
-            "link 1 5 9 K K R 00000000000000ab",
-        ),
-        (" send  1 e -  ", "send 1 e -"),
-        ("send 1 r 0aFf", "send 1 r 0aff"),
-        ("pass 1 e", "pass 1 e"),
-        ("lose 2 r", "lose 2 r"),
-        ("repeat 3 e", "repeat 3 e"),
-        (
-            "alter 1 e 18446744073709551615 FF",
-            "alter 1 e 18446744073709551615 ff",
-        ),
-        ("put 1 r 00", "put 1 r 00"),
-        ("copy 1 e 64 r", "copy 1 e 64 r"),
-        ("release 1 r 255", "release 1 r 255"),
-        ("drain 1 100000", "drain 1 100000"),
-        ("set window 1", "set window 1"),
-        ("set credit 1", "set credit 1"),
-        ("set size 1024", "set size 1024"),
-        ("set t1 60000", "set t1 60000"),
-        ("set n2 10", "set n2 10"),
-        ("set setup 1000", "set setup 1000"),
-        ("set show 1", "set show 1"),
-        ("set window 1\nset window 2\nset n2 5", "set window 2"),
-        (
-            "set show 1\nset size 256\nset show 0\nset credit 3",
-            "set credit 3\nset size 256",
-        ),
-        ("# set window 9\n\n   \npass 1 e\n#", "pass 1 e"),
-    ];
-    for (written, printed) in rows {
-        let text = format!(in rt.alloc(); "drill 1 safe\n{written}")?;
+    for row in PRINTED.split('\n') {
+        let Some((level, lines)) = row.split_once('|') else {
+            return Ok(assert!(rt; false, "{row}"));
+        };
+        let Some((written, printed)) = lines.split_once('|') else {
+            return Ok(assert!(rt; false, "{row}"));
+        };
+        let text = format!(in rt.alloc(); "drill 1 {level};{written}")?;
         let text = spelled_out(rt.alloc(), text.as_str())?;
-        let scenario = read(rt.alloc(), text.as_slice())?;
+        let scenario = read_by(rt.alloc(), Grammar::Whole, text.as_slice())?;
         let mut out = Vec::new(rt.alloc());
-        print(rt.alloc(), &scenario, &mut out)?;
-        let expected = format!(in rt.alloc(); "drill 1 safe\n{printed}\n")?;
+        put_text(rt.alloc(), &scenario, &mut out)?;
+        let end = if printed.is_empty() { "" } else { ";" };
+        let expected = format!(in rt.alloc(); "drill 1 {level};{printed}{end}")?;
         let expected = spelled_out(rt.alloc(), expected.as_str())?;
-        assert_eq!(rt; out.as_slice(), expected.as_slice(), "{written}");
+        assert_eq!(rt; out.as_slice(), expected.as_slice(), "{row}");
     }
     Ok(())
 }
@@ -202,6 +209,7 @@ const FAULTS: &str = "\
 2 Word|drill 1 safe; # x
 2 Word|drill 1 safe;foo
 2 Word|drill 1 safe;wire 1
+2 Word|drill 1 safe;wire 1 2
 2 Word|drill 1 safe;take 1 e
 2 Word|drill 1 safe;tick 5
 2 Word|drill 1 safe;Pass 1 e
@@ -280,6 +288,11 @@ const FAULTS: &str = "\
 2 Count|drill 1 safe;pass
 2 Count|drill 1 safe;pass 1
 2 Count|drill 1 safe;pass 1 e 1
+3 Count|drill 1 safe;pass 1 e;pass 1 e a b c d e f
+3 Count|drill 1 safe;pass 1 e;pass 1 e a b c d e f g
+3 Count|drill 1 safe;pass 1 e;pass 1 e a b c d e f g h
+2 Word|drill 1 safe;foo 1 e a b c d e f g h
+1 Header|drill 1 safe a b c d e f g h
 2 Number|drill 1 safe;pass a ?
 2 Number|drill 1 safe;pass 01 ?
 2 Value|drill 1 safe;pass 0 ?
@@ -377,6 +390,12 @@ const FAULTS: &str = "\
 2 Number|drill 1 safe;set window x
 2 Value|drill 1 safe;set window 0
 2 Value|drill 1 safe;set window 8
+2 Number|drill 1 safe;set modulo x
+2 Value|drill 1 safe;set modulo 0
+2 Value|drill 1 safe;set modulo 127
+3 Value|drill 1 safe;set modulo 128;set window 32
+4 Value|drill 1 safe;set modulo 128;set window 8;set modulo 8
+4 Value|drill 1 safe;set modulo 128;set modulo 8;set window 8
 2 Number|drill 1 safe;set credit x
 2 Value|drill 1 safe;set credit 0
 2 Value|drill 1 safe;set credit 16
@@ -396,19 +415,66 @@ const FAULTS: &str = "\
 2 Number|drill 1 safe;set show x
 2 Value|drill 1 safe;set show 2";
 
+// The same of lines and levels that the program can't run yet, by the whole grammar.
+const FAULTS_OF_THE_WHOLE: &str = "\
+1 Header|drill 1 link-sr
+1 Header|drill 1 Link
+2 Value|drill 1 link;set window 8
+3 Value|drill 1 link;set modulo 128;set window 32
+4 Value|drill 1 link;set modulo 128;set window 31;set modulo 8
+3 Late|drill 1 link;wire 1;set modulo 128
+2 Level|drill 1 safe;wire 1
+2 Level|drill 1 safe;wire 65
+2 Count|drill 1 safe;wire
+2 Count|drill 1 link;wire 1 2
+2 Number|drill 1 link;wire a
+2 Value|drill 1 link;wire 0
+2 Value|drill 1 link;wire 65
+2 Level|drill 1 full;wire 1
+2 Level|drill 1 link;fixed 1 5 9 K K
+2 Level|drill 1 full;fixed 1 5 9 K ?
+2 Level|drill 1 link;link 1 5 9 K K R R
+2 Level|drill 1 safe;take ? ?
+2 Level|drill 1 link;take 1 e
+2 Count|drill 1 full;take 1
+2 Number|drill 1 full;take a ?
+2 Value|drill 1 full;take 0 ?
+2 Number|drill 1 full;take 1 E
+2 Level|drill 1 safe;tick 5
+2 Count|drill 1 safe;tick
+2 Count|drill 1 link;tick 1 2
+2 Number|drill 1 link;tick -1
+2 Number|drill 1 full;tick 01
+2 Value|drill 1 full;tick 1000000000000001";
+
+// The first row of a table whose text isn't refused as is written before it.
+fn first_wrong(
+    alloc: Global,
+    grammar: Grammar,
+    rows: &'static str,
+) -> Result<Option<&'static str>, Fail> {
+    for row in rows.split('\n') {
+        let Some((expected, written)) = row.split_once('|') else {
+            return Ok(Some(row));
+        };
+        let text = spelled_out(alloc, written)?;
+        let Some((line, why)) = fault_in(alloc, grammar, text.as_slice())? else {
+            return Ok(Some(row));
+        };
+        let fault = format!(in alloc; "{line} {why:?}")?;
+        if fault.as_str() != expected {
+            return Ok(Some(row));
+        }
+    }
+    Ok(None)
+}
+
 #[test]
 fn refuses_each_fault_in_each_place(rt: HostRuntime) -> Result<(), Fail> {
-    for row in FAULTS.split('\n') {
-        let Some((expected, written)) = row.split_once('|') else {
-            return Ok(assert!(rt; false, "{row}"));
-        };
-        let text = spelled_out(rt.alloc(), written)?;
-        let Some((line, why)) = fault_in(rt.alloc(), text.as_slice())? else {
-            return Ok(assert!(rt; false, "{row}"));
-        };
-        let fault = format!(in rt.alloc(); "{line} {why:?}")?;
-        assert_eq!(rt; fault.as_str(), expected, "{row}");
-    }
+    let running = first_wrong(rt.alloc(), Grammar::Running, FAULTS)?;
+    assert_eq!(rt; running, None);
+    let whole = first_wrong(rt.alloc(), Grammar::Whole, FAULTS_OF_THE_WHOLE)?;
+    assert_eq!(rt; whole, None);
     Ok(())
 }
 
@@ -422,9 +488,13 @@ fn takes_hex_words_of_4096_octets(rt: HostRuntime) -> Result<(), Fail> {
         for _ in 0..4_096 {
             text.extend_from_slice(b"5a")?;
         }
-        assert_eq!(rt; fault_in(rt.alloc(), text.as_slice())?, None, "{word}");
+        assert_eq!(rt;
+            fault_in(rt.alloc(), Grammar::Running, text.as_slice())?,
+            None,
+            "{word}"
+        );
         text.extend_from_slice(b"5a")?;
-        let fault = fault_in(rt.alloc(), text.as_slice())?;
+        let fault = fault_in(rt.alloc(), Grammar::Running, text.as_slice())?;
         assert_eq!(rt; fault, Some((2, Why::Value)), "{word}");
     }
     Ok(())
@@ -434,9 +504,12 @@ fn takes_hex_words_of_4096_octets(rt: HostRuntime) -> Result<(), Fail> {
 fn takes_files_of_16_mebibytes(rt: HostRuntime) -> Result<(), Fail> {
     let mut text = Vec::from_slice(rt.alloc(), b"drill 1 safe\n".as_slice())?;
     text.resize(16_777_216, b'\n')?;
-    assert_eq!(rt; fault_in(rt.alloc(), text.as_slice())?, None);
+    assert_eq!(rt;
+        fault_in(rt.alloc(), Grammar::Running, text.as_slice())?,
+        None
+    );
     text.push(b'\n')?;
-    let fault = fault_in(rt.alloc(), text.as_slice())?;
+    let fault = fault_in(rt.alloc(), Grammar::Running, text.as_slice())?;
     assert_eq!(rt; fault, Some((0, Why::Long)));
     Ok(())
 }

@@ -1,44 +1,66 @@
--- The ranges and the defaults of the settings of a link. They are this profile's.
-use Rattle.std.specs.Prelude.{◌≡◌, ℕ, ◌≤◌, ◌⊎◌}
+-- The ranges and the defaults of the settings of a link. They are this profile's. The modulo is that of the numbers of I frames
+-- (ISO/IEC 13239): 8, or 128 in the extended form.
+use Rattle.std.specs.Prelude.{◌≡◌, ℕ, ◌==◌, ◌&&◌, ◌||◌, nat_le, Bool, if◌then◌else◌, IsTrue, ◌⊎◌}
 use Rattle.er_settings.specs.declared.settings.Settings.{Settings}
-use Rattle.er_settings.specs.declared.settings.SettingName.{SettingName}
-use Rattle.er_settings.specs.declared.settings.SettingName.TheVariants.{Window, Credit, Size, T1, N2, Setup}
+use Rattle.er_settings.specs.declared.setting_name.SettingName.{SettingName}
+use Rattle.er_settings.specs.declared.setting_name.SettingName.TheVariants.{Window, Credit, Size, T1, N2, Setup}
 
--- the setting may have this value; times are in milliseconds
-abbrev pub Allows : SettingName → ℕ → Type 0
-Allows Window n = (1 ≤ n) × (n ≤ 7)
-Allows Credit n = (1 ≤ n) × (n ≤ 15)
-Allows Size n = (n ≡ 128) ⊎ (n ≡ 256) ⊎ (n ≡ 512) ⊎ (n ≡ 1024)
-Allows T1 n = (100 ≤ n) × (n ≤ 60000)
-Allows N2 n = (1 ≤ n) × (n ≤ 10)
-Allows Setup n = (1000 ≤ n) × (n ≤ 600000)
+-- a number from `least` to `most`
+abbrev pub is_between : ℕ → ℕ → ℕ → Bool
+is_between least most n = nat_le least n && nat_le n most
+
+-- the greatest window: at modulo 128 this profile allows more than at modulo 8
+abbrev pub greatest_window : ℕ → ℕ
+greatest_window modulo = if modulo == 128 then 31 else 7
+
+-- whether the setting may have this value at a modulo; times are in milliseconds
+abbrev pub is_allowed : ℕ → SettingName → ℕ → Bool
+is_allowed modulo Window n = is_between 1 (greatest_window modulo) n
+is_allowed modulo Credit n = is_between 1 15 n
+is_allowed modulo Size n = n == 128 || n == 256 || n == 512 || n == 1024
+is_allowed modulo T1 n = is_between 100 60000 n
+is_allowed modulo N2 n = is_between 1 10 n
+is_allowed modulo Setup n = is_between 1000 600000 n
+
+-- the setting may have this value
+abbrev pub Allows : ℕ → SettingName → ℕ → Type 0
+Allows modulo name n = IsTrue (is_allowed modulo name n)
+
+-- the two modulos
+abbrev pub IsModulo : ℕ → Type 0
+IsModulo n = (n ≡ 8) ⊎ (n ≡ 128)
 
 -- each of the settings has a value that it may have
-abbrev pub AllAllowed : Settings → Type 0
-AllAllowed s = Allows Window s.window × Allows Credit s.credit × Allows Size s.size
-    × Allows T1 s.t1 × Allows N2 s.n2 × Allows Setup s.setup
+pub record AllAllowed (s : Settings) : Type 0 where
+  pub modulo : IsModulo s.modulo
+  pub window : Allows s.modulo Window s.window
+  pub credit : Allows s.modulo Credit s.credit
+  pub size : Allows s.modulo Size s.size
+  pub t1 : Allows s.modulo T1 s.t1
+  pub n2 : Allows s.modulo N2 s.n2
+  pub setup : Allows s.modulo Setup s.setup
 
 -- the settings with these values
-abbrev pub settings_of : (window credit size t1 n2 setup : ℕ) → Settings
-settings_of window credit size t1 n2 setup =
-    record { window = window; credit = credit; size = size; t1 = t1; n2 = n2; setup = setup }
+abbrev pub settings_of : (modulo window credit size t1 n2 setup : ℕ) → Settings
+settings_of modulo window credit size t1 n2 setup =
+    record { window = window; credit = credit; size = size; t1 = t1; n2 = n2; setup = setup; modulo = modulo }
 
 -- the defaults
 abbrev pub usual_settings : Settings
-usual_settings = settings_of 7 15 128 1000 5 40000
+usual_settings = settings_of 8 7 15 128 1000 5 40000
 
--- of the six values, in their order, this is the first one that its setting may not have
-abbrev pub FirstRefused : (window credit size t1 n2 setup : ℕ) → SettingName → ℕ → Type 0
-FirstRefused window credit size t1 n2 setup Window v = (¬ Allows Window v) × (v ≡ window)
-FirstRefused window credit size t1 n2 setup Credit v =
-    Allows Window window × (¬ Allows Credit v) × (v ≡ credit)
-FirstRefused window credit size t1 n2 setup Size v =
-    Allows Window window × Allows Credit credit × (¬ Allows Size v) × (v ≡ size)
-FirstRefused window credit size t1 n2 setup T1 v =
-    Allows Window window × Allows Credit credit × Allows Size size × (¬ Allows T1 v) × (v ≡ t1)
-FirstRefused window credit size t1 n2 setup N2 v =
-    Allows Window window × Allows Credit credit × Allows Size size × Allows T1 t1
-    × (¬ Allows N2 v) × (v ≡ n2)
-FirstRefused window credit size t1 n2 setup Setup v =
-    Allows Window window × Allows Credit credit × Allows Size size × Allows T1 t1
-    × Allows N2 n2 × (¬ Allows Setup v) × (v ≡ setup)
+-- of the six values, in their order, this is the first one that its setting may not have at this modulo
+abbrev pub FirstRefused : (modulo window credit size t1 n2 setup : ℕ) → SettingName → ℕ → Type 0
+FirstRefused modulo window credit size t1 n2 setup Window v = (¬ Allows modulo Window v) × (v ≡ window)
+FirstRefused modulo window credit size t1 n2 setup Credit v =
+    Allows modulo Window window × (¬ Allows modulo Credit v) × (v ≡ credit)
+FirstRefused modulo window credit size t1 n2 setup Size v =
+    Allows modulo Window window × Allows modulo Credit credit × (¬ Allows modulo Size v) × (v ≡ size)
+FirstRefused modulo window credit size t1 n2 setup T1 v =
+    Allows modulo Window window × Allows modulo Credit credit × Allows modulo Size size × (¬ Allows modulo T1 v) × (v ≡ t1)
+FirstRefused modulo window credit size t1 n2 setup N2 v =
+    Allows modulo Window window × Allows modulo Credit credit × Allows modulo Size size × Allows modulo T1 t1
+    × (¬ Allows modulo N2 v) × (v ≡ n2)
+FirstRefused modulo window credit size t1 n2 setup Setup v =
+    Allows modulo Window window × Allows modulo Credit credit × Allows modulo Size size × Allows modulo T1 t1
+    × Allows modulo N2 n2 × (¬ Allows modulo Setup v) × (v ≡ setup)

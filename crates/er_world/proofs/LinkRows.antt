@@ -1,214 +1,375 @@
--- How what is kept of a link goes on, over what comes at one of its ends.
-use Rattle.std.proofs.Common.{◌≡◌, ℕ, ◌+◌, ◌-◌, ◌^◌, min, Bool, true, false, ◌||◌, List, [], ◌∷◌, ◌++◌, refl, sym, ap, ◌∙◌, subst}
-use Rattle.std.specs.List.{list_any, flat_map}
-use Rattle.std.proofs.lemmas.List.Folds.{list_any-append}
-use Rattle.std.proofs.lemmas.Grind.{flat_map-append}
+-- How a link of the code goes on, wherever it stands among the links of the model.
+use Rattle.std.proofs.Common.{◌≡◌, ℕ, ◌+◌, ◌-◌, ◌<◌, ◌^◌, min, Bool, List, [], ◌∷◌, ◌++◌, map, length, refl, sym, ap, ◌∙◌, subst, append_assoc, append-nil, length-append, Option, Some, None, arith}
+use Rattle.std.specs.List.{flat_map}
+use Rattle.std.proofs.lemmas.List.Concat.{flat_map-append}
 use Rattle.er_base.specs.declared.side.Side.{Side}
 use Rattle.er_base.specs.declared.side.Side.TheVariants.{E, R}
 use Rattle.er_base.specs.Sides.{other}
 use Rattle.des_block.specs.declared.triple_key.TripleKey.{TripleKey}
-use Rattle.safety_automaton.specs.Keys.{Entry}
-use Rattle.safety_automaton.specs.Safety.{Safety, Start, Hear, Say}
-use Rattle.safety_automaton.specs.Safety.{step as safe_step}
+use Rattle.safety_automaton.specs.Keys.{key_at}
+use Rattle.safe_pair.specs.Facts.{MarkedFact, SideFact, marked, marked_from}
+use Rattle.safe_pair.specs.Marks.{MarksGrow}
+use Rattle.drill_model.specs.Outcomes.{Outcome, OfSafety, Refused, Released, Frame, UserReleased, Passed, NothingWaits, Occurrence, at_end, facts_in, frames_in}
+use Rattle.drill_model.specs.Ends.{End, EndEvent, end_step}
+use Rattle.drill_model.specs.Ends as model
+use Rattle.drill_model.specs.Waiting.{changes}
+use Rattle.drill_model.specs.Links.{Link, key_on, waiting_of, with_waiting, give, onto, Pass, Change, Release, Tick, pass, change_waiting, link_step}
+use Rattle.drill_model.specs.Marks.{marks_behind}
+use Rattle.drill_model.specs.Kinds.{passed_in, deliveries}
+use Rattle.drill_model.specs.Texts.{link_lines, marked_line, empty_line}
+use Rattle.drill_model.specs.Growth.{FactsGrow, LinkMarksGrow}
 use Rattle.er_world.specs.declared.place.Place.{Place}
-use Rattle.er_world.specs.Deeds.{Deed, Sealing, Noted, is_sealing, is_side, is_mistrust, mistrusts, was_sealed, sealings_of, sealings, noted, notes}
-use Rattle.er_world.specs.Links.{Link, LinkStep, Send, Pass, Release, given, give, step}
-use Rattle.er_world.specs.Kept.{KeptLink, HoldsLink}
-use Rattle.er_world.specs.Pairs.{Gains}
-use Rattle.er_world.specs.Ports.{KeptPort, PortHolds, Answered, AnswersAs, HasLeft, IsStarted, Goes}
+use Rattle.er_world.specs.declared.told.Told.{Told}
+use Rattle.er_world.specs.declared.port.Port.{Port}
+use Rattle.er_world.specs.declared.ledger.Ledger.{Ledger}
+use Rattle.er_world.specs.declared.link.Link.{Link as KeptLink}
+use Rattle.er_world.specs.declared.action.LineChange.{LineChange}
+use Rattle.er_world.specs.declared.waiting.Change.{Change as Changed}
+use Rattle.er_world.specs.declared.waiting.Change.TheVariants as result
+use Rattle.er_world.specs.Changes.{outcomes_of, change_of, change_line}
+use Rattle.er_world.specs.Tellings.{IsTold, AreTold}
+use Rattle.er_world.specs.SafeEnds.{StandsEnd}
+use Rattle.er_world.specs.Ledgers.{HoldsLedger}
+use Rattle.er_world.specs.Ports.{PortWent}
+use Rattle.er_world.specs.KeptLinks.{waiting_at, with_waiting_at, StandsLink, LinkWent, LinkDoes, TakesFirst, ChangesFrames}
 
--- the pairs of what came are those of the deeds
-sealings_noted : (seen : List Noted) (side : Side) (deeds : List Deed) → sealings (notes seen side deeds) ≡ flat_map sealings_of deeds
-sealings_noted seen side [] = refl
-sealings_noted seen side (deed ∷ deeds) =
-    ap (λ (xs : List Sealing). sealings_of deed ++ xs) (sealings_noted (seen ++ noted seen side deed ∷ []) side deeds)
+-- ---- what came, and what came then
 
--- what comes at one end doesn't mark the other
-unmarked : (seen : List Noted) (mine side : Side) (deeds : List Deed) → is_side mine side ≡ false
-    → list_any (is_mistrust mine) (notes seen side deeds) ≡ false
-unmarked seen mine side [] apart = refl
-unmarked seen mine side (deed ∷ deeds) apart = rw apart (unmarked (seen ++ noted seen side deed ∷ []) mine side deeds apart)
+deliveries_more : (xs ys : List Occurrence) → deliveries (xs ++ ys) ≡ deliveries xs + deliveries ys
+deliveries_more xs ys =
+    ap length (flat_map-append (λ (o : Occurrence). passed_in o.outcome) xs ys)
+    ∙ length-append (flat_map (λ (o : Occurrence). passed_in o.outcome) xs) (flat_map (λ (o : Occurrence). passed_in o.outcome) ys)
 
-or_false : (a : Bool) → (a || false) ≡ a
-or_false true = refl
-or_false false = refl
+-- an end tells of no delivery
+none_passed : (o : Outcome) (t : Told) → IsTold o t → passed_in o ≡ []
+none_passed (OfSafety fact) t is = refl
+none_passed (Refused refusal) t is = refl
+none_passed (Released release) t is = refl
+none_passed (Frame octets) t is = refl
+none_passed o t is = absurd is
 
--- the pairs that were sealed in what came, and in what came then
-was_sealed_on : (key : TripleKey) (text : List ℕ) (seen came : List Noted)
-    → was_sealed key text (seen ++ came) ≡ (was_sealed key text seen || list_any (is_sealing key text) (sealings came))
-was_sealed_on key text seen came =
-    ap (list_any (is_sealing key text)) (flat_map-append (λ (n : Noted). sealings_of n.deed) seen came)
-    ∙ list_any-append (is_sealing key text) (sealings seen) (sealings came)
+no_deliveries : (side : Side) (outcomes : List Outcome) (list : List Told) → AreTold outcomes list
+    → flat_map (λ (o : Occurrence). passed_in o.outcome) (map (at_end side) outcomes) ≡ []
+no_deliveries side [] [] are = refl
+no_deliveries side [] (t ∷ list) are = absurd are
+no_deliveries side (o ∷ outcomes) [] are = absurd are
+no_deliveries side (o ∷ outcomes) (t ∷ list) are = rw (none_passed o t are.0) (no_deliveries side outcomes list are.1)
 
-same_on : (seen : List Noted) (side : Side) (deeds : List Deed) (pairs gained : List Sealing)
-    → ((key : TripleKey) (text : List ℕ) → list_any (is_sealing key text) pairs ≡ was_sealed key text seen)
-    → Gains (flat_map sealings_of deeds) pairs gained
-    → (key : TripleKey) (text : List ℕ) → list_any (is_sealing key text) gained ≡ was_sealed key text (seen ++ notes seen side deeds)
-same_on seen side deeds pairs gained same gains key text =
-    gains.same key text
-    ∙ ap (λ (b : Bool). b || list_any (is_sealing key text) (flat_map sealings_of deeds)) (same key text)
-    ∙ ap (λ (xs : List Sealing). was_sealed key text seen || list_any (is_sealing key text) xs) (sym (sealings_noted seen side deeds))
-    ∙ sym (was_sealed_on key text seen (notes seen side deeds))
+-- what a law of the crates below says of marks and facts
+pub record Grows : Type 0 where
+  pub marks : MarksGrow
+  pub facts : FactsGrow
+  pub lines : LinkMarksGrow
 
--- the mark of the end at which this came
-mine_on : (seen : List Noted) (side : Side) (deeds : List Deed) (mark after : Bool) → mark ≡ mistrusts side seen
-    → after ≡ (mark || list_any (is_mistrust side) (notes seen side deeds)) → after ≡ mistrusts side (seen ++ notes seen side deeds)
-mine_on seen side deeds mark after h is =
-    is ∙ ap (λ (b : Bool). b || list_any (is_mistrust side) (notes seen side deeds)) h ∙ sym (list_any-append (is_mistrust side) seen (notes seen side deeds))
+pub marked_more : Grows → (history came : List Occurrence)
+    → marked (facts_in (history ++ came)) ≡ marked (facts_in history) ++ marked_from (marked (facts_in history)) (facts_in came)
+marked_more grows history came = ap marked (grows.facts history came) ∙ grows.marks [] (facts_in history) (facts_in came)
 
--- and that of the other end
-others_on : (seen : List Noted) (mine side : Side) (deeds : List Deed) (mark : Bool) → is_side mine side ≡ false → mark ≡ mistrusts mine seen
-    → mark ≡ mistrusts mine (seen ++ notes seen side deeds)
-others_on seen mine side deeds mark apart h =
-    h ∙ sym (or_false (mistrusts mine seen))
-    ∙ ap (λ (b : Bool). mistrusts mine seen || b) (sym (unmarked seen mine side deeds apart))
-    ∙ sym (list_any-append (is_mistrust mine) seen (notes seen side deeds))
+same_passes : (history came : List Occurrence) (passes : ℕ) → deliveries came ≡ 0 → passes ≡ min (deliveries history) (2 ^ 64 - 1)
+    → passes ≡ min (deliveries (history ++ came)) (2 ^ 64 - 1)
+same_passes history came passes none is =
+    let more : deliveries (history ++ came) ≡ deliveries history =
+    deliveries_more history came ∙ ap (λ n. deliveries history + n) none ∙ (let zero_more : deliveries history + 0 ≡ deliveries history = omega arith in zero_more) in
+    is ∙ ap (λ n. min n (2 ^ 64 - 1)) (sym more)
 
--- where nothing is sealed and nothing marked
-pub holds_on : (seen : List Noted) (side : Side) (deeds : List Deed) (kept : KeptLink) → flat_map sealings_of deeds ≡ []
-    → list_any (is_mistrust side) (notes seen side deeds) ≡ false → HoldsLink kept seen → HoldsLink kept (seen ++ notes seen side deeds)
-holds_on seen E deeds kept none unmarks h = record {
-  same = same_on seen E deeds kept.sealed kept.sealed h.same (rw none record { same = λ key text. sym (or_false (list_any (is_sealing key text) kept.sealed)) });
-  of_e = mine_on seen E deeds kept.e_mistrusts kept.e_mistrusts h.of_e (rw unmarks (sym (or_false kept.e_mistrusts)));
-  of_r = others_on seen R E deeds kept.r_mistrusts refl h.of_r;
-}
-holds_on seen R deeds kept none unmarks h = record {
-  same = same_on seen R deeds kept.sealed kept.sealed h.same (rw none record { same = λ key text. sym (or_false (list_any (is_sealing key text) kept.sealed)) });
-  of_e = others_on seen E R deeds kept.e_mistrusts refl h.of_e;
-  of_r = mine_on seen R deeds kept.r_mistrusts kept.r_mistrusts h.of_r (rw unmarks (sym (or_false kept.r_mistrusts)));
-}
-
--- a link of these ends, and what is kept of it
-abbrev pub link_with : List Entry → ℕ → KeptPort → KeptPort → Link
-link_with keys passes e r = record { e = e.end; r = r.end; keys = keys; from_e = e.waiting; from_r = r.waiting; passes = passes }
-
-abbrev pub kept_with : List Entry → ℕ → List Sealing → KeptPort → KeptPort → KeptLink
-kept_with keys passes pairs e r = record { link = link_with keys passes e r; sealed = pairs; e_mistrusts = e.mistrusts; r_mistrusts = r.mistrusts }
-
--- an end of a link
-pub given_e : (seen : List Noted) (place : Place) (keys : List Entry) (passes : ℕ) (e r new : KeptPort) (pairs gained : List Sealing) (end : Safety) (deeds : List Deed) (before now : List ℕ)
-    → place.side ≡ E → HoldsLink (kept_with keys passes pairs e r) seen
-    → Answered seen place e new pairs gained end deeds before now
-    → Goes seen (given seen (link_with keys passes e r) E end deeds) place.show place.number (kept_with keys passes gained new r) before now
-given_e seen place keys passes e r new pairs gained end deeds before now is h a =
-    let mark : new.mistrusts ≡ (e.mistrusts || list_any (is_mistrust E) (notes seen E deeds)) = rw is at a.mark in
+-- where nothing that is kept came
+pub stands_more : Grows → (kept : KeptLink) (l : Link) (history came : List Occurrence) → facts_in came ≡ [] → deliveries came ≡ 0
+    → StandsLink kept l history → StandsLink kept l (history ++ came)
+stands_more grows kept l history came no_facts none st =
+    let facts : marked (facts_in (history ++ came)) ≡ marked (facts_in history) =
+    marked_more grows history came ∙ ap (λ (fs : List SideFact). marked (facts_in history) ++ marked_from (marked (facts_in history)) fs) no_facts
+    ∙ append-nil (marked (facts_in history)) in
     record {
-      link = rw (a.end_is, a.waiting) refl;
-      holds = record {
-        same = same_on seen E deeds pairs gained h.same a.gains;
-        of_e = mine_on seen E deeds e.mistrusts new.mistrusts h.of_e mark;
-        of_r = others_on seen R E deeds r.mistrusts refl h.of_r;
-      };
-      printed = rw is at a.printed;
+      of_e = st.of_e;
+      of_r = st.of_r;
+      from_e = st.from_e;
+      from_r = st.from_r;
+      keys = st.keys;
+      moment = st.moment;
+      holds = subst (HoldsLedger kept.ledger) (sym facts) st.holds;
+      passes = same_passes history came kept.passes none st.passes;
     }
 
-pub given_r : (seen : List Noted) (place : Place) (keys : List Entry) (passes : ℕ) (e r new : KeptPort) (pairs gained : List Sealing) (end : Safety) (deeds : List Deed) (before now : List ℕ)
-    → place.side ≡ R → HoldsLink (kept_with keys passes pairs e r) seen
-    → Answered seen place r new pairs gained end deeds before now
-    → Goes seen (given seen (link_with keys passes e r) R end deeds) place.show place.number (kept_with keys passes gained e new) before now
-given_r seen place keys passes e r new pairs gained end deeds before now is h a =
-    let mark : new.mistrusts ≡ (r.mistrusts || list_any (is_mistrust R) (notes seen R deeds)) = rw is at a.mark in
+lines_more : (show : Bool) (number : ℕ) → Grows → (history first came : List Occurrence)
+    → link_lines show number (marks_behind (marked (facts_in history)) (first ++ came))
+    ≡ link_lines show number (marks_behind (marked (facts_in history)) first)
+    ++ link_lines show number (marks_behind (marked (facts_in (history ++ first))) came)
+lines_more show number grows history first came =
+    let m : List MarkedFact = marked (facts_in history) in
+    ap (link_lines show number) (grows.lines m first came)
+    ∙ flat_map-append (marked_line show number) (marks_behind m first) (marks_behind (m ++ marked_from m (facts_in first)) came)
+    ∙ ap (λ (fs : List MarkedFact). link_lines show number (marks_behind m first) ++ link_lines show number (marks_behind fs came))
+    (sym (marked_more grows history first))
+
+-- one thing, and then another
+pub then_went : Grows → (show : Bool) (number : ℕ) (history first : List Occurrence) (m : Link) (a : Link × List Occurrence)
+    (mid new : KeptLink) (before between now : List ℕ)
+    → LinkWent (m, first) show number history mid before between → LinkWent a show number (history ++ first) new between now
+    → LinkWent (onto first a) show number history new before now
+then_went grows show number history first m a mid new before between now one then' = record {
+  stands = subst (StandsLink new a.0) (append_assoc history first a.1) then'.stands;
+  printed = then'.printed
+      ∙ ap (λ (xs : List ℕ). xs ++ link_lines show number (marks_behind (marked (facts_in (history ++ first))) a.1)) one.printed
+      ∙ append_assoc before (link_lines show number (marks_behind (marked (facts_in history)) first))
+      (link_lines show number (marks_behind (marked (facts_in (history ++ first))) a.1))
+      ∙ ap (λ (xs : List ℕ). before ++ xs) (sym (lines_more show number grows history first a.1));
+}
+
+-- ---- an event at an end
+
+abbrev pub Answers : Place → EndEvent → KeptLink → Port → Port → Ledger → List ℕ → List ℕ → Type 0
+Answers place event old port new ledger before now =
+    (end : End) (facts : List MarkedFact) → StandsEnd port.end end → HoldsLedger old.ledger facts
+    → PortWent place facts (end_step (key_at old.keys old.moment) old.moment end event) port.waiting new ledger before now
+
+gave_e : Grows → (number : ℕ) (show : Bool) (event : EndEvent) (old : KeptLink) (port : Port) (ledger : Ledger) (before now : List ℕ)
+    → old.moment < 2 ^ 64
+    → Answers (record { number = number; side = E; show = show }) event old old.e port ledger before now
+    → LinkDoes (λ l. give l E event) show number old (record old { e = port; ledger = ledger }) before now
+gave_e grows number show event old port ledger before now bound by =
+    λ l history st.
+    let place : Place = record { number = number; side = E; show = show } in
+    let facts : List MarkedFact = marked (facts_in history) in
+    let a : End × List Outcome = end_step (key_on l.opening) l.moment l.e event in
+    let K : (ℕ → ℕ → Option TripleKey) → Type 0 = λ k. PortWent place facts (end_step k old.moment l.e event) old.e.waiting port ledger before now in
+    let M : ℕ → Type 0 = λ m. PortWent place facts (end_step (key_on l.opening) m l.e event) old.e.waiting port ledger before now in
+    let w : PortWent place facts a old.e.waiting port ledger before now =
+    subst M st.moment (subst K (st.keys old.moment bound) (by l.e facts st.of_e st.holds)) in
     record {
-      link = rw (a.end_is, a.waiting) refl;
-      holds = record {
-        same = same_on seen R deeds pairs gained h.same a.gains;
-        of_e = others_on seen E R deeds e.mistrusts refl h.of_e;
-        of_r = mine_on seen R deeds r.mistrusts new.mistrusts h.of_r mark;
+      stands = record {
+        of_e = w.stands;
+        of_r = st.of_r;
+        from_e = w.all.queued ∙ ap (λ (xs : List (List ℕ)). xs ++ frames_in a.1) st.from_e;
+        from_r = st.from_r;
+        keys = st.keys;
+        moment = st.moment;
+        holds = subst (HoldsLedger ledger) (sym (marked_more grows history (map (at_end E) a.1))) w.all.holds;
+        passes = same_passes history (map (at_end E) a.1) old.passes (ap length (no_deliveries E a.1 w.list w.told)) st.passes;
       };
-      printed = rw is at a.printed;
+      printed = w.all.printed;
     }
 
-port_e : (seen : List Noted) (place : Place) (keys : List Entry) (passes : ℕ) (e r : KeptPort) (pairs : List Sealing) → place.side ≡ E → HoldsLink (kept_with keys passes pairs e r) seen
-    → PortHolds seen place.side pairs e.mistrusts
-port_e seen place keys passes e r pairs is h = record { same = h.same; marked = rw is h.of_e }
+gave_r : Grows → (number : ℕ) (show : Bool) (event : EndEvent) (old : KeptLink) (port : Port) (ledger : Ledger) (before now : List ℕ)
+    → old.moment < 2 ^ 64
+    → Answers (record { number = number; side = R; show = show }) event old old.r port ledger before now
+    → LinkDoes (λ l. give l R event) show number old (record old { r = port; ledger = ledger }) before now
+gave_r grows number show event old port ledger before now bound by =
+    λ l history st.
+    let place : Place = record { number = number; side = R; show = show } in
+    let facts : List MarkedFact = marked (facts_in history) in
+    let a : End × List Outcome = end_step (key_on l.opening) l.moment l.r event in
+    let K : (ℕ → ℕ → Option TripleKey) → Type 0 = λ k. PortWent place facts (end_step k old.moment l.r event) old.r.waiting port ledger before now in
+    let M : ℕ → Type 0 = λ m. PortWent place facts (end_step (key_on l.opening) m l.r event) old.r.waiting port ledger before now in
+    let w : PortWent place facts a old.r.waiting port ledger before now =
+    subst M st.moment (subst K (st.keys old.moment bound) (by l.r facts st.of_r st.holds)) in
+    record {
+      stands = record {
+        of_e = st.of_e;
+        of_r = w.stands;
+        from_e = st.from_e;
+        from_r = w.all.queued ∙ ap (λ (xs : List (List ℕ)). xs ++ frames_in a.1) st.from_r;
+        keys = st.keys;
+        moment = st.moment;
+        holds = subst (HoldsLedger ledger) (sym (marked_more grows history (map (at_end R) a.1))) w.all.holds;
+        passes = same_passes history (map (at_end R) a.1) old.passes (ap length (no_deliveries R a.1 w.list w.told)) st.passes;
+      };
+      printed = w.all.printed;
+    }
 
-port_r : (seen : List Noted) (place : Place) (keys : List Entry) (passes : ℕ) (e r : KeptPort) (pairs : List Sealing) → place.side ≡ R → HoldsLink (kept_with keys passes pairs e r) seen
-    → PortHolds seen place.side pairs r.mistrusts
-port_r seen place keys passes e r pairs is h = record { same = h.same; marked = rw is h.of_r }
+pub place_at : (place : Place) (side : Side) → place.side ≡ side → place ≡ record { number = place.number; side = side; show = place.show }
+place_at place side is = ap (λ (s : Side). record { number = place.number; side = s; show = place.show }) is
 
--- the steps, with the link as its parts
+pub gives_e : Grows → (place : Place) (event : EndEvent) (old : KeptLink) (port : Port) (ledger : Ledger) (before now : List ℕ)
+    → place.side ≡ E → old.moment < 2 ^ 64 → Answers place event old old.e port ledger before now
+    → LinkDoes (λ l. give l place.side event) place.show place.number old (record old { e = port; ledger = ledger }) before now
+gives_e grows place event old port ledger before now is bound by =
+    let Q : Place → Type 0 = λ p. Answers p event old old.e port ledger before now in
+    let P : Side → Type 0 = λ s. LinkDoes (λ l. give l s event) place.show place.number old (record old { e = port; ledger = ledger }) before now in
+    subst P (sym is) (gave_e grows place.number place.show event old port ledger before now bound (subst Q (place_at place E is) by))
 
-abbrev pub GoesBy : KeptLink → LinkStep → Place → KeptLink → List ℕ → List ℕ → Type 0
-GoesBy old s place new before now = (seen : List Noted) → HoldsLink old seen → Goes seen (step seen old.link s) place.show place.number new before now
+pub gives_r : Grows → (place : Place) (event : EndEvent) (old : KeptLink) (port : Port) (ledger : Ledger) (before now : List ℕ)
+    → place.side ≡ R → old.moment < 2 ^ 64 → Answers place event old old.r port ledger before now
+    → LinkDoes (λ l. give l place.side event) place.show place.number old (record old { r = port; ledger = ledger }) before now
+gives_r grows place event old port ledger before now is bound by =
+    let Q : Place → Type 0 = λ p. Answers p event old old.r port ledger before now in
+    let P : Side → Type 0 = λ s. LinkDoes (λ l. give l s event) place.show place.number old (record old { r = port; ledger = ledger }) before now in
+    subst P (sym is) (gave_r grows place.number place.show event old port ledger before now bound (subst Q (place_at place R is) by))
 
-pub sends_e : (place : Place) (old : KeptLink) (keys : List Entry) (passes : ℕ) (e r new : KeptPort) (pairs gained : List Sealing) (user before now : List ℕ)
-    → kept_with keys passes pairs e r ≡ old → place.side ≡ E → AnswersAs place e new pairs gained (safe_step [] e.end (Say user)) before now
-    → GoesBy old (Send place.side user) place (kept_with keys passes gained new r) before now
-sends_e place old keys passes e r new pairs gained user before now whole is by =
-    let Q : KeptLink → Type 0 = λ k. GoesBy k (Send place.side user) place (kept_with keys passes gained new r) before now in
-    subst Q whole (rw is (λ seen h. given_e seen place keys passes e r new pairs gained _ _ before now is h (by seen (port_e seen place keys passes e r pairs is h))))
+-- ---- the frames that wait
 
-pub sends_r : (place : Place) (old : KeptLink) (keys : List Entry) (passes : ℕ) (e r new : KeptPort) (pairs gained : List Sealing) (user before now : List ℕ)
-    → kept_with keys passes pairs e r ≡ old → place.side ≡ R → AnswersAs place r new pairs gained (safe_step [] r.end (Say user)) before now
-    → GoesBy old (Send place.side user) place (kept_with keys passes gained e new) before now
-sends_r place old keys passes e r new pairs gained user before now whole is by =
-    let Q : KeptLink → Type 0 = λ k. GoesBy k (Send place.side user) place (kept_with keys passes gained e new) before now in
-    subst Q whole (rw is (λ seen h. given_r seen place keys passes e r new pairs gained _ _ before now is h (by seen (port_r seen place keys passes e r pairs is h))))
+pub waits_alike : (kept : KeptLink) (l : Link) (history : List Occurrence) (side : Side) → StandsLink kept l history → waiting_at kept side ≡ waiting_of l side
+waits_alike kept l history E st = st.from_e
+waits_alike kept l history R st = st.from_r
 
-pub leaves_e : (place : Place) (old : KeptLink) (keys : List Entry) (passes : ℕ) (e r new : KeptPort) (pairs : List Sealing) (sub : ℕ) (before now : List ℕ)
-    → kept_with keys passes pairs e r ≡ old → place.side ≡ E → HasLeft place sub e new before now
-    → GoesBy old (Release place.side sub) place (kept_with keys passes pairs new r) before now
-leaves_e place old keys passes e r new pairs sub before now whole is by =
-    let Q : KeptLink → Type 0 = λ k. GoesBy k (Release place.side sub) place (kept_with keys passes pairs new r) before now in
-    let P : Side → Type 0 = λ side. GoesBy (kept_with keys passes pairs e r) (Release side sub) place (kept_with keys passes pairs new r) before now in
-    subst Q whole (subst P (sym is) (λ seen h. given_e seen place keys passes e r new pairs pairs _ _ before now is h (by pairs seen (port_e seen place keys passes e r pairs is h))))
+-- other frames of a side
+stands_with : (kept : KeptLink) (l : Link) (history : List Occurrence) (side : Side) (frames : List (List ℕ)) → StandsLink kept l history
+    → StandsLink (with_waiting_at kept side frames) (with_waiting l side frames) history
+stands_with kept l history E frames st = record {
+  of_e = st.of_e;
+  of_r = st.of_r;
+  from_e = refl;
+  from_r = st.from_r;
+  keys = st.keys;
+  moment = st.moment;
+  holds = st.holds;
+  passes = st.passes;
+}
+stands_with kept l history R frames st = record {
+  of_e = st.of_e;
+  of_r = st.of_r;
+  from_e = st.from_e;
+  from_r = refl;
+  keys = st.keys;
+  moment = st.moment;
+  holds = st.holds;
+  passes = st.passes;
+}
 
-pub leaves_r : (place : Place) (old : KeptLink) (keys : List Entry) (passes : ℕ) (e r new : KeptPort) (pairs : List Sealing) (sub : ℕ) (before now : List ℕ)
-    → kept_with keys passes pairs e r ≡ old → place.side ≡ R → HasLeft place sub r new before now
-    → GoesBy old (Release place.side sub) place (kept_with keys passes pairs e new) before now
-leaves_r place old keys passes e r new pairs sub before now whole is by =
-    let Q : KeptLink → Type 0 = λ k. GoesBy k (Release place.side sub) place (kept_with keys passes pairs e new) before now in
-    let P : Side → Type 0 = λ side. GoesBy (kept_with keys passes pairs e r) (Release side sub) place (kept_with keys passes pairs e new) before now in
-    subst Q whole (subst P (sym is) (λ seen h. given_r seen place keys passes e r new pairs pairs _ _ before now is h (by pairs seen (port_r seen place keys passes e r pairs is h))))
+-- what came of a change is printed, and nothing is kept of it
+quiet_facts : (side : Side) (c : Changed) → facts_in (map (at_end side) (outcomes_of c)) ≡ []
+quiet_facts side result.Empty = refl
+quiet_facts side (result.Short found) = refl
+quiet_facts side result.Lost = refl
+quiet_facts side result.Repeated = refl
+quiet_facts side result.Altered = refl
+quiet_facts side result.Inserted = refl
+quiet_facts side result.Unchanged = refl
 
--- the engine's set-up begins
-pub starts_e : (place : Place) (old : KeptLink) (keys : List Entry) (passes : ℕ) (e r new : KeptPort) (pairs : List Sealing) (before now : List ℕ)
-    → kept_with keys passes pairs e r ≡ old → place.side ≡ E → IsStarted place e new before now
-    → (seen : List Noted) → HoldsLink old seen → Goes seen (give seen old.link E Start) place.show place.number (kept_with keys passes pairs new r) before now
-starts_e place old keys passes e r new pairs before now whole is by =
-    let Q : KeptLink → Type 0 =
-    λ k. (seen : List Noted) → HoldsLink k seen → Goes seen (give seen k.link E Start) place.show place.number (kept_with keys passes pairs new r) before now in
-    subst Q whole (λ seen h. given_e seen place keys passes e r new pairs pairs _ _ before now is h (by pairs seen (port_e seen place keys passes e r pairs is h)))
+quiet_passes : (side : Side) (c : Changed) → deliveries (map (at_end side) (outcomes_of c)) ≡ 0
+quiet_passes side result.Empty = refl
+quiet_passes side (result.Short found) = refl
+quiet_passes side result.Lost = refl
+quiet_passes side result.Repeated = refl
+quiet_passes side result.Altered = refl
+quiet_passes side result.Inserted = refl
+quiet_passes side result.Unchanged = refl
 
--- a frame of the engine comes to the other end, and the other way round
-passes_e_to : (place : Place) (keys : List Entry) (passed : ℕ) (e r new : KeptPort) (pairs gained : List Sealing) (frame before now : List ℕ)
-    → place.side ≡ E → AnswersAs (record place { side = other place.side }) r new pairs gained (safe_step keys r.end (Hear frame)) before now
-    → GoesBy (kept_with keys passed pairs (record e { waiting = frame ∷ e.waiting }) r) (Pass place.side) place
-    (kept_with keys (min (passed + 1) (2 ^ 64 - 1)) gained e new) before now
-passes_e_to place keys passed e r new pairs gained frame before now is by =
-    let there : Place = record place { side = other place.side } in
-    let far : there.side ≡ R = ap other is in
-    let after : ℕ = min (passed + 1) (2 ^ 64 - 1) in
-    rw is (λ seen h.
-    let kept : HoldsLink (kept_with keys after pairs e r) seen = record { same = h.same; of_e = h.of_e; of_r = h.of_r } in
-    given_r seen there keys after e r new pairs gained _ _ before now far kept (by seen (port_r seen there keys after e r pairs far kept)))
+change_lines : (place : Place) (facts : List MarkedFact) (c : Changed)
+    → change_line place c ≡ link_lines place.show place.number (marks_behind facts (map (at_end place.side) (outcomes_of c)))
+change_lines place facts result.Empty = sym (append-nil (change_line place result.Empty))
+change_lines place facts (result.Short found) = sym (append-nil (change_line place (result.Short found)))
+change_lines place facts result.Lost = refl
+change_lines place facts result.Repeated = refl
+change_lines place facts result.Altered = refl
+change_lines place facts result.Inserted = refl
+change_lines place facts result.Unchanged = refl
 
-passes_r_to : (place : Place) (keys : List Entry) (passed : ℕ) (e r new : KeptPort) (pairs gained : List Sealing) (frame before now : List ℕ)
-    → place.side ≡ R → AnswersAs (record place { side = other place.side }) e new pairs gained (safe_step keys e.end (Hear frame)) before now
-    → GoesBy (kept_with keys passed pairs e (record r { waiting = frame ∷ r.waiting })) (Pass place.side) place
-    (kept_with keys (min (passed + 1) (2 ^ 64 - 1)) gained new r) before now
-passes_r_to place keys passed e r new pairs gained frame before now is by =
-    let there : Place = record place { side = other place.side } in
-    let far : there.side ≡ E = ap other is in
-    let after : ℕ = min (passed + 1) (2 ^ 64 - 1) in
-    rw is (λ seen h.
-    let kept : HoldsLink (kept_with keys after pairs e r) seen = record { same = h.same; of_e = h.of_e; of_r = h.of_r } in
-    given_e seen there keys after e r new pairs gained _ _ before now far kept (by seen (port_e seen there keys after e r pairs far kept)))
+-- the line changed what waits
+pub changes_so : Grows → (place : Place) (how : LineChange) (c : Changed) (old new : KeptLink) (before now : List ℕ)
+    → ChangesFrames old place.side how c new → now ≡ before ++ change_line place c
+    → LinkDoes (λ l. link_step l (Change place.side (change_of how))) place.show place.number old new before now
+changes_so grows place how c old new before now ch shows =
+    λ l history st.
+    let side : Side = place.side in
+    let came : List Occurrence = map (at_end side) (outcomes_of c) in
+    let a : changes (change_of how) (waiting_of l side) ≡ (waiting_at new side, outcomes_of c) =
+    ap (changes (change_of how)) (sym (waits_alike old l history side st)) ∙ ch.changed in
+    let with' : StandsLink new (with_waiting l side (waiting_at new side)) history =
+    subst (λ (k : KeptLink). StandsLink k (with_waiting l side (waiting_at new side)) history) (sym ch.others)
+    (stands_with old l history side (waiting_at new side) st) in
+    let P : List (List ℕ) × List Outcome → Type 0 = λ b. LinkWent (change_waiting l side b) place.show place.number history new before now in
+    subst P (sym a) (record {
+      stands = stands_more grows new (with_waiting l side (waiting_at new side)) history came (quiet_facts side c) (quiet_passes side c) with';
+      printed = shows ∙ ap (λ (xs : List ℕ). before ++ xs) (change_lines place (marked (facts_in history)) c);
+    })
 
-pub passes_e : (place there : Place) (old : KeptLink) (keys : List Entry) (passed : ℕ) (e r left new : KeptPort) (pairs gained : List Sealing) (frame before now : List ℕ) (passes : ℕ)
-    → kept_with keys passed pairs e r ≡ old → place.side ≡ E → there ≡ record place { side = other place.side } → passes ≡ min (passed + 1) (2 ^ 64 - 1)
-    → e ≡ record left { waiting = frame ∷ left.waiting }
-    → AnswersAs there r new pairs gained (safe_step keys r.end (Hear frame)) before now
-    → GoesBy old (Pass place.side) place (kept_with keys passes gained left new) before now
-passes_e place there old keys passed e r left new pairs gained frame before now passes whole is far count took by =
-    let Q : KeptLink → Type 0 = λ k. GoesBy k (Pass place.side) place (kept_with keys passes gained left new) before now in
-    subst Q whole (rw (took, count) (passes_e_to place keys passed left r new pairs gained frame before now is (rw far at by)))
+-- the user is told to release
+pub releases_so : Grows → (place : Place) (sub : ℕ) (old new : KeptLink) (before now : List ℕ)
+    → LinkDoes (λ l. give l place.side (model.Release sub)) place.show place.number old new before now
+    → LinkDoes (λ l. link_step l (Release place.side sub)) place.show place.number old new before now
+releases_so grows place sub old new before now by =
+    λ l history st.
+    let first : List Occurrence = at_end place.side (UserReleased sub) ∷ [] in
+    let told : StandsLink old l (history ++ first) = stands_more grows old l history first refl refl st in
+    then_went grows place.show place.number history first l (give l place.side (model.Release sub)) old new before before now
+    (record { stands = told; printed = sym (append-nil before) }) (by l (history ++ first) told)
 
-pub passes_r : (place there : Place) (old : KeptLink) (keys : List Entry) (passed : ℕ) (e r left new : KeptPort) (pairs gained : List Sealing) (frame before now : List ℕ) (passes : ℕ)
-    → kept_with keys passed pairs e r ≡ old → place.side ≡ R → there ≡ record place { side = other place.side } → passes ≡ min (passed + 1) (2 ^ 64 - 1)
-    → r ≡ record left { waiting = frame ∷ left.waiting }
-    → AnswersAs there e new pairs gained (safe_step keys e.end (Hear frame)) before now
-    → GoesBy old (Pass place.side) place (kept_with keys passes gained new left) before now
-passes_r place there old keys passed e r left new pairs gained frame before now passes whole is far count took by =
-    let Q : KeptLink → Type 0 = λ k. GoesBy k (Pass place.side) place (kept_with keys passes gained new left) before now in
-    subst Q whole (rw (took, count) (passes_r_to place keys passed e left new pairs gained frame before now is (rw far at by)))
+-- ---- a pass
+
+-- no frame waits
+pub passes_none : Grows → (place : Place) (old new : KeptLink) (before now : List ℕ)
+    → TakesFirst old place.side None new → now ≡ before ++ empty_line place.number place.side
+    → LinkDoes (λ l. link_step l (Pass place.side)) place.show place.number old new before now
+passes_none grows place old new before now takes shows =
+    λ l history st.
+    let none : waiting_of l place.side ≡ [] = sym (waits_alike old l history place.side st) ∙ takes.0 in
+    let first : List Occurrence = at_end place.side NothingWaits ∷ [] in
+    let P : List (List ℕ) → Type 0 = λ frames. LinkWent (pass l place.side frames) place.show place.number history new before now in
+    subst P (sym none) (record {
+      stands = stands_more grows new l history first refl refl (subst (λ (k : KeptLink). StandsLink k l history) (sym takes.1) st);
+      printed = shows ∙ ap (λ (xs : List ℕ). before ++ xs) (sym (append-nil (empty_line place.number place.side)));
+    })
+
+one_more : (n : ℕ) → min (min n (2 ^ 64 - 1) + 1) (2 ^ 64 - 1) ≡ min (n + 1) (2 ^ 64 - 1)
+one_more n = omega arith
+
+-- a frame was taken: a delivery more
+stands_passed : Grows → (kept : KeptLink) (l : Link) (history : List Occurrence) (side : Side) (frame : List ℕ) (passes : ℕ)
+    → StandsLink kept l history → passes ≡ min (kept.passes + 1) (2 ^ 64 - 1)
+    → StandsLink (record kept { passes = passes }) l (history ++ at_end side (Passed frame) ∷ [])
+stands_passed grows kept l history side frame passes st is =
+    let first : List Occurrence = at_end side (Passed frame) ∷ [] in
+    let facts : marked (facts_in (history ++ first)) ≡ marked (facts_in history) =
+    marked_more grows history first ∙ append-nil (marked (facts_in history)) in
+    record {
+      of_e = st.of_e;
+      of_r = st.of_r;
+      from_e = st.from_e;
+      from_r = st.from_r;
+      keys = st.keys;
+      moment = st.moment;
+      holds = subst (HoldsLedger kept.ledger) (sym facts) st.holds;
+      passes = is ∙ ap (λ n. min (n + 1) (2 ^ 64 - 1)) st.passes ∙ one_more (deliveries history)
+          ∙ ap (λ n. min n (2 ^ 64 - 1)) (sym (deliveries_more history first));
+    }
+
+-- a frame was passed
+pub passes_some : Grows → (place there : Place) (old mid new : KeptLink) (frame : List ℕ) (passes : ℕ) (before now : List ℕ)
+    → TakesFirst old place.side (Some frame) mid → there ≡ record place { side = other place.side }
+    → passes ≡ min (mid.passes + 1) (2 ^ 64 - 1)
+    → LinkDoes (λ l. give l there.side (model.Receive frame)) there.show there.number (record mid { passes = passes }) new before now
+    → LinkDoes (λ l. link_step l (Pass place.side)) place.show place.number old new before now
+passes_some grows place there old mid new frame passes before now takes far count by =
+    λ l history st.
+    let side : Side = place.side in
+    let frames : List (List ℕ) = waiting_at mid side in
+    let waits : waiting_of l side ≡ frame ∷ frames = sym (waits_alike old l history side st) ∙ takes.0 in
+    let first : List Occurrence = at_end side (Passed frame) ∷ [] in
+    let m : Link = with_waiting l side frames in
+    let taken : StandsLink mid m history =
+    subst (λ (k : KeptLink). StandsLink k m history) (sym takes.1) (stands_with old l history side frames st) in
+    let passed : StandsLink (record mid { passes = passes }) m (history ++ first) = stands_passed grows mid m history side frame passes taken count in
+    let F : Place → Type 0 = λ p. LinkWent (give m p.side (model.Receive frame)) p.show p.number (history ++ first) new before now in
+    let went : LinkWent (give m (other side) (model.Receive frame)) place.show place.number (history ++ first) new before now =
+    subst F far (by m (history ++ first) passed) in
+    let P : List (List ℕ) → Type 0 = λ fs. LinkWent (pass l side fs) place.show place.number history new before now in
+    subst P (sym waits)
+    (then_went grows place.show place.number history first m (give m (other side) (model.Receive frame)) (record mid { passes = passes }) new before before now
+    (record { stands = passed; printed = sym (append-nil before) }) went)
+
+-- ---- a tick
+
+-- the moment is set
+stands_at : (kept : KeptLink) (l : Link) (history : List Occurrence) (moment : ℕ) → StandsLink kept l history
+    → StandsLink (record kept { moment = moment }) (record l { moment = moment }) history
+stands_at kept l history moment st = record {
+  of_e = st.of_e;
+  of_r = st.of_r;
+  from_e = st.from_e;
+  from_r = st.from_r;
+  keys = st.keys;
+  moment = refl;
+  holds = st.holds;
+  passes = st.passes;
+}
+
+pub ticks_so : Grows → (number : ℕ) (show : Bool) (moment : ℕ) (old mid new : KeptLink) (before between now : List ℕ)
+    → LinkDoes (λ l. give l E model.Tick) show number (record old { moment = moment }) mid before between
+    → LinkDoes (λ l. give l R model.Tick) show number mid new between now
+    → LinkDoes (λ l. link_step l (Tick moment)) show number old new before now
+ticks_so grows number show moment old mid new before between now one two =
+    λ l history st.
+    let l' : Link = record l { moment = moment } in
+    let a : Link × List Occurrence = give l' E model.Tick in
+    let first : LinkWent a show number history mid before between = one l' history (stands_at old l history moment st) in
+    then_went grows show number history a.1 a.0 (give a.0 R model.Tick) mid new before between now first (two a.0 (history ++ a.1) first.stands)

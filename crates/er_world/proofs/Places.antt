@@ -1,95 +1,145 @@
--- The places of a world, and what came at one of its links: a step changes one link, and the others are as they were.
-use Rattle.std.proofs.Common.{◌≡◌, ℕ, zero, suc, ◌<◌, true, false, ◌==◌, List, [], ◌∷◌, ◌++◌, map, length, replicate, slice_get, slice_set, Option, Some, None, refl, sym, ap, ◌∙◌, ⊎_elim, append-nil, arith}
-use Rattle.std.proofs.lemmas.Bool.{cases_eq, eq-eqb, ne_eqb}
-use Rattle.std.proofs.lemmas.Grind.{flat_map-append}
-use Rattle.std.proofs.lemmas.Option.{none-some}
-use Rattle.er_world.specs.Deeds.{Noted}
-use Rattle.er_world.specs.Links.{Link}
-use Rattle.er_world.specs.Worlds.{World, new_world, found, link_at, with_link, Came, On, Drained, noted_on, on_link, Drain, went_on}
+-- The places of a world as the code keeps it, and where they stand among the links of a world of the model.
+use Rattle.std.proofs.Common.{◌≡◌, ⊎_elim, ℕ, zero, suc, ◌<◌, ◌==◌, nat_lt, Bool, true, false, List, [], ◌∷◌, ◌++◌, length, map, refl, sym, ap, ◌∙◌, subst, append-nil, Option, Some, None, arith}
+use Rattle.std.specs.List.{slice_get}
+use Rattle.std.specs.Prelude.{slice_set, slice_index_or}
+use Rattle.std.proofs.lemmas.Option.{slice_get-get_or, same_Some}
+use Rattle.std.proofs.lemmas.List.Concat.{flat_map-append}
+use Rattle.std.proofs.lemmas.Bool.{cases_eq, cases_Bool, and_parts, eq-eqb, ne_eqb, ltb-true}
+use Rattle.drill_model.specs.Outcomes.{Occurrence}
+use Rattle.drill_model.specs.Links.{Link}
+use Rattle.drill_model.specs.Worlds.{World, Came, On, is_link, link_at, with_link, history_on, went_on}
+use Rattle.drill_model.specs.Marks.{marks_from}
+use Rattle.drill_model.specs.Texts.{lines, came_line}
+use Rattle.drill_model.specs.Growth.{HistoryGrows, HistoryOfOwn, HistoryOfOther, WorldMarksGrow, LinkText}
+use Rattle.er_world.specs.declared.link.Link.{Link as KeptLink}
+use Rattle.er_world.specs.KeptLinks.{StandsLink, LinkWent}
+use Rattle.er_world.specs.Standing.{KeptWorld, kept_at, StandsPlace, StandsWorld}
+use Rattle.er_world.specs.WorldSteps.{WorldWent}
+use Rattle.er_world.proofs.LinkRows.{Grows}
 
--- ---- places
+-- what the laws of the crates below say of a world
+pub record WorldGrows : Type 0 where
+  pub links : Grows
+  pub history : HistoryGrows
+  pub own : HistoryOfOwn
+  pub other : HistoryOfOther
+  pub marks : WorldMarksGrow
+  pub text : LinkText
 
-get_set_same : {X : Type 0} → (xs : List X) (n : ℕ) (x : X) → n < length xs → slice_get (slice_set xs n x) n ≡ Some x
-get_set_same [] n x inside = absurd (omega arith)
-get_set_same (y ∷ xs) zero x inside = refl
-get_set_same (y ∷ xs) (suc n) x inside = get_set_same xs n x (omega arith)
+-- ---- lists
 
-get_set_other : {X : Type 0} → (xs : List X) (n m : ℕ) (x : X) → (m ≡ n → ⊥) → slice_get (slice_set xs n x) m ≡ slice_get xs m
-get_set_other [] n m x apart = refl
-get_set_other (y ∷ xs) zero zero x apart = absurd (apart refl)
-get_set_other (y ∷ xs) zero (suc m) x apart = refl
-get_set_other (y ∷ xs) (suc n) zero x apart = refl
-get_set_other (y ∷ xs) (suc n) (suc m) x apart = get_set_other xs n m x (λ e. apart (ap suc e))
+pub get_set_same : {X : Type 0} → (xs : List X) (i : ℕ) (x : X) → i < length xs → slice_get (slice_set xs i x) i ≡ Some x
+get_set_same [] i x inside = absurd (omega arith)
+get_set_same (y ∷ ys) zero x inside = refl
+get_set_same (y ∷ ys) (suc i) x inside = get_set_same ys i x (omega arith)
 
-pub at_same : (w : World) (n : ℕ) (l : Link) → n < length w.links → link_at (with_link w n l) n ≡ Some l
-at_same w n l inside = ap found (get_set_same w.links n (Some l) inside)
+pub get_set_other : {X : Type 0} → (xs : List X) (i j : ℕ) (x : X) → (i ≡ j → ⊥) → slice_get (slice_set xs i x) j ≡ slice_get xs j
+get_set_other [] i j x apart = refl
+get_set_other (y ∷ ys) zero zero x apart = absurd (apart refl)
+get_set_other (y ∷ ys) zero (suc j) x apart = refl
+get_set_other (y ∷ ys) (suc i) zero x apart = refl
+get_set_other (y ∷ ys) (suc i) (suc j) x apart = get_set_other ys i j x (λ e. apart (ap suc e))
 
-pub at_other : (w : World) (n m : ℕ) (l : Link) → (m ≡ n → ⊥) → link_at (with_link w n l) m ≡ link_at w m
-at_other w n m l apart = ap found (get_set_other w.links n m (Some l) apart)
+pub set_again : {X : Type 0} → (xs : List X) (i : ℕ) (x : X) → slice_get xs i ≡ Some x → slice_set xs i x ≡ xs
+set_again [] i x is = refl
+set_again (y ∷ ys) zero x is = ap (λ z. z ∷ ys) (sym (same_Some _ _ is))
+set_again (y ∷ ys) (suc i) x is = ap (λ zs. y ∷ zs) (set_again ys i x is)
 
-place_inside : (places : List (Option Link)) (n : ℕ) (l : Link) → found (slice_get places n) ≡ Some l → n < length places
-place_inside [] n l is = absurd (none-some l is)
-place_inside (place ∷ places) zero l is = omega arith
-place_inside (place ∷ places) (suc n) l is = let inside = place_inside places n l is in omega arith
+pub read_there : (links : List (Option KeptLink)) (n : ℕ) (place : Option KeptLink) → n < length links → place ≡ slice_index_or links n place → slice_get links n ≡ Some place
+read_there links n place inside is = slice_get-get_or links n place inside ∙ ap (λ (p : Option KeptLink). Some p) (sym is)
 
--- an opened link has a place
-pub link_inside : (w : World) (n : ℕ) (l : Link) → link_at w n ≡ Some l → n < length w.links
-link_inside w n l is = place_inside w.links n l is
+-- ---- what stands at a place
 
--- a link put where it stands
-pub at_again : (w : World) (n : ℕ) (l : Link) (m : ℕ) → link_at w n ≡ Some l → link_at (with_link w n l) m ≡ link_at w m
-at_again w n l m is =
-    ⊎_elim
-    (λ e. ap (link_at (with_link w n l)) e ∙ at_same w n l (link_inside w n l is) ∙ sym is ∙ ap (link_at w) (sym e))
-    (λ apart. at_other w n m l apart)
-    (cases_eq m n)
+pub record There (kept : KeptLink) (place : Option Link) (history : List Occurrence) : Type 0 where
+  pub link : Link
+  pub is : place ≡ Some link
+  pub stands : StandsLink kept link history
 
-empty_place : (k n : ℕ) → found (slice_get (replicate {A = Option Link} k None) n) ≡ None
-empty_place zero n = refl
-empty_place (suc k) zero = refl
-empty_place (suc k) (suc n) = empty_place k n
+there_at : (kept : KeptLink) (place : Option Link) (history : List Occurrence) → StandsPlace (Some kept) place history → There kept place history
+there_at kept None history st = absurd st
+there_at kept (Some l) history st = record { link = l; is = refl; stands = st }
 
--- no link of a new world is opened
-pub new_empty : (n : ℕ) → link_at new_world n ≡ None
-new_empty n = empty_place 65 n
+pub there : (w : KeptWorld) (v : World) (came : List Came) (n : ℕ) (kept : KeptLink) → kept_at w n ≡ Some kept → StandsWorld w v came
+    → There kept (link_at v n) (history_on n came)
+there w v came n kept is st =
+    there_at kept (link_at v n) (history_on n came)
+    (subst (λ (p : Option KeptLink). StandsPlace p (link_at v n) (history_on n came)) is (st.places n))
 
--- ---- what came at a link
+none_at : (place : Option Link) (history : List Occurrence) → StandsPlace None place history → (place ≡ None) × (history ≡ [])
+none_at None history st = (refl, st)
+none_at (Some l) history st = absurd st
 
-pub on_link-append : (n : ℕ) (xs ys : List Came) → on_link n (xs ++ ys) ≡ on_link n xs ++ on_link n ys
-on_link-append n xs ys = flat_map-append (noted_on n) xs ys
+pub nothing_there : (w : KeptWorld) (v : World) (came : List Came) (n : ℕ) → kept_at w n ≡ None → StandsWorld w v came
+    → (link_at v n ≡ None) × (history_on n came ≡ [])
+nothing_there w v came n is st =
+    none_at (link_at v n) (history_on n came) (subst (λ (p : Option KeptLink). StandsPlace p (link_at v n) (history_on n came)) is (st.places n))
 
-pub on_same : (n : ℕ) (came : List Noted) → on_link n (map (On n) came) ≡ came
-on_same n [] = refl
-on_same n (x ∷ came) = let same : (n == n) ≡ true = eq-eqb n n refl in rw same (ap (λ xs. x ∷ xs) (on_same n came))
+some_none : {X : Type 0} → (p : Option X) (x : X) → p ≡ Some x → p ≡ None → ⊥
+some_none p x some none = let e : Some x ≡ None = sym some ∙ none in cc
 
-pub on_other : (n m : ℕ) (came : List Noted) → (n ≡ m → ⊥) → on_link n (map (On m) came) ≡ []
-on_other n m [] apart = refl
-on_other n m (x ∷ came) apart = let other : (m == n) ≡ false = ne_eqb m n (λ e. apart (sym e)) in rw other (on_other n m came apart)
+-- only links are opened
+pub is_link_there : (w : KeptWorld) (v : World) (came : List Came) (n : ℕ) (l : Link) → StandsWorld w v came → link_at v n ≡ Some l → is_link n ≡ true
+is_link_there w v came n l st is =
+    ⊎_elim (λ yes'. yes') (λ no'. absurd (some_none (link_at v n) l is (st.within n no'))) (cases_Bool (is_link n))
 
--- ---- a step
+pub link_below : (n : ℕ) → is_link n ≡ true → n < 65
+link_below n is = ltb-true n 65 (and_parts (nat_lt 0 n) (nat_lt n 65) is).1
 
--- link m went on to this link, and this came at it; the others are as they were
-pub record Changed (w : World) (m : ℕ) (l : Link) (came : List Noted) (a : World × List Came) : Type 0 where
-  pub link : link_at a.0 m ≡ Some l
-  pub came_is : on_link m a.1 ≡ came
-  pub others : (n : ℕ) → (n ≡ m → ⊥) → link_at a.0 n ≡ link_at w n
-  pub nothing : (n : ℕ) → (n ≡ m → ⊥) → on_link n a.1 ≡ []
+true_false : (b : Bool) → b ≡ true → b ≡ false → ⊥
+true_false b yes' no' = let e : true ≡ false = sym yes' ∙ no' in cc
 
-pub kept_changed : (w : World) (m : ℕ) (a : Link × List Noted) → m < length w.links → Changed w m a.0 a.1 (went_on w m a)
-kept_changed w m a inside = record {
-  link = at_same w m a.0 inside;
-  came_is = on_same m a.1;
-  others = λ n apart. at_other w m n a.0 apart;
-  nothing = λ n apart. on_other n m a.1 apart;
+-- ---- one place goes on
+
+pub at_same : (v : World) (n m : ℕ) (l : Link) → m ≡ n → link_at (with_link v n l) m ≡ Some l
+at_same v n m l e = let same : (m == n) ≡ true = eq-eqb m n e in rw same refl
+
+pub at_other : (v : World) (n m : ℕ) (l : Link) → (m ≡ n → ⊥) → link_at (with_link v n l) m ≡ link_at v m
+at_other v n m l apart = let other : (m == n) ≡ false = ne_eqb m n apart in rw other refl
+
+-- `more` is what came in the world, and `mine` of it at link n
+pub stands_went : WorldGrows → (w : KeptWorld) (v : World) (came more : List Came) (n : ℕ) (new : KeptLink) (l : Link) (mine : List Occurrence)
+    → StandsWorld w v came → n < length w.links → is_link n ≡ true
+    → history_on n more ≡ mine → ((m : ℕ) → (m ≡ n → ⊥) → history_on m more ≡ [])
+    → StandsLink new l (history_on n came ++ mine)
+    → StandsWorld (record w { links = slice_set w.links n (Some new) }) (with_link v n l) (came ++ more)
+stands_went grows w v came more n new l mine st inside link here elsewhere stands = record {
+  places = λ m.
+      ⊎_elim
+      (λ e.
+      let at : slice_get (slice_set w.links n (Some new)) m ≡ Some (Some new) =
+      ap (slice_get (slice_set w.links n (Some new))) e ∙ get_set_same w.links n (Some new) inside in
+      let came_is : history_on m (came ++ more) ≡ history_on n came ++ mine =
+      ap (λ i. history_on i (came ++ more)) e ∙ grows.history n came more ∙ ap (λ (xs : List Occurrence). history_on n came ++ xs) here in
+      rw (at, at_same v n m l e, came_is) stands)
+      (λ apart.
+      let at : slice_get (slice_set w.links n (Some new)) m ≡ slice_get w.links m =
+      get_set_other w.links n m (Some new) (λ e. apart (sym e)) in
+      let came_is : history_on m (came ++ more) ≡ history_on m came =
+      grows.history m came more ∙ ap (λ (xs : List Occurrence). history_on m came ++ xs) (elsewhere m apart) ∙ append-nil (history_on m came) in
+      rw (at, at_other v n m l apart, came_is) (st.places m))
+      (cases_eq m n);
+  moment = st.moment;
+  within = λ m no'.
+      at_other v n m l (λ e. true_false (is_link n) link (ap is_link (sym e) ∙ no')) ∙ st.within m no';
 }
 
--- a drain, which notes its passes behind
-pub kept_drained : (w : World) (m : ℕ) (d : Drain) → m < length w.links
-    → Changed w m d.link d.came (with_link w m d.link, map (On m) d.came ++ Drained m d.passes ∷ [])
-kept_drained w m d inside = record {
-  link = at_same w m d.link inside;
-  came_is = on_link-append m (map (On m) d.came) (Drained m d.passes ∷ []) ∙ append-nil (on_link m (map (On m) d.came)) ∙ on_same m d.came;
-  others = λ n apart. at_other w m n d.link apart;
-  nothing = λ n apart.
-      on_link-append n (map (On m) d.came) (Drained m d.passes ∷ []) ∙ append-nil (on_link n (map (On m) d.came)) ∙ on_other n m d.came apart;
+-- link n went on so
+pub went_world : WorldGrows → (w : KeptWorld) (v : World) (came : List Came) (n : ℕ) (a : Link × List Occurrence) (new : KeptLink) (before now : List ℕ)
+    → StandsWorld w v came → n < length w.links → is_link n ≡ true
+    → LinkWent a w.plan.show n (history_on n came) new before now
+    → WorldWent (went_on v n a) w.plan.show came (record w { links = slice_set w.links n (Some new) }) before now
+went_world grows w v came n a new before now st inside link went = record {
+  stands = stands_went grows w v came (map (On n) a.1) n new a.0 a.1 st inside link (grows.own n a.1) (λ m apart. grows.other m n a.1 apart) went.stands;
+  printed = went.printed ∙ ap (λ (xs : List ℕ). before ++ xs) (sym (grows.text w.plan.show n came a.1));
 }
+
+-- nothing came
+pub stays : WorldGrows → (w : KeptWorld) (v : World) (came : List Came) (before : List ℕ) → StandsWorld w v came → WorldWent (v, []) w.plan.show came w before before
+stays grows w v came before st = record {
+  stands = subst (StandsWorld w v) (sym (append-nil came)) st;
+  printed = sym (append-nil before);
+}
+
+pub lines-append : (show : Bool) → WorldGrows → (seen xs ys : List Came)
+    → lines show (marks_from seen (xs ++ ys)) ≡ lines show (marks_from seen xs) ++ lines show (marks_from (seen ++ xs) ys)
+lines-append show grows seen xs ys = ap (lines show) (grows.marks seen xs ys) ∙ flat_map-append (came_line show) (marks_from seen xs) (marks_from (seen ++ xs) ys)

@@ -1,6 +1,6 @@
--- The pairs that the code keeps, as the sealings that they stand for (this profile).
+-- Representation: the pairs of session keys and text that the code keeps; no claim rests on it.
 use Rattle.std.specs.Prelude.{List, map}
-use Rattle.er_world.specs.Deeds.{Sealing}
+use Rattle.safe_pair.specs.Facts.{Sealing}
 use Rattle.er_world.specs.declared.sealed_pairs.Pair.{Pair}
 
 -- a pair's three keys and its text

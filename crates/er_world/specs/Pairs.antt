@@ -1,8 +1,8 @@
--- What is kept of the pairs that the ends of a link sealed: which there are, not how often and not in what order (this profile).
+-- Representation: the pairs of session keys and text that the code keeps; no claim rests on it.
 use Rattle.std.specs.Prelude.{◌≡◌, ◌||◌, ℕ, List}
 use Rattle.std.specs.List.{list_any}
 use Rattle.des_block.specs.declared.triple_key.TripleKey.{TripleKey}
-use Rattle.er_world.specs.Deeds.{Sealing, is_sealing}
+use Rattle.safe_pair.specs.Facts.{Sealing, is_sealing}
 
 -- these pairs are kept too
 pub record Gains (more old new : List Sealing) : Type 0 where

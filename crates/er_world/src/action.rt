@@ -1,6 +1,6 @@
-/// What a line does to the frames of an end that wait.
+/// What the line does to the frames of an end that wait.
 #[derive(Clone, Copy)]
-pub enum Disturbance<'a> {
+pub enum LineChange<'a> {
     /// The first frame is removed.
     Lose,
     /// A copy of the first frame is put right behind it.
@@ -24,7 +24,9 @@ pub enum Action<'a> {
     /// Its first waiting frame is given to the other end.
     Pass,
     /// The line changes what waits of it.
-    Disturb(Disturbance<'a>),
+    Change(LineChange<'a>),
+    /// Its user takes a message.
+    Take,
     /// Its user releases, with this sub-reason.
     Release(u8),
 }

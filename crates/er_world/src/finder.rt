@@ -1,12 +1,12 @@
 ghost use Rattle.std.specs.Prelude.{◌≡◌};
-ghost use Rattle.er_world.specs.Links.{entries_of};
+ghost use Rattle.er_world.specs.Keys.{entries_of};
 
 use des_block::TripleKey;
 use safety_automaton::KeyFinder;
 use std::marker::Model;
 
-/// The one key that the ends of a link can find: the KMAC of an engine and a radio block centre, if the latter has one. In
-/// contracts it is the list of the keys.
+/// The one key that the ends of a link can find, at every moment: the KMAC of an engine and a radio block centre, if the latter has
+/// one. In contracts it is the list of the keys.
 #[derive(Drop)]
 pub struct OneKey {
     engine: u32,
@@ -17,7 +17,7 @@ pub struct OneKey {
 impl Model for OneKey {
     ghost use Rattle.std.specs.Prelude.{List};
     ghost use Rattle.safety_automaton.specs.Keys.{Entry};
-    ghost use Rattle.er_world.specs.Links.{entries_of};
+    ghost use Rattle.er_world.specs.Keys.{entries_of};
 
     ghost Value = { List Entry };
 
@@ -36,7 +36,7 @@ impl OneKey {
 impl KeyFinder for OneKey {
     ghost entries = { λ k. k };
 
-    fn find(&self, engine: u32, rbc: u32) -> Option<TripleKey> {
+    fn find(&self, engine: u32, rbc: u32, now: u64) -> Option<TripleKey> {
         match self.kmac {
             Some(kmac) => {
                 if self.engine == engine && self.rbc == rbc {

@@ -2,19 +2,22 @@
 #![tactic(auto)]
 
 mod action;
+mod drill_end;
+mod end_event;
 mod finder;
-pub mod laws;
+mod ledger;
 mod lines;
 mod link;
 mod place;
 mod port;
+mod safe_end;
 mod sealed_pairs;
+mod told;
 mod waiting;
 mod world;
-mod world_fault;
 
+pub use drill_model::WorldFault;
 pub use world::World;
-pub use world_fault::WorldFault;
 
 #[cfg(test)]
 mod tests;

@@ -2,11 +2,14 @@
 
 ghost use Rattle.std.specs.Prelude.{◌≡◌, ◌++◌, if◌then◌else◌, [], codes, IfOk, OnOk, OnErr};
 ghost use Rattle.std.specs.Fmt.{decimal};
-ghost use Rattle.safety_automaton.specs.Safety.{IsReleased, IsNotConnected, HasLength};
+ghost use Rattle.drill_model.specs.Outcomes.{RefusedReleased, RefusedNotConnected, RefusedLength};
+ghost use Rattle.drill_model.specs.Ends.{refusal_of};
 ghost use Rattle.safety_automaton.specs.Reports.{refusal_view};
-ghost use Rattle.er_world.specs.Texts.{head, forged_word, by_word, release_words, connected_line, accepted_line, released_line, refused_line, frame_line, empty_line, short_line, passes_line};
+ghost use Rattle.er_world.specs.Changes.{change_line};
+ghost use Rattle.drill_model.specs.Texts.{head, forged_word, by_word, release_words, connected_line, accepted_line, released_line, refused_line, frame_line, empty_line, short_line, passes_line};
 
 use crate::place::Place;
+use crate::waiting::Change;
 use er_base::{NoMemory, Release, decimal_word, hex_word};
 use safety_automaton::SealRefused;
 use std::alloc::Global;
@@ -26,44 +29,39 @@ fn by_octets(by_peer: bool) -> &'static [u8]
 }
 
 /// Appends a word and a number.
-pub fn put_count(
-    alloc: Global,
-    word: &[u8],
-    number: u64,
-    line: &mut Vec<u8>,
-) -> Result<(), NoMemory>
+pub fn put_count(word: &[u8], number: u64, line: &mut Vec<u8>) -> Result<(), NoMemory>
     ensures { OnOk result (line.new.items ≡ line.old.items ++ (word.now ++ decimal number)) }
 {
     line.extend_from_slice(word)?;
-    decimal_word(alloc, number, line)?;
+    decimal_word(number, line)?;
     Ok(())
 }
 
 /// Appends a reason and a sub-reason.
-#[tactic(auto, unfolding(crate::specs::Texts::release_words))]
-fn put_release(alloc: Global, release: &Release, line: &mut Vec<u8>) -> Result<(), NoMemory>
+#[tactic(auto, unfolding(drill_model::specs::Texts::release_words))]
+fn put_release(release: &Release, line: &mut Vec<u8>) -> Result<(), NoMemory>
     ensures { OnOk result (line.new.items ≡ line.old.items ++ release_words release.now) }
 {
-    decimal_word(alloc, release.reason as u64, line)?;
+    decimal_word(release.reason as u64, line)?;
     line.extend_from_slice(b" ")?;
-    decimal_word(alloc, release.sub as u64, line)?;
+    decimal_word(release.sub as u64, line)?;
     Ok(())
 }
 
 /// A new line that begins with the link's number and the end.
-#[tactic(auto, unfolding(crate::specs::Texts::head))]
+#[tactic(auto, unfolding(drill_model::specs::Texts::head))]
 fn line_at(alloc: Global, place: Place) -> Result<Vec<u8>, NoMemory>
     ensures { IfOk result (λ line. line.items ≡ head place.number place.side) }
 {
     let mut line = Vec::new(alloc);
-    decimal_word(alloc, place.number as u64, &mut line)?;
+    decimal_word(place.number as u64, &mut line)?;
     line.extend_from_slice(b" ")?;
     line.extend_from_slice(place.side.word())?;
     Ok(line)
 }
 
 /// Prints that an end is connected with the peer of an ETCS number.
-#[tactic(auto, unfolding(crate::specs::Texts::connected_line))]
+#[tactic(auto, unfolding(drill_model::specs::Texts::connected_line))]
 pub fn print_connected(
     alloc: Global,
     place: Place,
@@ -76,14 +74,14 @@ pub fn print_connected(
 {
     let mut line = line_at(alloc, place)?;
     line.extend_from_slice(b" connected ")?;
-    decimal_word(alloc, peer as u64, &mut line)?;
+    decimal_word(peer as u64, &mut line)?;
     line.extend_from_slice(forged_octets(forged))?;
     out.extend_from_slice(line.as_slice())?;
     Ok(())
 }
 
 /// Prints that a message was accepted.
-#[tactic(auto, unfolding(crate::specs::Texts::accepted_line))]
+#[tactic(auto, unfolding(drill_model::specs::Texts::accepted_line))]
 pub fn print_accepted(
     alloc: Global,
     place: Place,
@@ -96,14 +94,14 @@ pub fn print_accepted(
 {
     let mut line = line_at(alloc, place)?;
     line.extend_from_slice(b" accepted ")?;
-    hex_word(alloc, user, &mut line)?;
+    hex_word(user, &mut line)?;
     line.extend_from_slice(forged_octets(forged))?;
     out.extend_from_slice(line.as_slice())?;
     Ok(())
 }
 
 /// Prints that an end was released, by itself or by its peer.
-#[tactic(auto, unfolding(crate::specs::Texts::released_line))]
+#[tactic(auto, unfolding(drill_model::specs::Texts::released_line))]
 pub fn print_released(
     alloc: Global,
     place: Place,
@@ -115,26 +113,26 @@ pub fn print_released(
 {
     let mut line = line_at(alloc, place)?;
     line.extend_from_slice(b" released ")?;
-    put_release(alloc, release, &mut line)?;
+    put_release(release, &mut line)?;
     line.extend_from_slice(by_octets(release.by_peer))?;
     out.extend_from_slice(line.as_slice())?;
     Ok(())
 }
 
 /// Prints that a send was refused, since the end is released.
-#[tactic(auto, unfolding(crate::specs::Texts::refused_line))]
+#[tactic(auto, unfolding(drill_model::specs::Texts::refused_line))]
 fn print_refused_released(
     alloc: Global,
     place: Place,
     release: &Release,
     out: &mut Vec<u8>,
 ) -> Result<(), NoMemory>
-    ensures ok { OnOk result (out.new.items ≡ out.old.items ++ refused_line place.number place.side (IsReleased release.now)) }
+    ensures ok { OnOk result (out.new.items ≡ out.old.items ++ refused_line place.number place.side (RefusedReleased release.now)) }
     ensures err { OnErr result (out.new.items ≡ out.old.items) }
 {
     let mut line = line_at(alloc, place)?;
     line.extend_from_slice(b" refused released ")?;
-    put_release(alloc, release, &mut line)?;
+    put_release(release, &mut line)?;
     line.extend_from_slice(b"\n")?;
     out.extend_from_slice(line.as_slice())?;
     Ok(())
@@ -148,9 +146,9 @@ fn refused_early_octets() -> &'static [u8]
 }
 
 /// Prints that a send was refused, since the end isn't connected.
-#[tactic(auto, unfolding(crate::specs::Texts::refused_line))]
+#[tactic(auto, unfolding(drill_model::specs::Texts::refused_line))]
 fn print_refused_early(alloc: Global, place: Place, out: &mut Vec<u8>) -> Result<(), NoMemory>
-    ensures ok { OnOk result (out.new.items ≡ out.old.items ++ refused_line place.number place.side IsNotConnected) }
+    ensures ok { OnOk result (out.new.items ≡ out.old.items ++ refused_line place.number place.side RefusedNotConnected) }
     ensures err { OnErr result (out.new.items ≡ out.old.items) }
 {
     let mut line = line_at(alloc, place)?;
@@ -160,19 +158,19 @@ fn print_refused_early(alloc: Global, place: Place, out: &mut Vec<u8>) -> Result
 }
 
 /// Prints that a send was refused, since it has so many user octets.
-#[tactic(auto, unfolding(crate::specs::Texts::refused_line))]
+#[tactic(auto, unfolding(drill_model::specs::Texts::refused_line))]
 fn print_refused_length(
     alloc: Global,
     place: Place,
     found: usize,
     out: &mut Vec<u8>,
 ) -> Result<(), NoMemory>
-    ensures ok { OnOk result (out.new.items ≡ out.old.items ++ refused_line place.number place.side (HasLength found)) }
+    ensures ok { OnOk result (out.new.items ≡ out.old.items ++ refused_line place.number place.side (RefusedLength found)) }
     ensures err { OnErr result (out.new.items ≡ out.old.items) }
 {
     let mut line = line_at(alloc, place)?;
     line.extend_from_slice(b" refused length ")?;
-    decimal_word(alloc, found as u64, &mut line)?;
+    decimal_word(found as u64, &mut line)?;
     line.extend_from_slice(b"\n")?;
     out.extend_from_slice(line.as_slice())?;
     Ok(())
@@ -185,7 +183,7 @@ pub fn print_refused(
     refused: &SealRefused,
     out: &mut Vec<u8>,
 ) -> Result<(), NoMemory>
-    ensures ok { OnOk result (out.new.items ≡ out.old.items ++ refused_line place.number place.side (refusal_view refused.now)) }
+    ensures ok { OnOk result (out.new.items ≡ out.old.items ++ refused_line place.number place.side (refusal_of (refusal_view refused.now))) }
     ensures err { OnErr result (out.new.items ≡ out.old.items) }
 {
     match refused {
@@ -196,7 +194,7 @@ pub fn print_refused(
 }
 
 /// Prints a frame that an end sends, where frames are shown.
-#[tactic(auto, unfolding(crate::specs::Texts::frame_line))]
+#[tactic(auto, unfolding(drill_model::specs::Texts::frame_line))]
 pub fn print_frame(
     alloc: Global,
     place: Place,
@@ -211,14 +209,14 @@ pub fn print_frame(
     }
     let mut line = line_at(alloc, place)?;
     line.extend_from_slice(b" frame ")?;
-    hex_word(alloc, octets, &mut line)?;
+    hex_word(octets, &mut line)?;
     line.extend_from_slice(b"\n")?;
     out.extend_from_slice(line.as_slice())?;
     Ok(())
 }
 
 /// Prints that no frame of this end waits.
-#[tactic(auto, unfolding(crate::specs::Texts::empty_line))]
+#[tactic(auto, unfolding(drill_model::specs::Texts::empty_line))]
 pub fn print_empty(alloc: Global, place: Place, out: &mut Vec<u8>) -> Result<(), NoMemory>
     ensures ok { OnOk result (out.new.items ≡ out.old.items ++ empty_line place.number place.side) }
     ensures err { OnErr result (out.new.items ≡ out.old.items) }
@@ -230,7 +228,7 @@ pub fn print_empty(alloc: Global, place: Place, out: &mut Vec<u8>) -> Result<(),
 }
 
 /// Prints that the first waiting frame of this end has so many octets, too few for the step.
-#[tactic(auto, unfolding(crate::specs::Texts::short_line))]
+#[tactic(auto, unfolding(drill_model::specs::Texts::short_line))]
 pub fn print_short(
     alloc: Global,
     place: Place,
@@ -242,14 +240,14 @@ pub fn print_short(
 {
     let mut line = line_at(alloc, place)?;
     line.extend_from_slice(b" short ")?;
-    decimal_word(alloc, found as u64, &mut line)?;
+    decimal_word(found as u64, &mut line)?;
     line.extend_from_slice(b"\n")?;
     out.extend_from_slice(line.as_slice())?;
     Ok(())
 }
 
 /// Prints how many frames a drain of a link passed.
-#[tactic(auto, unfolding(crate::specs::Texts::passes_line))]
+#[tactic(auto, unfolding(drill_model::specs::Texts::passes_line))]
 pub fn print_passes(
     alloc: Global,
     number: u8,
@@ -260,10 +258,30 @@ pub fn print_passes(
     ensures err { OnErr result (out.new.items ≡ out.old.items) }
 {
     let mut line = Vec::new(alloc);
-    decimal_word(alloc, number as u64, &mut line)?;
+    decimal_word(number as u64, &mut line)?;
     line.extend_from_slice(b" passes ")?;
-    decimal_word(alloc, passes as u64, &mut line)?;
+    decimal_word(passes as u64, &mut line)?;
     line.extend_from_slice(b"\n")?;
     out.extend_from_slice(line.as_slice())?;
     Ok(())
+}
+
+/// Prints what came of a change of the frames that wait, where it has a line.
+pub fn print_change(
+    alloc: Global,
+    place: Place,
+    change: Change,
+    out: &mut Vec<u8>,
+) -> Result<(), NoMemory>
+    ensures { OnOk result (out.new.items ≡ out.old.items ++ change_line place change) }
+{
+    match change {
+        Change::Empty => print_empty(alloc, place, out),
+        Change::Short(found) => print_short(alloc, place, found, out),
+        Change::Lost => Ok(()),
+        Change::Repeated => Ok(()),
+        Change::Altered => Ok(()),
+        Change::Inserted => Ok(()),
+        Change::Unchanged => Ok(()),
+    }
 }

@@ -1,139 +1,153 @@
-//! A link of level safe: two ends, and in each direction the frames that wait.
+//! A link: two ends, and in each direction the frames that wait.
 
-ghost use Rattle.std.specs.Prelude.{◌≡◌, ◌++◌, List, slice_get, option_map, IfOk, OnOk};
-ghost use Rattle.safety_automaton.specs.Reports.{state_of};
-ghost use Rattle.safety_automaton.specs.declared.safe_state.SafeState.TheVariants as state;
-ghost use Rattle.safety_automaton.specs.Safety.{Start};
-ghost use Rattle.er_base.specs.declared.side.Side.TheVariants.{E, R};
-ghost use Rattle.er_world.specs.Deeds.{Noted};
-ghost use Rattle.er_world.specs.Links.{Send, Pass, Release, give, line_of, step};
-ghost use Rattle.er_world.specs.Worlds.{next_side, overfull_side, drain};
-ghost use Rattle.er_world.specs.Texts.{summary_line};
-ghost use Rattle.er_world.specs.Kept.{HoldsLink};
-ghost use Rattle.er_world.specs.Lines.{disturbance_step, action_step};
-ghost use Rattle.er_world.specs.Ports.{Goes, Drains, Draining, goes_on, new_link};
+ghost use Rattle.std.specs.Prelude.{◌≡◌, ◌++◌, List, length, slice_get, option_map, IfOk, OnOk};
+ghost use Rattle.safety_automaton.specs.Keys.{key_at};
+ghost use Rattle.safe_pair.specs.Marks.{MarksGrow};
+ghost use Rattle.drill_model.specs.Growth.{FactsGrow, LinkMarksGrow};
+ghost use Rattle.drill_model.specs.Outcomes.{Occurrence};
+ghost use Rattle.drill_model.specs.Ends as model;
+ghost use Rattle.drill_model.specs.Links.{Pass, Change as ChangeStep, Release, Tick, give, link_step};
+ghost use Rattle.drill_model.specs.Links as steps;
+ghost use Rattle.drill_model.specs.Worlds.{drain};
+ghost use Rattle.er_world.specs.Changes.{action_step, change_of, event_of};
+ghost use Rattle.er_world.specs.KeptLinks.{LinkDoes, TakesFirst, ChangesFrames, StandsLink, Drains, waiting_at, new_link, next_at, overfull_at, goes_on, closing_kept};
 
-use crate::action::{Action, Disturbance};
+use crate::action::{Action, LineChange};
+use crate::drill_end::DrillEnd;
+use crate::end_event::EndEvent;
 use crate::finder::OneKey;
-use crate::lines::{print_empty, put_count};
+use crate::ledger::Ledger;
+use crate::lines::{print_change, print_empty, put_count};
 use crate::place::Place;
 use crate::port::Port;
-use crate::sealed_pairs::SealedPairs;
-use er_base::{NoMemory, Side};
-use safety_automaton::Safe;
+use crate::waiting::Change;
+use er_base::{NoMemory, Octets, Side};
 use std::alloc::Global;
-use std::marker::Model;
 
 /// The most frames that may wait in one direction.
 pub const MOST_WAITING: usize = 4096;
 
-/// Two ends, the keys that they can find, the pairs that they sealed, and the passes so far.
+/// Two ends, the keys that they can find, what is kept of all that came, the moment, and the passes so far.
 #[derive(Drop)]
 pub struct Link {
     e: Port,
     r: Port,
     keys: OneKey,
-    pairs: SealedPairs,
+    ledger: Ledger,
+    moment: u64,
     passes: u64,
 }
 
-impl Model for Link {
-    ghost use Rattle.er_world.specs.Kept.{KeptLink};
-
-    ghost Value = { KeptLink };
-
-    ghost view = { λ l. record {
-      link = record { e = l.e.end; r = l.r.end; keys = l.keys; from_e = l.e.waiting; from_r = l.r.waiting; passes = l.passes };
-      sealed = l.pairs;
-      e_mistrusts = l.e.mistrusts;
-      r_mistrusts = l.r.mistrusts;
-    } };
+/// What the marks of a link are made of grows with what comes.
+fn marks_grow()
+    ensures marks { MarksGrow }
+    ensures facts { FactsGrow }
+    ensures lines { LinkMarksGrow }
+{
+    safe_pair::laws::marks_grow();
+    drill_model::laws::histories();
+    drill_model::laws::marks_grow();
 }
 
 impl Link {
     /// A link of these two ends, the engine's first, with no frame that waits.
-    pub fn new(alloc: Global, e: Safe, r: Safe, keys: OneKey) -> Link
-        ensures { result ≡ new_link e.safety r.safety keys }
+    pub fn new(alloc: Global, e: DrillEnd, r: DrillEnd, keys: OneKey, moment: u64) -> Link
+        ensures { result ≡ new_link e r keys moment }
     {
         Link {
             e: Port::new(alloc, e),
             r: Port::new(alloc, r),
             keys,
-            pairs: SealedPairs::new(alloc),
+            ledger: Ledger::new(alloc),
+            moment,
             passes: 0,
         }
     }
 
-    /// The engine begins the set-up.
-    pub fn start(&mut self, alloc: Global, place: Place, out: &mut Vec<u8>) -> Result<(), NoMemory>
-        requires ready { state_of self.old.link.e.phase ≡ state.Ready }
-        requires engine { place.side ≡ E }
-        ensures { OnOk result ((seen : List Noted) → HoldsLink self.old seen
-            → Goes seen (give seen self.old.link E Start) place.show place.number self.new out.old.items out.new.items) }
-    {
-        self.e.start(alloc, place, out)
-    }
-
-    /// The user at an end sends.
-    fn send(
+    /// An event at an end.
+    pub fn give(
         &mut self,
         alloc: Global,
         place: Place,
-        user: &[u8],
+        event: &EndEvent,
         out: &mut Vec<u8>,
     ) -> Result<(), NoMemory>
-        ensures { OnOk result ((seen : List Noted) → HoldsLink self.old seen
-            → Goes seen (step seen self.old.link (Send place.side user.now)) place.show place.number self.new out.old.items out.new.items) }
+        ensures { OnOk result (LinkDoes (λ l. give l place.side (event_of event.now)) place.show place.number self.old self.new out.old.items out.new.items) }
     {
+        marks_grow();
         match place.side {
-            Side::E => self.e.say(alloc, place, user, &mut self.pairs, out),
-            Side::R => self.r.say(alloc, place, user, &mut self.pairs, out),
+            Side::E => self.e.answer(
+                alloc,
+                place,
+                &self.keys,
+                self.moment,
+                event,
+                &mut self.ledger,
+                out,
+            ),
+            Side::R => self.r.answer(
+                alloc,
+                place,
+                &self.keys,
+                self.moment,
+                event,
+                &mut self.ledger,
+                out,
+            ),
+        }
+    }
+
+    /// Takes the first waiting frame of an end.
+    fn take_first(&mut self, side: Side) -> Option<Octets>
+        ensures { TakesFirst self.old side result self.new }
+    {
+        match side {
+            Side::E => self.e.take_first(),
+            Side::R => self.r.take_first(),
         }
     }
 
     /// The first waiting frame of an end is given to the other end.
     pub fn pass(&mut self, alloc: Global, place: Place, out: &mut Vec<u8>) -> Result<(), NoMemory>
-        ensures { OnOk result ((seen : List Noted) → HoldsLink self.old seen
-            → Goes seen (step seen self.old.link (Pass place.side)) place.show place.number self.new out.old.items out.new.items) }
+        ensures { OnOk result (LinkDoes (λ l. link_step l (Pass place.side)) place.show place.number self.old self.new out.old.items out.new.items) }
     {
-        let there = place.other();
-        match place.side {
-            Side::E => {
-                let Some(frame) = self.e.take_first() else {
-                    return print_empty(alloc, place, out);
-                };
-                self.passes = self.passes.saturating_add(1);
-                let octets = frame.as_slice();
-                self.r
-                    .hear(alloc, there, &self.keys, octets, &mut self.pairs, out)
-            }
-            Side::R => {
-                let Some(frame) = self.r.take_first() else {
-                    return print_empty(alloc, place, out);
-                };
-                self.passes = self.passes.saturating_add(1);
-                let octets = frame.as_slice();
-                self.e
-                    .hear(alloc, there, &self.keys, octets, &mut self.pairs, out)
-            }
+        marks_grow();
+        let Some(frame) = self.take_first(place.side) else {
+            return print_empty(alloc, place, out);
+        };
+        self.passes = self.passes.saturating_add(1);
+        let event = EndEvent::Receive(frame.as_slice());
+        self.give(alloc, place.other(), &event, out)
+    }
+
+    /// The line changes the waiting frames of an end.
+    fn change_frames(
+        &mut self,
+        alloc: Global,
+        side: Side,
+        how: &LineChange,
+    ) -> Result<Change, NoMemory>
+        ensures { IfOk result (λ change. ChangesFrames self.old side how.now change self.new) }
+    {
+        match side {
+            Side::E => self.e.change(alloc, how),
+            Side::R => self.r.change(alloc, how),
         }
     }
 
-    /// The line changes what waits of an end.
-    fn disturb(
+    /// The line changes the waiting frames of an end; what comes of it is printed.
+    fn change(
         &mut self,
         alloc: Global,
         place: Place,
-        how: &Disturbance,
+        how: &LineChange,
         out: &mut Vec<u8>,
     ) -> Result<(), NoMemory>
-        ensures { OnOk result ((seen : List Noted) → HoldsLink self.old seen
-            → Goes seen (step seen self.old.link (disturbance_step place.side how.now)) place.show place.number self.new out.old.items out.new.items) }
+        ensures { OnOk result (LinkDoes (λ l. link_step l (ChangeStep place.side (change_of how.now))) place.show place.number self.old self.new out.old.items out.new.items) }
     {
-        match place.side {
-            Side::E => self.e.disturb(alloc, place, how, out),
-            Side::R => self.r.disturb(alloc, place, how, out),
-        }
+        marks_grow();
+        let change = self.change_frames(alloc, place.side, how)?;
+        print_change(alloc, place, change, out)
     }
 
     /// The user at an end releases, with a sub-reason.
@@ -144,16 +158,13 @@ impl Link {
         sub: u8,
         out: &mut Vec<u8>,
     ) -> Result<(), NoMemory>
-        ensures { OnOk result ((seen : List Noted) → HoldsLink self.old seen
-            → Goes seen (step seen self.old.link (Release place.side sub)) place.show place.number self.new out.old.items out.new.items) }
+        ensures { OnOk result (LinkDoes (λ l. link_step l (Release place.side sub)) place.show place.number self.old self.new out.old.items out.new.items) }
     {
-        match place.side {
-            Side::E => self.e.leave(alloc, place, sub, out),
-            Side::R => self.r.leave(alloc, place, sub, out),
-        }
+        marks_grow();
+        self.give(alloc, place, &EndEvent::Release(sub), out)
     }
 
-    /// One step of the link; what comes of it is printed.
+    /// One step of the link at an end; what comes of it is printed.
     pub fn apply(
         &mut self,
         alloc: Global,
@@ -161,20 +172,42 @@ impl Link {
         action: &Action,
         out: &mut Vec<u8>,
     ) -> Result<(), NoMemory>
-        ensures { OnOk result ((seen : List Noted) → HoldsLink self.old seen
-            → Goes seen (step seen self.old.link (action_step place.side action.now)) place.show place.number self.new out.old.items out.new.items) }
+        ensures { OnOk result (LinkDoes (λ l. link_step l (action_step place.side action.now)) place.show place.number self.old self.new out.old.items out.new.items) }
     {
         match action {
-            Action::Send(user) => self.send(alloc, place, user, out),
+            Action::Send(user) => self.give(alloc, place, &EndEvent::Send(user), out),
             Action::Pass => self.pass(alloc, place, out),
-            Action::Disturb(how) => self.disturb(alloc, place, how, out),
+            Action::Change(how) => self.change(alloc, place, how, out),
+            Action::Take => self.give(alloc, place, &EndEvent::Take, out),
             Action::Release(sub) => self.release(alloc, place, *sub, out),
         }
     }
 
+    /// The moment has come, at both ends.
+    pub fn tick(
+        &mut self,
+        alloc: Global,
+        number: u8,
+        show: bool,
+        moment: u64,
+        out: &mut Vec<u8>,
+    ) -> Result<(), NoMemory>
+        ensures { OnOk result (LinkDoes (λ l. link_step l (Tick moment)) show number self.old self.new out.old.items out.new.items) }
+    {
+        marks_grow();
+        self.moment = moment;
+        let e = Place {
+            number,
+            side: Side::E,
+            show,
+        };
+        self.give(alloc, e, &EndEvent::Tick, out)?;
+        self.give(alloc, e.other(), &EndEvent::Tick, out)
+    }
+
     /// The octets of the first waiting frame of an end.
     pub fn first(&self, side: Side) -> Option<&[u8]>
-        ensures { option_map (λ f. f.now) result ≡ slice_get (line_of self.now.link side) 0 }
+        ensures { option_map (λ f. f.now) result ≡ slice_get (waiting_at self.now side) 0 }
     {
         match side {
             Side::E => self.e.waiting().first(),
@@ -184,7 +217,7 @@ impl Link {
 
     /// The end of which more than 4,096 frames wait, if there is one.
     pub fn overfull(&self) -> Option<Side>
-        ensures { result ≡ overfull_side self.now.link }
+        ensures { result ≡ overfull_at self.now }
     {
         if self.e.waiting().len() > MOST_WAITING {
             return Some(Side::E);
@@ -197,7 +230,7 @@ impl Link {
 
     /// The end whose frame a drain passes next: e where a frame of e waits, else r where one of r waits.
     fn next_side(&self) -> Option<Side>
-        ensures { result ≡ next_side self.now.link }
+        ensures { result ≡ next_at self.now }
     {
         if self.e.waiting().len() > 0 {
             return Some(Side::E);
@@ -210,7 +243,7 @@ impl Link {
 
     /// The end whose frame a drain passes next, none where too many frames wait.
     fn next_pass(&self) -> Option<Side>
-        ensures { result ≡ goes_on (next_side self.now.link) (overfull_side self.now.link) }
+        ensures { result ≡ goes_on (next_at self.now) (overfull_at self.now) }
     {
         let side = self.next_side()?;
         match self.overfull() {
@@ -228,9 +261,10 @@ impl Link {
         most: u32,
         out: &mut Vec<u8>,
     ) -> Result<u32, NoMemory>
-        ensures { IfOk result (λ passes. (seen : List Noted) → HoldsLink self.old seen
-            → Drains seen (drain most seen self.old.link) show number passes self.new out.old.items out.new.items) }
+        ensures { IfOk result (λ passes. (l : steps.Link) (history : List Occurrence) → StandsLink self.old l history
+            → Drains (drain most l) show number passes history self.new out.old.items out.new.items) }
     {
+        marks_grow();
         let mut passes = 0;
         while passes < most {
             let Some(side) = self.next_pass() else {
@@ -244,20 +278,15 @@ impl Link {
     }
 
     /// Prints the closing line of the link of a number. After want of memory nothing was printed.
-    #[tactic(auto, unfolding(crate::specs::Texts::summary_line))]
-    pub fn summary(&self, alloc: Global, number: u64, out: &mut Vec<u8>) -> Result<(), NoMemory>
-        ensures { OnOk result (out.new.items ≡ out.old.items ++ summary_line number self.now.link) }
+    #[tactic(auto, unfolding(crate::specs::KeptLinks::closing_kept))]
+    pub fn close(&self, alloc: Global, number: u8, out: &mut Vec<u8>) -> Result<(), NoMemory>
+        ensures { OnOk result (out.new.items ≡ out.old.items ++ closing_kept number self.now) }
     {
         let mut line = Vec::new(alloc);
-        put_count(alloc, b"", number, &mut line)?;
-        put_count(alloc, b" end passes ", self.passes, &mut line)?;
-        put_count(
-            alloc,
-            b" waiting ",
-            self.e.waiting().len() as u64,
-            &mut line,
-        )?;
-        put_count(alloc, b" ", self.r.waiting().len() as u64, &mut line)?;
+        put_count(b"", number as u64, &mut line)?;
+        put_count(b" end passes ", self.passes, &mut line)?;
+        put_count(b" waiting ", self.e.waiting().len() as u64, &mut line)?;
+        put_count(b" ", self.r.waiting().len() as u64, &mut line)?;
         line.extend_from_slice(b"\n")?;
         out.extend_from_slice(line.as_slice())?;
         Ok(())

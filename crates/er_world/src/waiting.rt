@@ -1,23 +1,32 @@
 //! The frames of an end that wait to be passed.
 
 ghost use Rattle.std.specs.Prelude.{◌≡◌, ◌++◌, ◌∷◌, ◌==◌, [], length, slice_get, option_map, IfOk, OnOk};
-ghost use Rattle.er_world.specs.Lines.{deed_of, IsFirst, loses, repeats, alters, puts, disturbs};
+ghost use Rattle.drill_model.specs.Waiting.{loses, repeats, alters, puts, changes};
+ghost use Rattle.er_world.specs.Changes.{IsFirst, outcomes_of, change_of};
 
-use crate::action::Disturbance;
+use crate::action::LineChange;
 use er_base::{NoMemory, Octets};
 use std::alloc::Global;
 use std::collections::VecDeque;
 use std::marker::Model;
 
-/// What came of a step at the frames that wait.
+/// What came of a change of the frames that wait.
 #[derive(Clone, Copy)]
 pub enum Change {
     /// No frame waits.
     Empty,
-    /// The first frame has so many octets, too few for the step.
+    /// The first frame has so many octets, too few for the change.
     Short(usize),
-    /// What waits was changed.
-    Disturbed,
+    /// The first frame was removed.
+    Lost,
+    /// A copy was put behind it.
+    Repeated,
+    /// An octet of it was changed.
+    Altered,
+    /// Octets were put before it.
+    Inserted,
+    /// All is as it was.
+    Unchanged,
 }
 
 /// The frames that an end sent and that wait, the first to be passed first.
@@ -76,27 +85,26 @@ impl Waiting {
     }
 
     /// A frame joins those that wait.
-    pub fn push(&mut self, alloc: Global, frame: &[u8]) -> Result<(), NoMemory>
-        ensures { OnOk result (self.new ≡ self.old ++ frame.now ∷ []) }
+    pub fn push(&mut self, frame: Octets) -> Result<(), NoMemory>
+        ensures { OnOk result (self.new ≡ self.old ++ frame ∷ []) }
     {
-        let frame = copied(alloc, frame)?;
         self.frames.push_back(frame)?;
         Ok(())
     }
 
     /// The first frame is removed.
     fn lose(&mut self) -> Change
-        ensures { loses self.old ≡ (self.new, deed_of result) }
+        ensures { loses self.old ≡ (self.new, outcomes_of result) }
     {
         match self.frames.pop_front() {
-            Some(_) => Change::Disturbed,
+            Some(_) => Change::Lost,
             None => Change::Empty,
         }
     }
 
     /// A copy of the first frame is put right behind it.
     fn repeat(&mut self, alloc: Global) -> Result<Change, NoMemory>
-        ensures { IfOk result (λ change. repeats self.old ≡ (self.new, deed_of change)) }
+        ensures { IfOk result (λ change. repeats self.old ≡ (self.new, outcomes_of change)) }
     {
         let Some(frame) = self.frames.pop_front() else {
             return Ok(Change::Empty);
@@ -104,12 +112,12 @@ impl Waiting {
         let copy = copied(alloc, frame.as_slice())?;
         self.frames.push_front(copy)?;
         self.frames.push_front(frame)?;
-        Ok(Change::Disturbed)
+        Ok(Change::Repeated)
     }
 
     /// The octet of the first frame at a place, from 0, is changed by exclusive or.
     fn alter(&mut self, alloc: Global, place: u64, mask: u8) -> Result<Change, NoMemory>
-        ensures { IfOk result (λ change. alters place mask self.old ≡ (self.new, deed_of change)) }
+        ensures { IfOk result (λ change. alters place mask self.old ≡ (self.new, outcomes_of change)) }
     {
         let Some(frame) = self.frames.pop_front() else {
             return Ok(Change::Empty);
@@ -119,30 +127,34 @@ impl Waiting {
             self.frames.push_front(frame)?;
             return Ok(Change::Short(found));
         }
+        if mask == 0 {
+            self.frames.push_front(frame)?;
+            return Ok(Change::Unchanged);
+        }
         let mut octets = Vec::from_slice(alloc, frame.as_slice())?;
         octets[place as usize] ^= mask;
         self.frames.push_front(Octets::new(octets))?;
-        Ok(Change::Disturbed)
+        Ok(Change::Altered)
     }
 
     /// Octets become the first frame.
     fn put(&mut self, alloc: Global, frame: &[u8]) -> Result<Change, NoMemory>
-        ensures { IfOk result (λ change. puts frame.now self.old ≡ (self.new, deed_of change)) }
+        ensures { IfOk result (λ change. puts frame.now self.old ≡ (self.new, outcomes_of change)) }
     {
         let frame = copied(alloc, frame)?;
         self.frames.push_front(frame)?;
-        Ok(Change::Disturbed)
+        Ok(Change::Inserted)
     }
 
     /// The line changes what waits.
-    pub fn disturb(&mut self, alloc: Global, how: &Disturbance) -> Result<Change, NoMemory>
-        ensures { IfOk result (λ change. disturbs how.now self.old ≡ (self.new, deed_of change)) }
+    pub fn change(&mut self, alloc: Global, how: &LineChange) -> Result<Change, NoMemory>
+        ensures { IfOk result (λ change. changes (change_of how.now) self.old ≡ (self.new, outcomes_of change)) }
     {
         match how {
-            Disturbance::Lose => Ok(self.lose()),
-            Disturbance::Repeat => self.repeat(alloc),
-            Disturbance::Alter { place, mask } => self.alter(alloc, *place, *mask),
-            Disturbance::Put(frame) => self.put(alloc, frame),
+            LineChange::Lose => Ok(self.lose()),
+            LineChange::Repeat => self.repeat(alloc),
+            LineChange::Alter { place, mask } => self.alter(alloc, *place, *mask),
+            LineChange::Put(frame) => self.put(alloc, frame),
         }
     }
 }

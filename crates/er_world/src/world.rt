@@ -1,26 +1,33 @@
 //! The world of a drill: up to 64 links, and the steps of a scenario.
 
-ghost use Rattle.std.specs.Prelude.{◌≡◌, ◌++◌, ◌≤◌, ◌<◌, [], List, length, slice_get, slice_set, option_map, Some, false, IfOk, OnOk, OnErr, IfErr};
-ghost use Rattle.er_settings.specs.Ranges.{AllAllowed};
-ghost use Rattle.er_scenario.specs.Printed.{IsInRange};
+ghost use Rattle.std.specs.Prelude.{ℕ, ◌≡◌, ◌++◌, ◌≤◌, ◌<◌, [], List, length, slice_get, slice_set, option_map, Some, false, IfOk, IfErr, OnOk, OnErr};
 ghost use Rattle.er_base.specs.declared.side.Side.TheVariants.{E};
-ghost use Rattle.safety_automaton.specs.Safety.{Start};
-ghost use Rattle.safety_automaton.specs.Reports.{state_of};
-ghost use Rattle.safety_automaton.specs.declared.safe_state.SafeState.TheVariants as state;
-ghost use Rattle.er_world.specs.Links.{joined, give, line_of};
-ghost use Rattle.er_world.specs.Worlds.{Came, new_world, link_at, touched, wants, wants_none, or_else, refusal, at, drains, copies_from, move, overfull_fault};
-ghost use Rattle.er_world.specs.Texts.{place_line, summary};
-ghost use Rattle.er_world.specs.Kept.{Holds, Applied, IsFault, LeavesIt, world_of, kept_at};
-ghost use Rattle.er_world.specs.Lines.{action_step};
-ghost use Rattle.er_world.specs.WorldSteps.{Does, Ends, opens_with, overfull_in};
+ghost use Rattle.er_settings.specs.Ranges.{AllAllowed};
+ghost use Rattle.er_settings.specs.declared.settings.Settings.{Settings as AnySettings};
+ghost use Rattle.er_scenario.specs.StepRanges.{IsEtcsNumber};
+ghost use Rattle.er_scenario.specs.declared.step.Step.{Step as AnyStep};
+ghost use Rattle.safe_pair.specs.Openings.{OfFixed, OfKeys};
+ghost use Rattle.safe_pair.specs.Marks.{MarksGrow};
+ghost use Rattle.drill_model.specs.Growth.{FactsGrow, HistoryGrows, HistoryOfOwn, HistoryOfOther, LinkMarksGrow, WorldMarksGrow, LinkText};
+ghost use Rattle.drill_model.specs.Steps.{IsOfLevel, HasEtcsNumbers};
+ghost use Rattle.drill_model.specs.Links.{OfPair, Tick, opened};
+ghost use Rattle.drill_model.specs.Worlds.{Plan, link_at, is_link, link_opening, wire_opening, open_link, at_link, drain_link, copy_between, ticks, ticked, world_step};
+ghost use Rattle.drill_model.specs.Faults.{wants, wants_closed, wants_moment, or_else, refusal};
+ghost use Rattle.drill_model.specs.Texts.{last_lines};
+ghost use Rattle.er_world.specs.Changes.{action_step};
+ghost use Rattle.er_world.specs.KeptLinks.{LinkWent, waiting_at};
+ghost use Rattle.er_world.specs.Standing.{Ran, Applied, IsFaultBehind, LeavesIt, kept_at};
+ghost use Rattle.er_world.specs.WorldSteps.{Does, WorldDoes, Ends, left_by, touched, overfull_in, overfull_from, overfull_by, place_closing, closing_lines};
 
-use crate::action::{Action, Disturbance};
+use crate::action::{Action, LineChange};
+use crate::drill_end::DrillEnd;
+use crate::end_event::EndEvent;
 use crate::finder::OneKey;
 use crate::lines::{print_empty, print_passes};
 use crate::link::{Link, MOST_WAITING};
 use crate::place::Place;
-use crate::world_fault::WorldFault;
 use des_block::TripleKey;
+use drill_model::WorldFault;
 use er_base::{NoMemory, Octets, Side};
 use er_scenario::{Level, Step};
 use er_settings::Settings;
@@ -34,44 +41,62 @@ const PLACES: usize = 65;
 /// The world of a drill: its links, and what comes of its steps as text.
 #[derive(Drop)]
 pub struct World {
-    places: Vec<Option<Link>>,
+    level: Level,
+    settings: Settings,
     show: bool,
+    places: Vec<Option<Link>>,
+    moment: u64,
     spent: bool,
 }
 
 impl Model for World {
     ghost use Rattle.std.specs.Prelude.{◌≡◌, length};
-    ghost use Rattle.er_world.specs.Kept.{KeptWorld};
+    ghost use Rattle.er_world.specs.Standing.{KeptWorld};
 
     ghost Value = { KeptWorld };
 
-    ghost view = { λ w. record { links = w.places.items; show = w.show; spent = w.spent } };
+    ghost view = { λ w. record {
+      plan = record { level = w.level; settings = w.settings; show = w.show };
+      spent = w.spent;
+      links = w.places.items;
+      moment = w.moment;
+    } };
 
     ghost invariant = { λ w. length w.places.items ≡ 65 };
 }
 
-/// The link on which frames may come to wait in a step.
-fn touched(step: &Step) -> u8
+/// Whether a link may have this number.
+fn is_link(number: u8) -> bool
+    ensures { result ≡ is_link number }
+{
+    0 < number && number < 65
+}
+
+/// The one link in which frames may come to wait by a step; none for a tick, which may make them wait in any.
+fn touched(step: &Step) -> Option<u8>
     ensures { result ≡ touched step.now }
 {
     match step {
-        Step::Fixed { link, .. } => *link,
-        Step::Link { link, .. } => *link,
-        Step::Send { link, .. } => *link,
-        Step::Pass { link, .. } => *link,
-        Step::Lose { link, .. } => *link,
-        Step::Repeat { link, .. } => *link,
-        Step::Alter { link, .. } => *link,
-        Step::Put { link, .. } => *link,
-        Step::Copy { to_link, .. } => *to_link,
-        Step::Release { link, .. } => *link,
-        Step::Drain { link, .. } => *link,
+        Step::Fixed { link, .. } => Some(*link),
+        Step::Link { link, .. } => Some(*link),
+        Step::Wire { link } => Some(*link),
+        Step::Send { link, .. } => Some(*link),
+        Step::Pass { link, .. } => Some(*link),
+        Step::Lose { link, .. } => Some(*link),
+        Step::Repeat { link, .. } => Some(*link),
+        Step::Alter { link, .. } => Some(*link),
+        Step::Put { link, .. } => Some(*link),
+        Step::Copy { to_link, .. } => Some(*to_link),
+        Step::Take { link, .. } => Some(*link),
+        Step::Release { link, .. } => Some(*link),
+        Step::Tick { .. } => None,
+        Step::Drain { link, .. } => Some(*link),
     }
 }
 
 /// A copy of the first waiting frame of an end.
 fn first_copy(alloc: Global, link: &Link, side: Side) -> Result<Option<Octets>, NoMemory>
-    ensures { IfOk result (λ frame. frame ≡ slice_get (line_of link.now.link side) 0) }
+    ensures { IfOk result (λ frame. frame ≡ slice_get (waiting_at link.now side) 0) }
 {
     match link.first(side) {
         Some(frame) => Ok(Some(Octets::new(Vec::from_slice(alloc, frame)?))),
@@ -79,19 +104,45 @@ fn first_copy(alloc: Global, link: &Link, side: Side) -> Result<Option<Octets>, 
     }
 }
 
-/// Prints the closing line of a place, if a link stands there.
-fn close(
-    alloc: Global,
-    number: u64,
-    place: &Option<Link>,
-    out: &mut Vec<u8>,
-) -> Result<(), NoMemory>
-    ensures { OnOk result (out.new.items ≡ out.old.items ++ place_line number (option_map (λ k. k.link) place.now)) }
+/// What came in a world, its marks and its text grow with what comes.
+fn world_grows()
+    ensures marks { MarksGrow }
+    ensures facts { FactsGrow }
+    ensures lines { LinkMarksGrow }
+    ensures history { HistoryGrows }
+    ensures own { HistoryOfOwn }
+    ensures other { HistoryOfOther }
+    ensures world { WorldMarksGrow }
+    ensures text { LinkText }
 {
-    match place {
-        Some(link) => link.summary(alloc, number, out),
-        None => Ok(()),
-    }
+    safe_pair::laws::marks_grow();
+    drill_model::laws::histories();
+    drill_model::laws::marks_grow();
+}
+
+/// A link between two ends that aren't connected yet, opened at a moment; the engine has begun the set-up.
+fn called(
+    alloc: Global,
+    place: Place,
+    engine: u32,
+    rbc: u32,
+    ke: TripleKey,
+    kr: Option<TripleKey>,
+    ra: u64,
+    rb: u64,
+    moment: u64,
+    out: &mut Vec<u8>,
+) -> Result<Link, NoMemory>
+    requires engine { IsEtcsNumber engine }
+    requires rbc { IsEtcsNumber rbc }
+    ensures { IfOk result (λ link. place.side ≡ E → (settings : AnySettings) (now : ℕ) → moment ≡ now
+        → LinkWent (opened settings now (OfPair (OfKeys engine rbc ke kr ra rb))) place.show place.number [] link out.old.items out.new.items) }
+{
+    let e = DrillEnd::Safe(Safe::initiator(engine, rbc, ke, rb));
+    let r = DrillEnd::Safe(Safe::responder(rbc, ra));
+    let mut link = Link::new(alloc, e, r, OneKey::new(engine, rbc, kr), moment);
+    link.give(alloc, place, &EndEvent::Start, out)?;
+    Ok(link)
 }
 
 impl World {
@@ -104,20 +155,20 @@ impl World {
         show: bool,
     ) -> Result<World, NoMemory>
         requires { AllAllowed settings }
-        ensures world { IfOk result (λ w. world_of w ≡ new_world) }
-        ensures holds { IfOk result (λ w. Holds w []) }
-        ensures show { IfOk result (λ w. w.show ≡ show) }
+        ensures ran { IfOk result (λ w. Ran w (record { level = level; settings = settings; show = show }) []) }
+        ensures plan { IfOk result (λ w. w.plan ≡ record { level = level; settings = settings; show = show }) }
         ensures unspent { IfOk result (λ w. w.spent ≡ false) }
     {
-        // Neither matters at level safe.
-        let _ = (level, settings);
         let mut places = Vec::with_capacity(alloc, PLACES)?;
         for _place in 0..PLACES {
             places.push(None)?;
         }
         Ok(World {
-            places,
+            level,
+            settings,
             show,
+            places,
+            moment: 0,
             spent: false,
         })
     }
@@ -132,15 +183,36 @@ impl World {
     /// Prints the closing lines, one for each link that was opened, their numbers rising. After want of memory nothing was printed.
     pub fn summary(&self, alloc: Global, out: &mut Vec<u8>) -> Result<(), NoMemory>
         requires { self.now.spent ≡ false }
-        ensures ok { OnOk result (out.new.items ≡ out.old.items ++ summary (world_of self.now)) }
+        ensures ok { OnOk result ((plan : Plan) (steps : List AnyStep) → Ran self.now plan steps
+            → out.new.items ≡ out.old.items ++ last_lines plan steps) }
         ensures err { OnErr result (out.new.items ≡ out.old.items) }
     {
         let mut text = Vec::new(alloc);
-        for (number, place) in self.places.iter().enumerate() {
-            close(alloc, number as u64, place, &mut text)?;
-        }
+        self.close(alloc, &mut text)?;
         out.extend_from_slice(text.as_slice())?;
         Ok(())
+    }
+
+    /// The closing lines, one after the other.
+    fn close(&self, alloc: Global, text: &mut Vec<u8>) -> Result<(), NoMemory>
+        ensures { OnOk result (text.new.items ≡ text.old.items ++ closing_lines self.now 1 64) }
+    {
+        let mut number = 1;
+        while number < 65 {
+            self.close_link(alloc, number, text)?;
+            number += 1;
+        }
+        Ok(())
+    }
+
+    /// The closing line of link N, if it was opened.
+    fn close_link(&self, alloc: Global, number: u8, text: &mut Vec<u8>) -> Result<(), NoMemory>
+        ensures { OnOk result (text.new.items ≡ text.old.items ++ place_closing number (kept_at self.now number)) }
+    {
+        match self.link(number) {
+            Some(link) => link.close(alloc, number, text),
+            None => Ok(()),
+        }
     }
 
     /// Link N, if it was opened.
@@ -155,7 +227,7 @@ impl World {
 
     /// The end of link N of which too many frames wait, if there is one.
     fn overfull(&self, number: u8) -> Option<Side>
-        ensures { result ≡ overfull_in (link_at (world_of self.now) number) }
+        ensures { result ≡ overfull_in (kept_at self.now number) }
     {
         match self.link(number) {
             Some(link) => link.overfull(),
@@ -163,9 +235,36 @@ impl World {
         }
     }
 
+    /// The first link of which too many frames wait, their numbers rising, and the end.
+    fn first_overfull(&self) -> Option<(u8, Side)>
+        ensures { result ≡ overfull_from self.now 1 64 }
+    {
+        let mut number = 1;
+        while number < 65 {
+            if let Some(side) = self.overfull(number) {
+                return Some((number, side));
+            }
+            number += 1;
+        }
+        None
+    }
+
+    /// The link, and the end, of which too many frames wait behind a step: only where the step may make frames wait.
+    fn overfull_by(&self, touched: Option<u8>) -> Option<(u8, Side)>
+        ensures { result ≡ overfull_by self.now touched }
+    {
+        match touched {
+            Some(number) => match self.overfull(number) {
+                Some(side) => Some((number, side)),
+                None => None,
+            },
+            None => self.first_overfull(),
+        }
+    }
+
     /// An end of a link of this world.
     fn place(&self, number: u8, side: Side) -> Place
-        ensures { result ≡ record { number = number; side = side; show = self.now.show } }
+        ensures { result ≡ record { number = number; side = side; show = self.now.plan.show } }
     {
         Place {
             number,
@@ -176,7 +275,7 @@ impl World {
 
     /// Link N is this link.
     fn open(&mut self, number: u8, link: Link)
-        requires { number ≤ 64 }
+        requires { number < 65 }
         ensures placed { self.new ≡ record self.old { links = slice_set self.old.links number (Some link) } }
         ensures inside { number < length self.old.links }
     {
@@ -188,48 +287,100 @@ impl World {
         &mut self,
         alloc: Global,
         number: u8,
-        e: Safe,
-        r: Safe,
+        engine: u32,
+        rbc: u32,
+        ke: TripleKey,
+        kr: TripleKey,
         out: &mut Vec<u8>,
     ) -> Result<(), WorldFault>
-        requires number { number ≤ 64 }
-        ensures does { Does (wants_none number (link_at (world_of self.old) number))
-            (λ _. opens_with (world_of self.old) number (link_at (world_of self.old) number) (joined e.safety r.safety [], []))
+        requires engine { IsEtcsNumber engine }
+        requires rbc { IsEtcsNumber rbc }
+        ensures does { Does (λ w. wants_closed number (link_at w number))
+            (λ w. open_link self.old.plan w number (link_at w number) (Some (OfPair (OfFixed engine rbc ke kr))))
             self.old self.new out.old.items out.new.items result }
-        ensures show { self.new.show ≡ self.old.show }
+        ensures plan { self.new.plan ≡ self.old.plan }
         ensures spent { self.new.spent ≡ self.old.spent }
     {
+        world_grows();
         if self.link(number).is_some() {
             return Err(WorldFault::LinkTwice(number));
         }
-        self.open(number, Link::new(alloc, e, r, OneKey::new(0, 0, None)));
+        if !is_link(number) {
+            return Err(WorldFault::NoLink(number));
+        }
+        let e = DrillEnd::Safe(Safe::fixed(engine, rbc, Role::Initiator, ke));
+        let r = DrillEnd::Safe(Safe::fixed(rbc, engine, Role::Responder, kr));
+        let link = Link::new(alloc, e, r, OneKey::new(engine, rbc, None), self.moment);
+        self.open(number, link);
         Ok(())
     }
 
-    /// Opens link N with two ends that aren't connected yet, and the engine begins the set-up.
+    /// Opens link N with two ends that aren't connected yet, and the engine begins the set-up. Only level safe is built.
     fn open_called(
         &mut self,
         alloc: Global,
         number: u8,
-        e: Safe,
-        r: Safe,
-        keys: OneKey,
+        engine: u32,
+        rbc: u32,
+        ke: TripleKey,
+        kr: Option<TripleKey>,
+        ra: u64,
+        rb: u64,
         out: &mut Vec<u8>,
     ) -> Result<(), WorldFault>
-        requires number { number ≤ 64 }
-        requires ready { state_of e.safety.phase ≡ state.Ready }
-        ensures does { Does (wants_none number (link_at (world_of self.old) number))
-            (λ _. opens_with (world_of self.old) number (link_at (world_of self.old) number) (give [] (joined e.safety r.safety keys) E Start))
+        requires engine { IsEtcsNumber engine }
+        requires rbc { IsEtcsNumber rbc }
+        ensures does { Does (λ w. wants_closed number (link_at w number))
+            (λ w. open_link self.old.plan w number (link_at w number) (link_opening self.old.plan.level engine rbc ke kr ra rb))
             self.old self.new out.old.items out.new.items result }
-        ensures show { self.new.show ≡ self.old.show }
+        ensures plan { self.new.plan ≡ self.old.plan }
         ensures spent { self.new.spent ≡ self.old.spent }
     {
+        world_grows();
         if self.link(number).is_some() {
             return Err(WorldFault::LinkTwice(number));
         }
-        let mut link = Link::new(alloc, e, r, keys);
-        link.start(alloc, self.place(number, Side::E), out)?;
-        self.open(number, link);
+        if !is_link(number) {
+            return Err(WorldFault::NoLink(number));
+        }
+        match self.level {
+            Level::Safe => {
+                let link = called(
+                    alloc,
+                    self.place(number, Side::E),
+                    engine,
+                    rbc,
+                    ke,
+                    kr,
+                    ra,
+                    rb,
+                    self.moment,
+                    out,
+                )?;
+                self.open(number, link);
+                Ok(())
+            }
+            Level::Link => Ok(()),
+            Level::Full => Ok(()),
+        }
+    }
+
+    /// Would open link N with two stations; they aren't built.
+    fn open_wire(&mut self, number: u8, out: &mut Vec<u8>) -> Result<(), WorldFault>
+        ensures does { Does (λ w. wants_closed number (link_at w number))
+            (λ w. open_link self.old.plan w number (link_at w number) (wire_opening self.old.plan.level))
+            self.old self.new out.old.items out.new.items result }
+        ensures plan { self.new.plan ≡ self.old.plan }
+        ensures spent { self.new.spent ≡ self.old.spent }
+    {
+        let _ = &*out;
+        world_grows();
+        if self.link(number).is_some() {
+            return Err(WorldFault::LinkTwice(number));
+        }
+        if !is_link(number) {
+            return Err(WorldFault::NoLink(number));
+        }
         Ok(())
     }
 
@@ -242,13 +393,16 @@ impl World {
         action: &Action,
         out: &mut Vec<u8>,
     ) -> Result<(), WorldFault>
-        requires { number ≤ 64 }
-        ensures does { Does (wants number (link_at (world_of self.old) number))
-            (λ seen. at seen (world_of self.old) number (link_at (world_of self.old) number) (action_step side action.now))
+        ensures does { Does (λ w. wants number (link_at w number))
+            (λ w. at_link w number (link_at w number) (action_step side action.now))
             self.old self.new out.old.items out.new.items result }
-        ensures show { self.new.show ≡ self.old.show }
+        ensures plan { self.new.plan ≡ self.old.plan }
         ensures spent { self.new.spent ≡ self.old.spent }
     {
+        world_grows();
+        if !is_link(number) {
+            return Err(WorldFault::NoLink(number));
+        }
         let place = self.place(number, side);
         let Some(link) = &mut self.places[number as usize] else {
             return Err(WorldFault::NoLink(number));
@@ -265,13 +419,15 @@ impl World {
         most: u32,
         out: &mut Vec<u8>,
     ) -> Result<(), WorldFault>
-        requires { number ≤ 64 }
-        ensures does { Does (wants number (link_at (world_of self.old) number))
-            (λ seen. drains seen (world_of self.old) number most (link_at (world_of self.old) number))
+        ensures does { Does (λ w. wants number (link_at w number)) (λ w. drain_link w number most (link_at w number))
             self.old self.new out.old.items out.new.items result }
-        ensures show { self.new.show ≡ self.old.show }
+        ensures plan { self.new.plan ≡ self.old.plan }
         ensures spent { self.new.spent ≡ self.old.spent }
     {
+        world_grows();
+        if !is_link(number) {
+            return Err(WorldFault::NoLink(number));
+        }
         let show = self.show;
         let Some(link) = &mut self.places[number as usize] else {
             return Err(WorldFault::NoLink(number));
@@ -289,13 +445,13 @@ impl World {
         to: Place,
         out: &mut Vec<u8>,
     ) -> Result<(), WorldFault>
-        requires { to.number ≤ 64 }
-        ensures does { Does (or_else (wants from.number (link_at (world_of self.old) from.number)) (wants to.number (link_at (world_of self.old) to.number)))
-            (λ seen. copies_from seen (world_of self.old) from.number from.side (link_at (world_of self.old) from.number) to.number to.side)
+        ensures does { Does (λ w. or_else (wants from.number (link_at w from.number)) (wants to.number (link_at w to.number)))
+            (λ w. copy_between w from.number from.side (link_at w from.number) to.number to.side (link_at w to.number))
             self.old self.new out.old.items out.new.items result }
-        ensures show { self.new.show ≡ self.old.show }
+        ensures plan { self.new.plan ≡ self.old.plan }
         ensures spent { self.new.spent ≡ self.old.spent }
     {
+        world_grows();
         let Some(source) = self.link(from.number) else {
             return Err(WorldFault::NoLink(from.number));
         };
@@ -306,16 +462,70 @@ impl World {
             print_empty(alloc, from, out)?;
             return Ok(());
         };
-        let put = Action::Disturb(Disturbance::Put(frame.as_slice()));
+        let put = Action::Change(LineChange::Put(frame.as_slice()));
         self.at(alloc, to.number, to.side, &put, out)
+    }
+
+    /// Both ends of link N are ticked, if it was opened.
+    fn tick_link(
+        &mut self,
+        alloc: Global,
+        number: u8,
+        moment: u64,
+        out: &mut Vec<u8>,
+    ) -> Result<(), NoMemory>
+        requires { number < 65 }
+        ensures went { OnOk result (WorldDoes (λ w. at_link w number (link_at w number) (Tick moment)) self.old self.new out.old.items out.new.items) }
+        ensures plan { self.new.plan ≡ self.old.plan }
+        ensures spent { self.new.spent ≡ self.old.spent }
+    {
+        world_grows();
+        let show = self.show;
+        let Some(link) = &mut self.places[number as usize] else {
+            return Ok(());
+        };
+        link.tick(alloc, number, show, moment, out)
+    }
+
+    /// Every end is ticked, the links' numbers rising, e before r.
+    fn tick_links(&mut self, alloc: Global, moment: u64, out: &mut Vec<u8>) -> Result<(), NoMemory>
+        ensures went { OnOk result (WorldDoes (λ w. ticks moment w 1 64) self.old self.new out.old.items out.new.items) }
+        ensures plan { self.new.plan ≡ self.old.plan }
+        ensures spent { self.new.spent ≡ self.old.spent }
+    {
+        world_grows();
+        let mut number = 1;
+        while number < 65 {
+            self.tick_link(alloc, number, moment, out)?;
+            number += 1;
+        }
+        Ok(())
+    }
+
+    /// The moment is set, and every end is ticked.
+    fn tick(&mut self, alloc: Global, moment: u64, out: &mut Vec<u8>) -> Result<(), WorldFault>
+        ensures does { Does (λ w. wants_moment w moment) (λ w. ticked w moment) self.old self.new out.old.items out.new.items result }
+        ensures plan { self.new.plan ≡ self.old.plan }
+        ensures spent { self.new.spent ≡ self.old.spent }
+    {
+        if moment < self.moment {
+            return Err(WorldFault::MomentBack {
+                was: self.moment,
+                now: moment,
+            });
+        }
+        self.moment = moment;
+        self.tick_links(alloc, moment, out)?;
+        Ok(())
     }
 
     /// One step, but for the test that not too many frames wait.
     fn go(&mut self, alloc: Global, step: &Step, out: &mut Vec<u8>) -> Result<(), WorldFault>
-        requires { IsInRange step.now }
-        ensures does { Does (refusal (world_of self.old) step.now) (λ seen. move seen (world_of self.old) step.now)
+        requires level { IsOfLevel self.old.plan.level step.now }
+        requires numbers { HasEtcsNumbers step.now }
+        ensures does { Does (λ w. refusal w step.now) (λ w. world_step self.old.plan w step.now)
             self.old self.new out.old.items out.new.items result }
-        ensures show { self.new.show ≡ self.old.show }
+        ensures plan { self.new.plan ≡ self.old.plan }
         ensures spent { self.new.spent ≡ self.old.spent }
     {
         match step {
@@ -325,11 +535,7 @@ impl World {
                 rbc,
                 ke,
                 kr,
-            } => {
-                let e = Safe::fixed(*engine, *rbc, Role::Initiator, *ke);
-                let r = Safe::fixed(*rbc, *engine, Role::Responder, *kr);
-                self.open_fixed(alloc, *link, e, r, out)
-            }
+            } => self.open_fixed(alloc, *link, *engine, *rbc, *ke, *kr, out),
             Step::Link {
                 link,
                 engine,
@@ -338,22 +544,18 @@ impl World {
                 kr,
                 ra,
                 rb,
-            } => {
-                let e = Safe::initiator(*engine, *rbc, *ke, *rb);
-                let r = Safe::responder(*rbc, *ra);
-                let keys = OneKey::new(*engine, *rbc, *kr);
-                self.open_called(alloc, *link, e, r, keys, out)
-            }
+            } => self.open_called(alloc, *link, *engine, *rbc, *ke, *kr, *ra, *rb, out),
+            Step::Wire { link } => self.open_wire(*link, out),
             Step::Send { link, side, text } => {
                 self.at(alloc, *link, *side, &Action::Send(text.as_slice()), out)
             }
             Step::Pass { link, side } => self.at(alloc, *link, *side, &Action::Pass, out),
             Step::Lose { link, side } => {
-                let lose = Action::Disturb(Disturbance::Lose);
+                let lose = Action::Change(LineChange::Lose);
                 self.at(alloc, *link, *side, &lose, out)
             }
             Step::Repeat { link, side } => {
-                let repeat = Action::Disturb(Disturbance::Repeat);
+                let repeat = Action::Change(LineChange::Repeat);
                 self.at(alloc, *link, *side, &repeat, out)
             }
             Step::Alter {
@@ -362,14 +564,14 @@ impl World {
                 place,
                 mask,
             } => {
-                let alter = Action::Disturb(Disturbance::Alter {
+                let alter = Action::Change(LineChange::Alter {
                     place: *place,
                     mask: *mask,
                 });
                 self.at(alloc, *link, *side, &alter, out)
             }
             Step::Put { link, side, text } => {
-                let put = Action::Disturb(Disturbance::Put(text.as_slice()));
+                let put = Action::Change(LineChange::Put(text.as_slice()));
                 self.at(alloc, *link, *side, &put, out)
             }
             Step::Copy {
@@ -382,56 +584,78 @@ impl World {
                 let to = self.place(*to_link, *to_side);
                 self.copy(alloc, from, to, out)
             }
+            Step::Take { link, side } => self.at(alloc, *link, *side, &Action::Take, out),
             Step::Release { link, side, sub } => {
                 self.at(alloc, *link, *side, &Action::Release(*sub), out)
             }
+            Step::Tick { moment } => self.tick(alloc, *moment, out),
             Step::Drain { link, most } => self.drain(alloc, *link, *most, out),
         }
     }
 
-    /// Ends a step that touched link N: tests that not too many frames wait, and prints what came of it.
-    fn end(&mut self, number: u8, text: &[u8], out: &mut Vec<u8>) -> Result<(), WorldFault>
-        ensures { Ends (overfull_fault number (overfull_in (link_at (world_of self.old) number))) text.now self.old self.new out.old.items out.new.items result }
+    /// After a step that wasn't done: a refused one leaves the world as it was, and after the others it is spent.
+    fn leave(&mut self, fault: WorldFault)
+        ensures { self.new ≡ left_by fault self.old }
     {
-        if let Some(side) = self.overfull(number) {
+        match fault {
+            WorldFault::NoLink(_) => {}
+            WorldFault::LinkTwice(_) => {}
+            WorldFault::MomentBack { .. } => {}
+            WorldFault::Overfull { .. } => {
+                self.spent = true;
+            }
+            WorldFault::NoMemory(_) => {
+                self.spent = true;
+            }
+        }
+    }
+
+    /// Ends a step: tests that not too many frames wait, and prints what came of it.
+    fn end(&mut self, touched: Option<u8>, text: &[u8], out: &mut Vec<u8>) -> Result<(), WorldFault>
+        ensures { Ends (overfull_by self.old touched) text.now self.old self.new out.old.items out.new.items result }
+    {
+        if let Some((link, side)) = self.overfull_by(touched) {
             self.spent = true;
             return Err(WorldFault::Overfull {
-                link: number,
+                link,
                 side,
                 most: MOST_WAITING,
             });
         }
         match out.extend_from_slice(text) {
             Ok(()) => Ok(()),
-            Err(_) => {
+            Err(refused) => {
                 self.spent = true;
-                Err(WorldFault::NoMemory)
+                Err(WorldFault::NoMemory(NoMemory::from(refused)))
             }
         }
     }
 
     /// One step; what came of it is printed.
     ///
-    /// A refused step, [`WorldFault::NoLink`] and [`WorldFault::LinkTwice`], leaves the world as it was. After
-    /// [`WorldFault::Overfull`] and want of memory the world is spent. After any fault nothing was printed.
+    /// A refused step, [`WorldFault::NoLink`], [`WorldFault::LinkTwice`] and [`WorldFault::MomentBack`], leaves the world as it was.
+    /// After [`WorldFault::Overfull`] and want of memory the world is spent. After any fault nothing was printed.
     pub fn apply(&mut self, alloc: Global, step: &Step, out: &mut Vec<u8>) -> Result<(), WorldFault>
-        requires range { IsInRange step.now }
+        requires level { IsOfLevel self.old.plan.level step.now }
+        requires numbers { HasEtcsNumbers step.now }
         requires unspent { self.old.spent ≡ false }
-        ensures ok { OnOk result ((seen : List Came) → Holds self.old seen → Applied seen self.old step.now self.new out.old.items out.new.items) }
-        ensures fault { IfErr result (λ fault. IsFault self.old step.now fault) }
+        ensures ok { OnOk result ((plan : Plan) (before : List AnyStep) → Ran self.old plan before
+            → Applied plan before step.now self.new out.old.items out.new.items) }
+        ensures fault { IfErr result (λ fault. (plan : Plan) (before : List AnyStep) → Ran self.old plan before
+            → IsFaultBehind plan before step.now fault) }
         ensures left { IfErr result (λ fault. LeavesIt fault self.old self.new) }
         ensures out { OnErr result (out.new.items ≡ out.old.items) }
         ensures unspent { OnOk result (self.new.spent ≡ false) }
-        ensures show { self.new.show ≡ self.old.show }
+        ensures plan { self.new.plan ≡ self.old.plan }
     {
+        drill_model::laws::runs_grow();
         let mut text = Vec::new(alloc);
         match self.go(alloc, step, &mut text) {
             Ok(()) => self.end(touched(step), text.as_slice(), out),
-            Err(WorldFault::NoMemory) => {
-                self.spent = true;
-                Err(WorldFault::NoMemory)
+            Err(fault) => {
+                self.leave(fault);
+                Err(fault)
             }
-            Err(fault) => Err(fault),
         }
     }
 }

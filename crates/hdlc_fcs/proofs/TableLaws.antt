@@ -1,17 +1,12 @@
--- The table of 256 entries gives eight shifts at once, since shifting carries the exclusive or through.
-use Rattle.std.proofs.Common.{◌≡◌, ℕ, zero, suc, ◌+◌, ◌*◌, ◌/◌, ◌%◌, ◌^◌, ◌<◌, refl, sym, ◌∙◌, ap, arith, bit_xor, true, ◌==◌}
-use Rattle.std.specs.Prelude.{slice_index}
-use Rattle.std.specs.Int.Bits.{xor_assoc, xor_comm, xor_zero_r, xor_shifted}
+-- The tables give eight shifts and more at once, since shifting carries the exclusive or through.
+use Rattle.std.proofs.Common.{◌≡◌, ℕ, zero, suc, ◌+◌, ◌*◌, ◌/◌, ◌%◌, ◌^◌, ◌<◌, refl, sym, ◌∙◌, ap, arith, bit_xor, true, ◌==◌, [], get_or}
+use Rattle.std.specs.Int.Bits.{xor_zero_r, xor_shifted}
 use Rattle.std.proofs.lemmas.Nat.{xor_shr, xor_mod}
 use Rattle.std.proofs.lemmas.Bool.{agree_below_at, eqb-true}
 use Rattle.std.proofs.lemmas.Grind.{pow_more}
+use Rattle.bit_lists.proofs.Linear.{xor_crossed}
 use Rattle.hdlc_fcs.specs.Register.{shifted_once, shifted}
-use Rattle.hdlc_fcs.specs.declared.table.TheConstants.{TABLE}
-
-xor_crossed : (a b c d : ℕ) → bit_xor (bit_xor a b) (bit_xor c d) ≡ bit_xor (bit_xor a c) (bit_xor b d)
-xor_crossed a b c d =
-    xor_assoc a b (bit_xor c d) ∙ ap (λ x. bit_xor a x) (sym (xor_assoc b c d) ∙ ap (λ x. bit_xor x d) (xor_comm b c) ∙ xor_assoc c b d)
-    ∙ sym (xor_assoc a c (bit_xor b d))
+use Rattle.hdlc_fcs.specs.declared.table.TheConstants.{TABLES}
 
 taps : (x y : ℕ) → x < 2 → y < 2 → bit_xor x y * 0x8408 ≡ bit_xor (x * 0x8408) (y * 0x8408)
 taps zero zero h k = refl
@@ -35,7 +30,7 @@ shifted-xor zero a b = refl
 shifted-xor (suc n) a b = ap (shifted n) (shifted_once-xor a b) ∙ shifted-xor n (shifted_once a) (shifted_once b)
 
 -- bits that leave the register before they reach its low end: n shifts of k * 2 ^ n are k
-shifted-high : (n k : ℕ) → shifted n (k * 2 ^ n) ≡ k
+pub shifted-high : (n k : ℕ) → shifted n (k * 2 ^ n) ≡ k
 unfolding shifted shifted_once
 shifted-high zero k = omega arith
 shifted-high (suc n) k =
@@ -54,7 +49,21 @@ shifted_octet r =
     let whole : bit_xor (r / 2 ^ 8 * 2 ^ 8) (r % 2 ^ 8) ≡ r = xor_shifted (r / 2 ^ 8) 8 (r % 2 ^ 8) small ∙ omega arith in
     ap (shifted 8) (sym whole) ∙ shifted-xor 8 (r / 2 ^ 8 * 2 ^ 8) (r % 2 ^ 8) ∙ ap (λ x. bit_xor x (shifted 8 (r % 2 ^ 8))) (shifted-high 8 (r / 2 ^ 8))
 
--- each entry of the table is eight shifts of its place
-pub table_at : (place : ℕ) → place < 256 → slice_index TABLE place ≡ shifted 8 place
+-- ---- the tables
+
+-- an entry of the eight tables, one behind the other
+abbrev entry_at : ℕ → ℕ
+entry_at i = get_or (get_or TABLES (i / 256) []) (i % 256) 0
+
+-- each entry is the shifts of its place
+entry_value : (i : ℕ) → i < 2048 → entry_at i ≡ shifted (8 * (i / 256 + 1)) (i % 256)
 unfolding shifted shifted_once
-table_at place h = eqb-true _ _ (agree_below_at (λ b. slice_index TABLE b == shifted 8 b) (λ _. true) 256 place refl h)
+entry_value i h = eqb-true _ _ (agree_below_at (λ j. entry_at j == shifted (8 * (j / 256 + 1)) (j % 256)) (λ _. true) 2048 i refl h)
+
+pub table_at : (behind octet : ℕ) → behind < 8 → octet < 256 → get_or (get_or TABLES behind []) octet 0 ≡ shifted (8 * (behind + 1)) octet
+table_at behind octet h k =
+    let i : ℕ = behind * 256 + octet in
+    let row : i / 256 ≡ behind = omega arith in
+    let place : i % 256 ≡ octet = omega arith in
+    let here = entry_value i (omega arith) in
+    rw (row, place) at here

@@ -1,2 +1,4 @@
 pub mod FrameCheck
 pub mod Register
+pub mod Contents
+pub mod Laws

@@ -1,7 +1,7 @@
 //! Values of the check sequence from outside.
 
-use super::plain::fcs_by_bits;
-use super::{Running, fcs};
+use super::plain::{fcs_by_bits, fcs_by_octets};
+use super::{Running, check_octets, fcs, is_intact};
 
 // The check sequences of 300 strings of pseudo-random octets; string n has n octets. The strings go on in
 // one sequence: a number begins at 1, each octet takes it to number * 1664525 + 1013904223 modulo 2^32 and
@@ -38,6 +38,7 @@ const OTHERS: [u16; 300] = [
 #[test]
 fn check_value_of_the_nine_digits(rt: HostRuntime) {
     assert_eq!(rt; fcs(b"123456789"), 0x906e);
+    assert_eq!(rt; fcs_by_octets(b"123456789"), 0x906e);
     assert_eq!(rt; fcs_by_bits(b"123456789"), 0x906e);
     let mut running = Running::new();
     running.add(b"1234");
@@ -63,10 +64,22 @@ fn agrees_with_another_implementation(rt: HostRuntime) {
         }
         let string = &octets[..count];
         assert_eq!(rt; fcs(string), *other);
+        assert_eq!(rt; fcs_by_octets(string), *other);
         assert_eq!(rt; fcs_by_bits(string), *other);
         let mut running = Running::new();
         running.add(&string[..count / 3]);
         running.add(&string[count / 3..]);
         assert_eq!(rt; running.value(), *other);
     }
+}
+
+// The content of the frame 7e013febdf7e, and what becomes of it.
+#[test]
+fn contents(rt: HostRuntime) {
+    assert_eq!(rt; check_octets(0x01, &[0x3f]), [0xeb, 0xdf]);
+    assert!(rt; is_intact(&[0x01, 0x3f, 0xeb, 0xdf]));
+    assert!(rt; !is_intact(&[0x01, 0x3f, 0xea, 0xdf]));
+    assert!(rt; !is_intact(&[0x01, 0x3f, 0xdf, 0xeb]));
+    assert!(rt; !is_intact(&[0x01]));
+    assert_eq!(rt; fcs(&[0x01, 0x3f, 0xeb, 0xdf]), 0x0f47);
 }

@@ -6,7 +6,8 @@ use Rattle.hdlc_frames.specs.Shown.{shown}
 use Rattle.hdlc_frames.specs.declared.found.Found.{Found}
 use Rattle.std.proofs.lemmas.Bool.{cases_Bool}
 use Rattle.hdlc_frames.specs.Framing.{flag, escape, Verdict, unescaped, ends_in_escape, verdict_on, has_octets, frames_of, cut}
-use Rattle.hdlc_frames.specs.Deframing.{Kept, after_flag, after_inner, after_octet, closing, verdict_at, Fed, fed_octet, fed, open_piece, kept_since, kept_of}
+use Rattle.hdlc_frames.specs.Deframing.{Kept, after_flag, Feeding, open_piece, kept_since, kept_of}
+use Rattle.hdlc_frames.specs.Scanning.{after_inner, after_octet, closing_verdict, verdict_at, octet_scan, scan_of}
 use Rattle.hdlc_frames.proofs.StreamLaws.{behind, verdicts_on, closed_by, frames_from, piece_from, closed_by-flag, closed_by-other, behind-flag, behind-other, behind-before, frames_from-cons, piece_from-cons, frames_from-nil, piece_from-nil, frames_of-append, open_piece-append, closed_by-none}
 use Rattle.hdlc_frames.proofs.PieceLaws.{added, opens, ends_in_escape-push, unescaped-push, has_content, take-push, verdict_on_kept, has_octets-take}
 
@@ -23,7 +24,7 @@ kept_since-none : kept_since None ≡ record { begun = false; escaping = false; 
 unfolding kept_since
 kept_since-none = refl
 
-kept_since-flag : kept_since (Some []) ≡ after_flag
+pub kept_since-flag : kept_since (Some []) ≡ after_flag
 unfolding kept_since unescaped ends_in_escape
 kept_since-flag = refl
 
@@ -67,11 +68,11 @@ kept_since-octet s x =
 
 -- ---- the verdict that one octet brings
 
-closing_empty : option_to_list (closing (kept_with (ends_in_escape [] false) (unescaped [] false))) ≡ verdicts_on ([] ∷ [])
+closing_empty : option_to_list (closing_verdict (kept_with (ends_in_escape [] false) (unescaped [] false))) ≡ verdicts_on ([] ∷ [])
 unfolding verdicts_on unescaped ends_in_escape
 closing_empty = refl
 
-closing_some : (x : ℕ) (p : List ℕ) (b : Bool) → ends_in_escape (x ∷ p) false ≡ b → option_to_list (closing (kept_with b (unescaped (x ∷ p) false))) ≡ verdicts_on ((x ∷ p) ∷ [])
+closing_some : (x : ℕ) (p : List ℕ) (b : Bool) → ends_in_escape (x ∷ p) false ≡ b → option_to_list (closing_verdict (kept_with b (unescaped (x ∷ p) false))) ≡ verdicts_on ((x ∷ p) ∷ [])
 unfolding verdicts_on verdict_on
 closing_some x p true e = rw e refl
 closing_some x p false e =
@@ -79,13 +80,13 @@ closing_some x p false e =
     let kept : has_octets (take 1033 (unescaped (x ∷ p) false)) ≡ true = has_octets-take 1032 (unescaped (x ∷ p) false) ∙ some in
     rw (e, kept, verdict_on_kept (unescaped (x ∷ p) false)) refl
 
-closing_piece : (p : List ℕ) → option_to_list (closing (kept_with (ends_in_escape p false) (unescaped p false))) ≡ verdicts_on (p ∷ [])
+closing_piece : (p : List ℕ) → option_to_list (closing_verdict (kept_with (ends_in_escape p false) (unescaped p false))) ≡ verdicts_on (p ∷ [])
 closing_piece [] = closing_empty
 closing_piece (x ∷ p) = closing_some x p (ends_in_escape (x ∷ p) false) refl
 
-closing_of : (s : Option (List ℕ)) (x : ℕ) → (x == flag) ≡ true → option_to_list (closing (kept_since s)) ≡ closed_by s x
-closing_of None x t = ap (λ (k : Kept). option_to_list (closing k)) kept_since-none ∙ sym (closed_by-none x)
-closing_of (Some p) x t = ap (λ (k : Kept). option_to_list (closing k)) (kept_since-some p) ∙ closing_piece p ∙ sym (closed_by-flag p x t)
+closing_of : (s : Option (List ℕ)) (x : ℕ) → (x == flag) ≡ true → option_to_list (closing_verdict (kept_since s)) ≡ closed_by s x
+closing_of None x t = ap (λ (k : Kept). option_to_list (closing_verdict k)) kept_since-none ∙ sym (closed_by-none x)
+closing_of (Some p) x t = ap (λ (k : Kept). option_to_list (closing_verdict k)) (kept_since-some p) ∙ closing_piece p ∙ sym (closed_by-flag p x t)
 
 pub verdict_of_octet : (s : Option (List ℕ)) (x : ℕ) → option_to_list (verdict_at (kept_since s) x) ≡ closed_by s x
 verdict_of_octet s x =
@@ -96,8 +97,8 @@ verdict_of_octet s x =
 
 -- ---- a piece
 
--- what feeding a piece gives, where the piece `s` stands behind the newest flag
-pub record Answers (s : Option (List ℕ)) (piece : List ℕ) (f : Fed) : Type 0 where
+-- what going through a piece gives, where the piece `s` stands behind the newest flag
+pub record Answers (s : Option (List ℕ)) (piece : List ℕ) (f : Feeding) : Type 0 where
   pub within : f.used ≤ length piece
   pub kept : f.kept ≡ kept_since (piece_from s (take f.used piece))
   pub verdict : frames_from s (take f.used piece) ≡ option_to_list f.verdict
@@ -112,8 +113,8 @@ nothing_before : (s : Option (List ℕ)) (x : ℕ) (xs : List ℕ) (k : ℕ) →
 nothing_before s x xs zero lt = frames_from-nil s
 nothing_before s x xs (suc k) lt = absurd (omega arith)
 
-answers_more : (s : Option (List ℕ)) (x : ℕ) (xs : List ℕ) (rest : Fed) (v : Option Verdict) → option_to_list v ≡ closed_by s x → Answers (behind s x) xs rest
-    → Answers s (x ∷ xs) (fed_octet (kept_since (behind s x)) v rest)
+answers_more : (s : Option (List ℕ)) (x : ℕ) (xs : List ℕ) (rest : Feeding) (v : Option Verdict) → option_to_list v ≡ closed_by s x → Answers (behind s x) xs rest
+    → Answers s (x ∷ xs) (octet_scan (kept_since (behind s x)) v rest)
 answers_more s x xs rest None e h =
     let none : closed_by s x ≡ [] = sym e in
     record {
@@ -132,10 +133,10 @@ answers_more s x xs rest (Some v) e h =
       whole = λ n. cc;
     }
 
-pub answers : (piece : List ℕ) (s : Option (List ℕ)) → Answers s piece (fed (kept_since s) piece)
+pub answers : (piece : List ℕ) (s : Option (List ℕ)) → Answers s piece (scan_of (kept_since s) piece)
 answers [] s = record { within = omega arith; kept = ap kept_since (sym (piece_from-nil s)); verdict = frames_from-nil s; first = λ k lt. absurd (omega arith); whole = λ n. refl }
 answers (x ∷ xs) s =
-    rw (kept_since-octet s x) (answers_more s x xs (fed (kept_since (behind s x)) xs) (verdict_at (kept_since s) x) (verdict_of_octet s x) (answers xs (behind s x)))
+    rw (kept_since-octet s x) (answers_more s x xs (scan_of (kept_since (behind s x)) xs) (verdict_at (kept_since s) x) (verdict_of_octet s x) (answers xs (behind s x)))
 
 pub kept_of-nothing : kept_of [] ≡ record { begun = false; escaping = false; content = [] }
 unfolding kept_of kept_since open_piece cut
@@ -143,75 +144,75 @@ kept_of-nothing = refl
 
 -- ---- a piece behind a stream
 
-pub fed_answers : (stream piece : List ℕ) → Answers (open_piece stream) piece (fed (kept_of stream) piece)
+pub scan_answers : (stream piece : List ℕ) → Answers (open_piece stream) piece (scan_of (kept_of stream) piece)
 unfolding kept_of
-fed_answers stream piece = answers piece (open_piece stream)
+scan_answers stream piece = answers piece (open_piece stream)
 
-pub fed_within : (stream piece : List ℕ) → (fed (kept_of stream) piece).used ≤ length piece
-fed_within stream piece = (fed_answers stream piece).within
+pub scan_within : (stream piece : List ℕ) → (scan_of (kept_of stream) piece).used ≤ length piece
+scan_within stream piece = (scan_answers stream piece).within
 
-pub fed_frames : (stream piece : List ℕ) → frames_of (stream ++ take (fed (kept_of stream) piece).used piece) ≡ frames_of stream ++ option_to_list (fed (kept_of stream) piece).verdict
-fed_frames stream piece =
-    frames_of-append stream (take (fed (kept_of stream) piece).used piece) ∙ ap (λ v. frames_of stream ++ v) (fed_answers stream piece).verdict
+pub scan_frames : (stream piece : List ℕ) → frames_of (stream ++ take (scan_of (kept_of stream) piece).used piece) ≡ frames_of stream ++ option_to_list (scan_of (kept_of stream) piece).verdict
+scan_frames stream piece =
+    frames_of-append stream (take (scan_of (kept_of stream) piece).used piece) ∙ ap (λ v. frames_of stream ++ v) (scan_answers stream piece).verdict
 
-kept_of-is : (stream : List ℕ) → kept_of stream ≡ kept_since (open_piece stream)
+pub kept_of-is : (stream : List ℕ) → kept_of stream ≡ kept_since (open_piece stream)
 unfolding kept_of
 kept_of-is stream = refl
 
-pub fed_kept : (stream piece : List ℕ) → kept_of (stream ++ take (fed (kept_of stream) piece).used piece) ≡ (fed (kept_of stream) piece).kept
-fed_kept stream piece =
-    kept_of-is (stream ++ take (fed (kept_of stream) piece).used piece)
-    ∙ ap kept_since (open_piece-append stream (take (fed (kept_of stream) piece).used piece)) ∙ sym (fed_answers stream piece).kept
+pub scan_kept : (stream piece : List ℕ) → kept_of (stream ++ take (scan_of (kept_of stream) piece).used piece) ≡ (scan_of (kept_of stream) piece).kept
+scan_kept stream piece =
+    kept_of-is (stream ++ take (scan_of (kept_of stream) piece).used piece)
+    ∙ ap kept_since (open_piece-append stream (take (scan_of (kept_of stream) piece).used piece)) ∙ sym (scan_answers stream piece).kept
 
-pub fed_first : (stream piece : List ℕ) (k : ℕ) → k < (fed (kept_of stream) piece).used → frames_of (stream ++ take k piece) ≡ frames_of stream
-fed_first stream piece k lt =
-    frames_of-append stream (take k piece) ∙ ap (λ v. frames_of stream ++ v) ((fed_answers stream piece).first k lt) ∙ append-nil (frames_of stream)
+pub scan_first : (stream piece : List ℕ) (k : ℕ) → k < (scan_of (kept_of stream) piece).used → frames_of (stream ++ take k piece) ≡ frames_of stream
+scan_first stream piece k lt =
+    frames_of-append stream (take k piece) ∙ ap (λ v. frames_of stream ++ v) ((scan_answers stream piece).first k lt) ∙ append-nil (frames_of stream)
 
-fed_whole_more : (v : Option Verdict) (k : Kept) (rest : Fed) (n : ℕ) → (rest.verdict ≡ None → rest.used ≡ n) → (fed_octet k v rest).verdict ≡ None → (fed_octet k v rest).used ≡ suc n
-fed_whole_more None k rest n h e = omega (arith, h e)
-fed_whole_more (Some v) k rest n h e = cc
+scan_whole_more : (v : Option Verdict) (k : Kept) (rest : Feeding) (n : ℕ) → (rest.verdict ≡ None → rest.used ≡ n) → (octet_scan k v rest).verdict ≡ None → (octet_scan k v rest).used ≡ suc n
+scan_whole_more None k rest n h e = omega (arith, h e)
+scan_whole_more (Some v) k rest n h e = cc
 
 -- whatever is kept, a piece that closes nothing is used whole
-pub fed_whole : (piece : List ℕ) (k : Kept) → (fed k piece).verdict ≡ None → (fed k piece).used ≡ length piece
-fed_whole [] k n = refl
-fed_whole (x ∷ xs) k n = fed_whole_more (verdict_at k x) (after_octet k x) (fed (after_octet k x) xs) (length xs) (fed_whole xs (after_octet k x)) n
+pub scan_whole : (piece : List ℕ) (k : Kept) → (scan_of k piece).verdict ≡ None → (scan_of k piece).used ≡ length piece
+scan_whole [] k n = refl
+scan_whole (x ∷ xs) k n = scan_whole_more (verdict_at k x) (after_octet k x) (scan_of (after_octet k x) xs) (length xs) (scan_whole xs (after_octet k x)) n
 
-fed_within_more : (v : Option Verdict) (k : Kept) (rest : Fed) (n : ℕ) → rest.used ≤ n → (fed_octet k v rest).used ≤ suc n
-fed_within_more None k rest n h = omega arith
-fed_within_more (Some v) k rest n h = omega arith
+scan_within_more : (v : Option Verdict) (k : Kept) (rest : Feeding) (n : ℕ) → rest.used ≤ n → (octet_scan k v rest).used ≤ suc n
+scan_within_more None k rest n h = omega arith
+scan_within_more (Some v) k rest n h = omega arith
 
-fed_within_any : (piece : List ℕ) (k : Kept) → (fed k piece).used ≤ length piece
-fed_within_any [] k = omega arith
-fed_within_any (x ∷ xs) k = fed_within_more (verdict_at k x) (after_octet k x) (fed (after_octet k x) xs) (length xs) (fed_within_any xs (after_octet k x))
+scan_within_any : (piece : List ℕ) (k : Kept) → (scan_of k piece).used ≤ length piece
+scan_within_any [] k = omega arith
+scan_within_any (x ∷ xs) k = scan_within_more (verdict_at k x) (after_octet k x) (scan_of (after_octet k x) xs) (length xs) (scan_within_any xs (after_octet k x))
 
 -- ---- the same of a call's results
 
-pub feed_frames : (k : Kept) (stream piece : List ℕ) (n : ℕ) (v : Option Verdict) → n ≡ (fed k piece).used → v ≡ (fed k piece).verdict → k ≡ kept_of stream
+pub feed_frames : (k : Kept) (stream piece : List ℕ) (n : ℕ) (v : Option Verdict) → n ≡ (scan_of k piece).used → v ≡ (scan_of k piece).verdict → k ≡ kept_of stream
     → frames_of (stream ++ take n piece) ≡ frames_of stream ++ option_to_list v
 feed_frames k stream piece n v used verdict e =
-    let whole : k ≡ kept_of stream → frames_of (stream ++ take (fed k piece).used piece) ≡ frames_of stream ++ option_to_list (fed k piece).verdict = λ h. rw h (fed_frames stream piece) in
+    let whole : k ≡ kept_of stream → frames_of (stream ++ take (scan_of k piece).used piece) ≡ frames_of stream ++ option_to_list (scan_of k piece).verdict = λ h. rw h (scan_frames stream piece) in
     rw (used, verdict) (whole e)
 
-pub feed_first : (k : Kept) (stream piece : List ℕ) (n : ℕ) → n ≡ (fed k piece).used → k ≡ kept_of stream → (j : ℕ) → j < n → frames_of (stream ++ take j piece) ≡ frames_of stream
+pub feed_first : (k : Kept) (stream piece : List ℕ) (n : ℕ) → n ≡ (scan_of k piece).used → k ≡ kept_of stream → (j : ℕ) → j < n → frames_of (stream ++ take j piece) ≡ frames_of stream
 feed_first k stream piece n used e j lt =
-    let same : n ≡ (fed (kept_of stream) piece).used = used ∙ ap (λ (h : Kept). (fed h piece).used) e in
-    fed_first stream piece j (rw same at lt)
+    let same : n ≡ (scan_of (kept_of stream) piece).used = used ∙ ap (λ (h : Kept). (scan_of h piece).used) e in
+    scan_first stream piece j (rw same at lt)
 
-pub feed_whole : (k : Kept) (piece : List ℕ) (n : ℕ) (found : Option Found) → n ≡ (fed k piece).used → option_map shown found ≡ (fed k piece).verdict → IsNone found → n ≡ length piece
-feed_whole k piece n None used verdict h = used ∙ fed_whole piece k (sym verdict)
+pub feed_whole : (k : Kept) (piece : List ℕ) (n : ℕ) (found : Option Found) → n ≡ (scan_of k piece).used → option_map shown found ≡ (scan_of k piece).verdict → IsNone found → n ≡ length piece
+feed_whole k piece n None used verdict h = used ∙ scan_whole piece k (sym verdict)
 feed_whole k piece n (Some f) used verdict h = cc
 
-pub feed_within : (k : Kept) (piece : List ℕ) (n : ℕ) → n ≡ (fed k piece).used → n ≤ length piece
-feed_within k piece n used = rw used (fed_within_any piece k)
+pub feed_within : (k : Kept) (piece : List ℕ) (n : ℕ) → n ≡ (scan_of k piece).used → n ≤ length piece
+feed_within k piece n used = rw used (scan_within_any piece k)
 
-octet_used : (v : Option Verdict) (k : Kept) (rest : Fed) → 0 < (fed_octet k v rest).used
+octet_used : (v : Option Verdict) (k : Kept) (rest : Feeding) → 0 < (octet_scan k v rest).used
 octet_used None k rest = omega arith
 octet_used (Some v) k rest = omega arith
 
 -- a piece with octets is used by one octet at least
-pub fed_moves : (piece : List ℕ) (k : Kept) → 0 < length piece → 0 < (fed k piece).used
-fed_moves [] k h = absurd (omega arith)
-fed_moves (x ∷ xs) k h = octet_used (verdict_at k x) (after_octet k x) (fed (after_octet k x) xs)
+pub scan_moves : (piece : List ℕ) (k : Kept) → 0 < length piece → 0 < (scan_of k piece).used
+scan_moves [] k h = absurd (omega arith)
+scan_moves (x ∷ xs) k h = octet_used (verdict_at k x) (after_octet k x) (scan_of (after_octet k x) xs)
 
-pub feed_moves : (k : Kept) (piece : List ℕ) (n : ℕ) → n ≡ (fed k piece).used → 0 < length piece → 0 < n
-feed_moves k piece n used h = rw used (fed_moves piece k h)
+pub feed_moves : (k : Kept) (piece : List ℕ) (n : ℕ) → n ≡ (scan_of k piece).used → 0 < length piece → 0 < n
+feed_moves k piece n used h = rw used (scan_moves piece k h)

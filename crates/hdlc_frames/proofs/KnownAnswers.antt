@@ -2,8 +2,9 @@
 use Rattle.std.proofs.Common.{◌≡◌, [], ◌∷◌, refl, false}
 use Rattle.bit_lists.specs.LowestFirst.{low_bits, low_number}
 use Rattle.hdlc_fcs.specs.FrameCheck.{fcs_of, fcs_bits, dividend, remainder, divided_once, add_front, sent_bits}
-use Rattle.hdlc_frames.specs.Framing.{Frame, BadFcs, TooShort, Aborted, unescaped, ends_in_escape, checked_part, check_number, verdict_on_content, verdict_on, cut, all_but_last, between_flags, frames_of}
-use Rattle.hdlc_frames.specs.Spelling.{content_of, escaped_octet, escaped, spelling}
+use Rattle.hdlc_fcs.specs.Contents.{content_of, checked_part, check_number}
+use Rattle.hdlc_frames.specs.Framing.{Frame, BadFcs, TooShort, Aborted, unescaped, ends_in_escape, verdict_on_content, verdict_on, cut, all_but_last, between_flags, frames_of}
+use Rattle.hdlc_frames.specs.Spelling.{escaped_octet, escaped, spelling}
 
 one_frame : frames_of (0x7e ∷ 0x01 ∷ 0x3f ∷ 0xeb ∷ 0xdf ∷ 0x7e ∷ []) ≡ Frame 0x01 (0x3f ∷ []) ∷ []
 unfolding frames_of between_flags all_but_last cut verdict_on verdict_on_content checked_part check_number unescaped ends_in_escape fcs_of fcs_bits dividend remainder divided_once add_front sent_bits low_bits low_number

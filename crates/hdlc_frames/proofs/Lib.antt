@@ -8,3 +8,6 @@ pub mod FirstCloseLaws
 pub mod SpellingLaws
 pub mod WritingLaws
 pub mod ControlLaws
+pub mod ScanningLaws
+pub mod StreamOfLaws
+pub mod WrittenLaws

@@ -1,10 +1,11 @@
 -- The octets between two flags: what they stand for after one octet more.
-use Rattle.std.proofs.Common.{◌≡◌, ℕ, zero, suc, ◌+◌, ◌-◌, ◌<◌, ◌≤◌, Bool, true, false, ◌==◌, List, [], ◌∷◌, ◌++◌, length, take, drop, refl, sym, ◌∙◌, ap, arith, inl, inr, bit_xor, if◌then◌else◌, ◌*◌, get_or, eq-eqb}
+use Rattle.std.proofs.Common.{◌≡◌, ℕ, zero, suc, ◌-◌, ◌<◌, ◌≤◌, Bool, true, false, ◌==◌, List, [], ◌∷◌, ◌++◌, length, take, drop, refl, sym, ◌∙◌, ap, arith, inl, inr, bit_xor, if◌then◌else◌, eq-eqb}
 use Rattle.std.proofs.lemmas.Bool.{cases_Bool, cases_lt, lt-ltb, le-ltb, ne_eqb}
 use Rattle.std.specs.Prelude.{slice_index, slice_range}
 use Rattle.hdlc_fcs.specs.FrameCheck.{fcs_of}
 use Rattle.std.proofs.lemmas.List.{take_all, take-append-le, length-take-le}
-use Rattle.hdlc_frames.specs.Framing.{escape, Frame, BadFcs, TooShort, TooLong, unescaped, ends_in_escape, verdict_on_content, has_octets, checked_part, check_number}
+use Rattle.hdlc_frames.specs.Framing.{escape, Frame, BadFcs, TooShort, TooLong, unescaped, ends_in_escape, verdict_on_content, has_octets}
+use Rattle.hdlc_fcs.specs.Contents.{checked_part, check_number, IsIntact}
 
 -- what one octet more adds to the content
 unfoldable pub added : Bool → ℕ → List ℕ
@@ -96,20 +97,14 @@ drop_take_one zero xs = refl
 drop_take_one (suc n) [] = let e : suc n - 1 ≡ n = omega arith in rw e (sym (take_all n [] (omega arith)))
 drop_take_one (suc n) (x ∷ xs) = let e : suc n - 1 ≡ n = omega arith in rw e refl
 
--- the two outcomes of the check, with the number that the last two octets write in the code's order
-pub check_number-is : (c : List ℕ) (check : ℕ) → 4 ≤ length c → check ≡ get_or c (length c - 2) 0 + get_or c (length c - 2 + 1) 0 * 256 → check ≡ check_number c
-unfolding check_number
-check_number-is c check long e =
-    let last : length c - 2 + 1 ≡ length c - 1 = omega arith in
-    e ∙ ap (λ n. get_or c (length c - 2) 0 + get_or c n 0 * 256) last ∙ omega arith
-
-pub judged_frame : (c : List ℕ) → 4 ≤ length c → length c ≤ 1032 → fcs_of (take (length c - 2) c) ≡ check_number c → Frame (slice_index c 0) (slice_range c 1 (length c - 2)) ≡ verdict_on_content c
+-- the two outcomes of the check
+pub judged_frame : (c : List ℕ) → 4 ≤ length c → length c ≤ 1032 → IsIntact c → Frame (slice_index c 0) (slice_range c 1 (length c - 2)) ≡ verdict_on_content c
 unfolding verdict_on_content checked_part
-judged_frame c long short e =
-    rw (le-ltb 1032 (length c) short, le-ltb (length c) 4 long, eq-eqb (fcs_of (take (length c - 2) c)) (check_number c) e)
+judged_frame c long short intact =
+    rw (le-ltb 1032 (length c) short, le-ltb (length c) 4 long, eq-eqb (fcs_of (take (length c - 2) c)) (check_number c) intact.1)
     (ap (λ b. Frame (slice_index c 0) b) (sym (drop_take_one (length c - 2) c)))
 
-pub judged_bad : (c : List ℕ) → 4 ≤ length c → length c ≤ 1032 → (fcs_of (take (length c - 2) c) ≡ check_number c → ⊥) → BadFcs ≡ verdict_on_content c
-unfolding verdict_on_content checked_part
-judged_bad c long short e =
-    rw (le-ltb 1032 (length c) short, le-ltb (length c) 4 long, ne_eqb (fcs_of (take (length c - 2) c)) (check_number c) e) refl
+pub judged_bad : (c : List ℕ) → 4 ≤ length c → length c ≤ 1032 → (IsIntact c → ⊥) → BadFcs ≡ verdict_on_content c
+unfolding verdict_on_content
+judged_bad c long short spoilt =
+    rw (le-ltb 1032 (length c) short, le-ltb (length c) 4 long, ne_eqb (fcs_of (checked_part c)) (check_number c) (λ e. spoilt (omega arith, e))) refl

@@ -1,12 +1,12 @@
 -- A frame that was written is read as itself.
-use Rattle.std.proofs.Common.{◌≡◌, ℕ, ◌+◌, ◌-◌, ◌*◌, ◌/◌, ◌%◌, ◌≤◌, Bool, true, false, ◌==◌, ◌||◌, List, [], ◌∷◌, ◌++◌, length, take, drop, Option, None, Some, refl, sym, ◌∙◌, ap, arith, inl, inr, append_assoc, append-nil, length-append, bit_xor, eq-eqb, if◌then◌else◌}
-use Rattle.std.specs.Prelude.{flat_map, slice_index}
+use Rattle.std.proofs.Common.{◌≡◌, ℕ, ◌≤◌, Bool, true, false, ◌==◌, ◌||◌, List, [], ◌∷◌, ◌++◌, length, Option, None, Some, refl, sym, ◌∙◌, ap, arith, inl, inr, append_assoc, append-nil, bit_xor, eq-eqb, if◌then◌else◌}
+use Rattle.std.specs.Prelude.{flat_map}
 use Rattle.std.specs.Int.Bits.{xor_assoc, xor_self, xor_zero_r}
 use Rattle.std.proofs.lemmas.Bool.{cases_Bool, le-ltb, eqb-true}
-use Rattle.std.proofs.lemmas.List.{take_at, get_or-append-add}
-use Rattle.hdlc_fcs.specs.FrameCheck.{fcs_of}
-use Rattle.hdlc_frames.specs.Framing.{flag, escape, Verdict, Frame, unescaped, ends_in_escape, verdict_on_content, verdict_on, checked_part, check_number, has_octets, frames_of}
-use Rattle.hdlc_frames.specs.Spelling.{content_of, escaped_octet, escaped, spelling}
+use Rattle.hdlc_fcs.specs.Contents.{content_of, body_of}
+use Rattle.hdlc_fcs.specs.Laws.{ContentReadsBack}
+use Rattle.hdlc_frames.specs.Framing.{flag, escape, Verdict, Frame, unescaped, ends_in_escape, verdict_on_content, verdict_on, has_octets, frames_of}
+use Rattle.hdlc_frames.specs.Spelling.{escaped_octet, escaped, spelling}
 use Rattle.hdlc_frames.specs.Deframing.{open_piece, kept_since, kept_of}
 use Rattle.hdlc_frames.specs.Laws.{FrameReadsAsItself, FrameAlone, FlagParts}
 use Rattle.hdlc_frames.proofs.StreamLaws.{behind, verdicts_on, frames_from, piece_from, closed_by-other, behind-other, frames_from-cons, piece_from-cons, frames_from-nil, piece_from-nil, frames_from-append, frames_of-from, from_flag, frames_of-append, open_piece-append, behind-flag, closed_by-none}
@@ -17,13 +17,13 @@ xor_back : (x : ℕ) → bit_xor (bit_xor x 0x20) 0x20 ≡ x
 xor_back x = xor_assoc x 0x20 0x20 ∙ ap (λ y. bit_xor x y) (xor_self 0x20) ∙ xor_zero_r x
 
 -- octets none of which is a flag
-unfoldable no_flag : List ℕ → Bool
+unfoldable pub no_flag : List ℕ → Bool
 no_flag [] = true
 no_flag (x ∷ xs) = if x == flag then false else no_flag xs
 
 -- one octet of the content, escaped, in front of others: it has no flag, it leaves no escape open, and it is
 -- read back
-octet_back : (x : ℕ) (xs : List ℕ) → no_flag xs ≡ true
+pub octet_back : (x : ℕ) (xs : List ℕ) → no_flag xs ≡ true
     → (no_flag (escaped_octet x ++ xs) ≡ true) × (ends_in_escape (escaped_octet x ++ xs) false ≡ ends_in_escape xs false) × (unescaped (escaped_octet x ++ xs) false ≡ x ∷ unescaped xs false)
 unfolding no_flag escaped_octet ends_in_escape unescaped
 octet_back x xs h =
@@ -36,7 +36,7 @@ octet_back x xs h =
           ]
     ]
 
-nothing_back : (no_flag [] ≡ true) × (ends_in_escape [] false ≡ false) × (unescaped [] false ≡ [])
+pub nothing_back : (no_flag [] ≡ true) × (ends_in_escape [] false ≡ false) × (unescaped [] false ≡ [])
 unfolding no_flag ends_in_escape unescaped
 nothing_back = (refl, refl, refl)
 
@@ -49,7 +49,7 @@ first_nonempty x xs =
     ]
 
 -- the same of all content
-content_back : (c : List ℕ) → (no_flag (escaped c) ≡ true) × (ends_in_escape (escaped c) false ≡ false) × (unescaped (escaped c) false ≡ c)
+pub content_back : (c : List ℕ) → (no_flag (escaped c) ≡ true) × (ends_in_escape (escaped c) false ≡ false) × (unescaped (escaped c) false ≡ c)
 unfolding escaped
 content_back [] = nothing_back
 content_back (x ∷ c) =
@@ -63,7 +63,7 @@ escaped_nonempty x c = first_nonempty x (flat_map escaped_octet c)
 
 -- ---- octets without a flag
 
-no_flag_head : (x : ℕ) (xs : List ℕ) → no_flag (x ∷ xs) ≡ true → (x == flag) ≡ false
+pub no_flag_head : (x : ℕ) (xs : List ℕ) → no_flag (x ∷ xs) ≡ true → (x == flag) ≡ false
 unfolding no_flag
 no_flag_head x xs h =
     elim (cases_Bool (x == flag)) [
@@ -71,7 +71,7 @@ no_flag_head x xs h =
       | inr f ↦ f
     ]
 
-no_flag_tail : (x : ℕ) (xs : List ℕ) → no_flag (x ∷ xs) ≡ true → no_flag xs ≡ true
+pub no_flag_tail : (x : ℕ) (xs : List ℕ) → no_flag (x ∷ xs) ≡ true → no_flag xs ≡ true
 unfolding no_flag
 no_flag_tail x xs h =
     elim (cases_Bool (x == flag)) [
@@ -79,14 +79,14 @@ no_flag_tail x xs h =
       | inr f ↦ rw f at h
     ]
 
-plain_frames : (xs p : List ℕ) → no_flag xs ≡ true → frames_from (Some p) xs ≡ []
+pub plain_frames : (xs p : List ℕ) → no_flag xs ≡ true → frames_from (Some p) xs ≡ []
 plain_frames [] p h = frames_from-nil (Some p)
 plain_frames (x ∷ xs) p h =
     let f = no_flag_head x xs h in
     frames_from-cons (Some p) x xs ∙ ap (λ v. v ++ frames_from (behind (Some p) x) xs) (closed_by-other (Some p) x f)
     ∙ ap (λ s. frames_from s xs) (behind-other p x f) ∙ plain_frames xs (p ++ x ∷ []) (no_flag_tail x xs h)
 
-plain_piece : (xs p : List ℕ) → no_flag xs ≡ true → piece_from (Some p) xs ≡ Some (p ++ xs)
+pub plain_piece : (xs p : List ℕ) → no_flag xs ≡ true → piece_from (Some p) xs ≡ Some (p ++ xs)
 plain_piece [] p h = piece_from-nil (Some p) ∙ ap (λ (q : List ℕ). Some q) (sym (append-nil p))
 plain_piece (x ∷ xs) p h =
     let f = no_flag_head x xs h in
@@ -95,98 +95,64 @@ plain_piece (x ∷ xs) p h =
 
 -- ---- the verdict on content that was made
 
-length-content_of : (a : ℕ) (body : List ℕ) → length (content_of a body) ≡ length body + 3
-unfolding content_of
-length-content_of a body = omega (arith, length-append body (fcs_of (a ∷ body) % 256 ∷ fcs_of (a ∷ body) / 256 ∷ []))
+escaped_some : (c : List ℕ) → 1 ≤ length c → has_octets (escaped c) ≡ true
+escaped_some [] h = absurd (omega arith)
+escaped_some (x ∷ c) h = escaped_nonempty x c
 
-front_of_content : (a : ℕ) (body : List ℕ) → take (length (a ∷ body)) (content_of a body) ≡ a ∷ body
-unfolding content_of
-front_of_content a body = take_at (a ∷ body) (fcs_of (a ∷ body) % 256 ∷ fcs_of (a ∷ body) / 256 ∷ []) (length (a ∷ body)) refl
+pub content_nonempty : ContentReadsBack → (a : ℕ) (body : List ℕ) → has_octets (escaped (content_of a body)) ≡ true
+content_nonempty reads a body = escaped_some (content_of a body) (omega (arith, (reads a body).1.1))
 
-check_octets : (a : ℕ) (body : List ℕ) → slice_index (content_of a body) (length (a ∷ body) + 0) + 256 * slice_index (content_of a body) (length (a ∷ body) + 1) ≡ fcs_of (a ∷ body)
-unfolding content_of
-check_octets a body =
-    let n : ℕ = fcs_of (a ∷ body) in
-    let low : slice_index ((a ∷ body) ++ n % 256 ∷ n / 256 ∷ []) (length (a ∷ body) + 0) ≡ n % 256 = get_or-append-add (a ∷ body) (n % 256 ∷ n / 256 ∷ []) 0 0 in
-    let high : slice_index ((a ∷ body) ++ n % 256 ∷ n / 256 ∷ []) (length (a ∷ body) + 1) ≡ n / 256 = get_or-append-add (a ∷ body) (n % 256 ∷ n / 256 ∷ []) 1 0 in
-    omega arith
-
-first_of_content : (a : ℕ) (body : List ℕ) → slice_index (content_of a body) 0 ≡ a
-unfolding content_of
-first_of_content a body = refl
-
-checked_part-content_of : (a : ℕ) (body : List ℕ) → checked_part (content_of a body) ≡ a ∷ body
-unfolding checked_part
-checked_part-content_of a body =
-    let two : length (content_of a body) - 2 ≡ length (a ∷ body) = omega (arith, length-content_of a body) in
-    rw two (front_of_content a body)
-
-check_number-content_of : (a : ℕ) (body : List ℕ) → check_number (content_of a body) ≡ fcs_of (a ∷ body)
-unfolding check_number
-check_number-content_of a body =
-    let two : length (content_of a body) - 2 ≡ length (a ∷ body) + 0 = omega (arith, length-content_of a body) in
-    let one : length (content_of a body) - 1 ≡ length (a ∷ body) + 1 = omega (arith, length-content_of a body) in
-    rw (two, one) (check_octets a body)
-
-made_frame : (a : ℕ) (body : List ℕ) → Frame (slice_index (content_of a body) 0) (drop 1 (checked_part (content_of a body))) ≡ Frame a body
-made_frame a body = ap (λ c. Frame (slice_index (content_of a body) 0) (drop 1 c)) (checked_part-content_of a body) ∙ ap (λ x. Frame x body) (first_of_content a body)
-
-content_nonempty : (a : ℕ) (body : List ℕ) → has_octets (escaped (content_of a body)) ≡ true
-unfolding content_of
-content_nonempty a body = escaped_nonempty a (body ++ fcs_of (a ∷ body) % 256 ∷ fcs_of (a ∷ body) / 256 ∷ [])
-
-verdict_on_made : (a : ℕ) (body : List ℕ) → 1 ≤ length body → length body ≤ 1029 → verdict_on_content (content_of a body) ≡ Frame a body
+verdict_on_made : ContentReadsBack → (a : ℕ) (body : List ℕ) → 1 ≤ length body → length body ≤ 1029 → verdict_on_content (content_of a body) ≡ Frame a body
 unfolding verdict_on_content
-verdict_on_made a body some fits =
-    let size = length-content_of a body in
-    let long : (length (content_of a body) ≤ 1032) × (4 ≤ length (content_of a body)) = (omega arith, omega arith) in
-    let sum : fcs_of (checked_part (content_of a body)) ≡ check_number (content_of a body) = ap fcs_of (checked_part-content_of a body) ∙ sym (check_number-content_of a body) in
-    rw (le-ltb 1032 (length (content_of a body)) long.0, le-ltb (length (content_of a body)) 4 long.1, eq-eqb _ _ sum)
-    (made_frame a body)
+verdict_on_made reads a body some fits =
+    let read = reads a body in
+    let long : (length (content_of a body) ≤ 1032) × (4 ≤ length (content_of a body)) = (omega (arith, read.1.1), omega (arith, read.1.1)) in
+    rw (le-ltb 1032 (length (content_of a body)) long.0, le-ltb (length (content_of a body)) 4 long.1, eq-eqb _ _ read.0.0.1)
+    (ap (λ x. Frame x (body_of (content_of a body))) read.0.1 ∙ ap (λ b. Frame a b) read.1.0)
 
-verdict_on_escaped : (a : ℕ) (body : List ℕ) → 1 ≤ length body → length body ≤ 1029 → verdict_on (escaped (content_of a body)) ≡ Frame a body
+pub verdict_on_escaped : ContentReadsBack → (a : ℕ) (body : List ℕ) → 1 ≤ length body → length body ≤ 1029 → verdict_on (escaped (content_of a body)) ≡ Frame a body
 unfolding verdict_on
-verdict_on_escaped a body some fits =
+verdict_on_escaped reads a body some fits =
     let back = content_back (content_of a body) in
-    rw (back.1, back.2) (verdict_on_made a body some fits)
+    rw (back.1, back.2) (verdict_on_made reads a body some fits)
 
 -- ---- the whole frame
 
-closed_frame : (p : List ℕ) → has_octets p ≡ true → verdicts_on (p ∷ []) ≡ verdict_on p ∷ []
+pub closed_frame : (p : List ℕ) → has_octets p ≡ true → verdicts_on (p ∷ []) ≡ verdict_on p ∷ []
 unfolding verdicts_on
 closed_frame p h = rw h refl
 
 -- behind a flag: the escaped content and the flag that closes it
-frame_behind : (a : ℕ) (body rest : List ℕ) → 1 ≤ length body → length body ≤ 1029
+pub frame_behind : ContentReadsBack → (a : ℕ) (body rest : List ℕ) → 1 ≤ length body → length body ≤ 1029
     → frames_from (Some []) (escaped (content_of a body) ++ flag ∷ rest) ≡ Frame a body ∷ frames_from (Some []) rest
-frame_behind a body rest some fits =
+frame_behind reads a body rest some fits =
     let e : List ℕ = escaped (content_of a body) in
     let back = content_back (content_of a body) in
     frames_from-append e (Some []) (flag ∷ rest)
     ∙ ap (λ v. v ++ frames_from (piece_from (Some []) e) (flag ∷ rest)) (plain_frames e [] back.0)
     ∙ ap (λ s. frames_from s (flag ∷ rest)) (plain_piece e [] back.0)
     ∙ from_flag e flag rest refl
-    ∙ ap (λ v. v ++ frames_from (Some []) rest) (closed_frame e (content_nonempty a body) ∙ ap (λ (v : Verdict). v ∷ []) (verdict_on_escaped a body some fits))
+    ∙ ap (λ v. v ++ frames_from (Some []) rest) (closed_frame e (content_nonempty reads a body) ∙ ap (λ (v : Verdict). v ∷ []) (verdict_on_escaped reads a body some fits))
 
 -- what follows one flag
-behind_one_flag : (rest : List ℕ) → frames_of (flag ∷ rest) ≡ frames_from (Some []) rest
+pub behind_one_flag : (rest : List ℕ) → frames_of (flag ∷ rest) ≡ frames_from (Some []) rest
 behind_one_flag rest =
     frames_of-from (flag ∷ rest) ∙ frames_from-cons None flag rest ∙ ap (λ v. v ++ frames_from (behind None flag) rest) (closed_by-none flag)
     ∙ ap (λ s. frames_from s rest) (behind-flag None flag refl)
 
-spelling-is : (a : ℕ) (body rest : List ℕ) → spelling a body ++ rest ≡ flag ∷ (escaped (content_of a body) ++ flag ∷ rest)
+pub spelling-is : (a : ℕ) (body rest : List ℕ) → spelling a body ++ rest ≡ flag ∷ (escaped (content_of a body) ++ flag ∷ rest)
 unfolding spelling
 spelling-is a body rest = ap (λ ys. flag ∷ ys) (append_assoc (escaped (content_of a body)) (flag ∷ []) rest)
 
-pub frame_reads_as_itself : FrameReadsAsItself
-frame_reads_as_itself a body rest some fits =
+pub frame_reads_as_itself : ContentReadsBack → FrameReadsAsItself
+frame_reads_as_itself reads a body rest some fits =
     ap frames_of (spelling-is a body rest) ∙ behind_one_flag (escaped (content_of a body) ++ flag ∷ rest)
-    ∙ frame_behind a body rest some fits
+    ∙ frame_behind reads a body rest some fits
     ∙ ap (λ v. Frame a body ∷ v) (sym (behind_one_flag rest))
 
-pub frame_alone : FrameAlone
-frame_alone a body some fits =
-    ap frames_of (sym (append-nil (spelling a body))) ∙ frame_reads_as_itself a body [] some fits
+pub frame_alone : ContentReadsBack → FrameAlone
+frame_alone reads a body some fits =
+    ap frames_of (sym (append-nil (spelling a body))) ∙ frame_reads_as_itself reads a body [] some fits
     ∙ ap (λ v. Frame a body ∷ v) (behind_one_flag [] ∙ frames_from-nil (Some []))
 
 -- ---- a flag parts a stream

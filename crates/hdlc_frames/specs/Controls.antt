@@ -1,57 +1,72 @@
--- The control octets of balanced mode with numbers modulo 8 (ISO/IEC 13239).
-use Rattle.std.specs.Prelude.{◌≡◌, ℕ, ◌+◌, ◌*◌, ◌<◌, Bool, true, false, List, ◌∷◌}
+-- The controls of balanced mode (ISO/IEC 13239): one table for numbers modulo 8, one for numbers modulo 128.
+use Rattle.std.specs.Prelude.{◌≡◌, ℕ, ◌+◌, ◌*◌, ◌<◌, Bool, true, false, ◌==◌, Option, None, Some, List, [], ◌∷◌, ◌++◌, if◌then◌else◌}
 use Rattle.hdlc_frames.specs.declared.controls.Control.{Control}
-use Rattle.hdlc_frames.specs.declared.controls.Control.TheVariants.{Info, Rr, Rnr, Rej, Srej, Sabm, Disc, Ua, Dm, Frmr}
+use Rattle.hdlc_frames.specs.declared.controls.Control.TheVariants.{Info, Rr, Rnr, Rej, Srej, Sabm, Sabme, Disc, Ua, Dm, Frmr}
 
--- the octet of a control, the P/F bit left out
-abbrev pub octet_of : Control → ℕ
-octet_of (Info ns nr) = ns * 0x02 + nr * 0x20
-octet_of (Rr nr) = 0x01 + nr * 0x20
-octet_of (Rnr nr) = 0x05 + nr * 0x20
-octet_of (Rej nr) = 0x09 + nr * 0x20
-octet_of (Srej nr) = 0x0d + nr * 0x20
-octet_of (Sabm poll) = 0x2f
-octet_of (Disc poll) = 0x43
-octet_of Ua = 0x63
-octet_of Dm = 0x0f
-octet_of Frmr = 0x87
-
--- what the P/F bit adds
+-- what a set P/F bit adds to the one octet of a control
 abbrev pub bit_of : Bool → ℕ
 bit_of true = 0x10
 bit_of false = 0
 
--- the numbers of a control are numbers modulo 8
-abbrev pub IsModuloEight : Control → Type 0
-IsModuloEight (Info ns nr) = (ns < 8) × (nr < 8)
-IsModuloEight (Rr nr) = nr < 8
-IsModuloEight (Rnr nr) = nr < 8
-IsModuloEight (Rej nr) = nr < 8
-IsModuloEight (Srej nr) = nr < 8
-IsModuloEight (Sabm poll) = Unit {0}
-IsModuloEight (Disc poll) = Unit {0}
-IsModuloEight Ua = Unit {0}
-IsModuloEight Dm = Unit {0}
-IsModuloEight Frmr = Unit {0}
+-- what a set P/F bit adds to the second of two octets
+abbrev pub extended_bit_of : Bool → ℕ
+extended_bit_of true = 0x01
+extended_bit_of false = 0
 
--- SABM and DISC show the P/F bit, the others have either
-abbrev pub Shows : Control → Bool → Type 0
-Shows (Info ns nr) bit = Unit {0}
-Shows (Rr nr) bit = Unit {0}
-Shows (Rnr nr) bit = Unit {0}
-Shows (Rej nr) bit = Unit {0}
-Shows (Srej nr) bit = Unit {0}
-Shows (Sabm poll) bit = poll ≡ bit
-Shows (Disc poll) bit = poll ≡ bit
-Shows Ua bit = Unit {0}
-Shows Dm bit = Unit {0}
-Shows Frmr bit = Unit {0}
+-- the octet of a control with a P/F bit at modulo 8; the P bit of SABM and DISC is their own
+abbrev pub octets_modulo_8 : Control → Bool → Option (List ℕ)
+octets_modulo_8 (Info ns nr) bit = Some ((ns * 0x02 + nr * 0x20 + bit_of bit) ∷ [])
+octets_modulo_8 (Rr nr) bit = Some ((0x01 + nr * 0x20 + bit_of bit) ∷ [])
+octets_modulo_8 (Rnr nr) bit = Some ((0x05 + nr * 0x20 + bit_of bit) ∷ [])
+octets_modulo_8 (Rej nr) bit = Some ((0x09 + nr * 0x20 + bit_of bit) ∷ [])
+octets_modulo_8 (Srej nr) bit = Some ((0x0d + nr * 0x20 + bit_of bit) ∷ [])
+octets_modulo_8 (Sabm poll) bit = Some ((0x2f + bit_of poll) ∷ [])
+octets_modulo_8 (Sabme poll) bit = None
+octets_modulo_8 (Disc poll) bit = Some ((0x43 + bit_of poll) ∷ [])
+octets_modulo_8 Ua bit = Some ((0x63 + bit_of bit) ∷ [])
+octets_modulo_8 Dm bit = Some ((0x0f + bit_of bit) ∷ [])
+octets_modulo_8 Frmr bit = Some ((0x87 + bit_of bit) ∷ [])
 
--- a body is the octet of a control and then information
-abbrev pub HasControl : List ℕ → Control → List ℕ → Type 0
-HasControl body control information =
-    (bit : Bool) × (IsModuloEight control × Shows control bit × (body ≡ (octet_of control + bit_of bit) ∷ information))
+-- the octets of a control with a P/F bit at modulo 128; the P bit of SABME and DISC is their own
+abbrev pub octets_modulo_128 : Control → Bool → Option (List ℕ)
+octets_modulo_128 (Info ns nr) bit = Some (ns * 0x02 ∷ (nr * 0x02 + extended_bit_of bit) ∷ [])
+octets_modulo_128 (Rr nr) bit = Some (0x01 ∷ (nr * 0x02 + extended_bit_of bit) ∷ [])
+octets_modulo_128 (Rnr nr) bit = Some (0x05 ∷ (nr * 0x02 + extended_bit_of bit) ∷ [])
+octets_modulo_128 (Rej nr) bit = Some (0x09 ∷ (nr * 0x02 + extended_bit_of bit) ∷ [])
+octets_modulo_128 (Srej nr) bit = Some (0x0d ∷ (nr * 0x02 + extended_bit_of bit) ∷ [])
+octets_modulo_128 (Sabm poll) bit = None
+octets_modulo_128 (Sabme poll) bit = Some ((0x6f + bit_of poll) ∷ [])
+octets_modulo_128 (Disc poll) bit = Some ((0x43 + bit_of poll) ∷ [])
+octets_modulo_128 Ua bit = Some ((0x63 + bit_of bit) ∷ [])
+octets_modulo_128 Dm bit = Some ((0x0f + bit_of bit) ∷ [])
+octets_modulo_128 Frmr bit = Some ((0x87 + bit_of bit) ∷ [])
 
--- a body does not begin with the octet of a control
-abbrev pub HasNoControl : List ℕ → Type 0
-HasNoControl body = (control : Control) (information : List ℕ) → HasControl body control information → ⊥
+-- the octets of a control with a P/F bit; there are no other moduli
+abbrev pub control_octets : ℕ → Control → Bool → Option (List ℕ)
+control_octets modulo control bit =
+    if modulo == 8 then octets_modulo_8 control bit else
+    if modulo == 128 then octets_modulo_128 control bit else None
+
+-- the numbers of a control are below the modulo
+abbrev pub IsBelow : ℕ → Control → Type 0
+IsBelow modulo (Info ns nr) = (ns < modulo) × (nr < modulo)
+IsBelow modulo (Rr nr) = nr < modulo
+IsBelow modulo (Rnr nr) = nr < modulo
+IsBelow modulo (Rej nr) = nr < modulo
+IsBelow modulo (Srej nr) = nr < modulo
+IsBelow modulo (Sabm poll) = Unit {0}
+IsBelow modulo (Sabme poll) = Unit {0}
+IsBelow modulo (Disc poll) = Unit {0}
+IsBelow modulo Ua = Unit {0}
+IsBelow modulo Dm = Unit {0}
+IsBelow modulo Frmr = Unit {0}
+
+-- a body is the octets of a control, whatever its P/F bit, and then information
+abbrev pub HasControl : ℕ → List ℕ → Control → List ℕ → Type 0
+HasControl modulo body control information =
+    IsBelow modulo control
+    × ((bit : Bool) × ((octets : List ℕ) × ((control_octets modulo control bit ≡ Some octets) × (body ≡ octets ++ information))))
+
+-- a body does not begin with the octets of a control
+abbrev pub HasNoControl : ℕ → List ℕ → Type 0
+HasNoControl modulo body = (control : Control) (information : List ℕ) → HasControl modulo body control information → ⊥

@@ -1,9 +1,12 @@
--- How a deframer takes a stream in pieces: help for its contract. What it keeps is a function of the stream
--- so far, and what it answers is tied to the frames of the whole stream by public laws of this crate.
-use Rattle.std.specs.Prelude.{◌≡◌, ℕ, ◌+◌, ◌<◌, Bool, true, false, ◌==◌, List, [], ◌∷◌, ◌++◌, take, drop, Option, None, Some, bit_xor, if◌then◌else◌}
+-- What a deframer keeps of a stream that comes in pieces, and what feeding it a piece gives: both by the frames
+-- of the whole stream.
+use Rattle.std.specs.Prelude.{◌≡◌, ℕ, ◌+◌, ◌<◌, Bool, true, false, List, [], ◌∷◌, ◌++◌, take, drop, slice_get, Option, None, Some, if◌then◌else◌}
 use Rattle.std.specs.List.{last_or}
 use Rattle.std.specs.Option.{option_to_list}
-use Rattle.hdlc_frames.specs.Framing.{flag, escape, Verdict, Aborted, unescaped, ends_in_escape, verdict_on_content, cut, has_octets, frames_of}
+use Rattle.hdlc_frames.specs.Framing.{flag, escape, Verdict, unescaped, ends_in_escape, cut, frames_of}
+use Rattle.hdlc_frames.specs.Spelling.{escaped}
+
+-- ---- what is kept
 
 -- what a deframer keeps of the octets since the newest flag
 pub record Kept : Type 0 where
@@ -13,58 +16,6 @@ pub record Kept : Type 0 where
   pub escaping : Bool
   -- the content so far; of content that is too long, one octet more than the greatest length
   pub content : List ℕ
-
--- content with one octet more, as far as it is kept
-abbrev pub kept_content : List ℕ → ℕ → List ℕ
-kept_content content x = take 1033 (content ++ x ∷ [])
-
--- nothing came but a flag
-abbrev pub after_flag : Kept
-after_flag = record { begun = true; escaping = false; content = [] }
-
--- what is kept after one octet that is no flag
-abbrev pub after_inner : Kept → ℕ → Kept
-after_inner k x =
-    if k.escaping then record k { escaping = false; content = kept_content k.content (bit_xor x 0x20) } else
-    if x == escape then record k { escaping = true } else
-    record k { content = kept_content k.content x }
-
--- what is kept after one octet
-abbrev pub after_octet : Kept → ℕ → Kept
-after_octet k x = if x == flag then after_flag else if k.begun then after_inner k x else k
-
--- the verdict on what is kept when a flag comes, if anything is kept
-abbrev pub closing : Kept → Option Verdict
-closing k =
-    if k.escaping then Some Aborted else
-    if has_octets k.content then Some (verdict_on_content k.content) else None
-
--- the verdict that one octet brings, if it closes a frame
-abbrev pub verdict_at : Kept → ℕ → Option Verdict
-verdict_at k x = if x == flag then closing k else None
-
--- what feeding a piece gives: how many of its octets are used, up to and with the first flag that closes
--- a frame, the verdict on that frame if there is one, and what is kept then
-pub record Fed : Type 0 where
-  pub used : ℕ
-  pub verdict : Option Verdict
-  pub kept : Kept
-
--- one octet in front of what a piece gives
-abbrev pub one_more : Fed → Fed
-one_more f = record f { used = f.used + 1 }
-
--- an octet that closes a frame ends the call; else the octets behind it follow
-abbrev pub fed_octet : Kept → Option Verdict → Fed → Fed
-fed_octet k None rest = one_more rest
-fed_octet k (Some v) rest = record { used = 1; verdict = Some v; kept = k }
-
--- feeding a piece to a deframer that keeps k
-abbrev pub fed : Kept → List ℕ → Fed
-fed k [] = record { used = 0; verdict = None; kept = k }
-fed k (x ∷ xs) = fed_octet (after_octet k x) (verdict_at k x) (fed (after_octet k x) xs)
-
--- ---- what is kept, by the whole stream
 
 -- the octets behind the newest flag of a stream, if it has a flag
 unfoldable pub open_piece : List ℕ → Option (List ℕ)
@@ -78,6 +29,47 @@ kept_since (Some piece) = record { begun = true; escaping = ends_in_escape piece
 -- what is kept of a stream
 unfoldable pub kept_of : List ℕ → Kept
 kept_of stream = kept_since (open_piece stream)
+
+-- what is kept of a stream that ends in a flag
+abbrev pub after_flag : Kept
+after_flag = record { begun = true; escaping = false; content = [] }
+
+-- a stream of which this is kept, with no frame in it
+unfoldable pub stream_of : Kept → List ℕ
+stream_of k = if k.begun then flag ∷ escaped k.content ++ (if k.escaping then escape ∷ [] else []) else []
+
+-- this is kept of some stream: a deframer never keeps anything else
+abbrev pub IsKept : Kept → Type 0
+IsKept k = kept_of (stream_of k) ≡ k
+
+-- ---- one call
+
+-- what feeding a piece gives: how many of its octets are used, up to and with the first flag that closes
+-- a frame, the verdict on that frame if there is one, and what is kept then
+pub record Feeding : Type 0 where
+  pub used : ℕ
+  pub verdict : Option Verdict
+  pub kept : Kept
+
+-- whether there is a verdict
+abbrev pub has_verdicts : List Verdict → Bool
+has_verdicts [] = false
+has_verdicts (v ∷ vs) = true
+
+-- of octets that come behind a stream with no frame in it: how many there are up to and with the first that
+-- closes a frame, or all
+unfoldable pub used_behind : List ℕ → List ℕ → ℕ
+used_behind stream [] = 0
+used_behind stream (x ∷ xs) =
+    if has_verdicts (frames_of (stream ++ x ∷ [])) then 1 else used_behind (stream ++ x ∷ []) xs + 1
+
+-- feeding a piece to a deframer that keeps k
+unfoldable pub feeding_of : Kept → List ℕ → Feeding
+feeding_of k piece = record {
+  used = used_behind (stream_of k) piece;
+  verdict = slice_get (frames_of (stream_of k ++ piece)) 0;
+  kept = kept_of (stream_of k ++ take (used_behind (stream_of k) piece) piece);
+}
 
 -- ---- one call behind any stream
 

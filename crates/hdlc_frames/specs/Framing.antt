@@ -1,9 +1,11 @@
 -- The frames of a line under start/stop transmission with octet transparency (ISO/IEC 13239), as a
 -- definition on the whole stream of octets. The greatest length and the order of the verdicts are this
 -- profile's.
-use Rattle.std.specs.Prelude.{ℕ, ◌+◌, ◌-◌, ◌*◌, Bool, true, false, nat_lt, ◌==◌, List, [], ◌∷◌, length, take, drop, map, filter, slice_index, bit_xor, if◌then◌else◌}
+use Rattle.std.specs.Prelude.{ℕ, ◌-◌, Bool, true, false, nat_lt, ◌==◌, List, [], ◌∷◌, length, take, drop, map, filter, bit_xor, if◌then◌else◌}
 use Rattle.std.specs.List.{slice_split}
 use Rattle.hdlc_fcs.specs.FrameCheck.{fcs_of}
+pub use Rattle.hdlc_fcs.specs.Contents.{longest, checked_part, check_number}
+use Rattle.hdlc_fcs.specs.Contents.{shortest, address_of, body_of}
 
 -- the octet that bounds frames
 abbrev pub flag : ℕ
@@ -12,10 +14,6 @@ flag = 0x7e
 -- the octet that says that the next one is escaped: it stands for itself xor 20
 abbrev pub escape : ℕ
 escape = 0x7d
-
--- the greatest number of octets that a frame's content may have
-abbrev pub longest : ℕ
-longest = 1032
 
 -- ---- one piece of the stream
 
@@ -36,22 +34,13 @@ ends_in_escape [] escaped = escaped
 ends_in_escape (x ∷ xs) true = ends_in_escape xs false
 ends_in_escape (x ∷ xs) false = ends_in_escape xs (x == escape)
 
--- the content without its last two octets
-unfoldable pub checked_part : List ℕ → List ℕ
-checked_part content = take (length content - 2) content
-
--- the number that the last two octets write, the low one first
-unfoldable pub check_number : List ℕ → ℕ
-check_number content = slice_index content (length content - 2) + 256 * slice_index content (length content - 1)
-
--- the verdict on content: the first of these that fits. The address is the first octet, the body what
--- stands between it and the check sequence
+-- the verdict on content: the first of these that fits
 unfoldable pub verdict_on_content : List ℕ → Verdict
 verdict_on_content content =
     if nat_lt longest (length content) then TooLong else
-    if nat_lt (length content) 4 then TooShort else
+    if nat_lt (length content) shortest then TooShort else
     if fcs_of (checked_part content) == check_number content
-    then Frame (slice_index content 0) (drop 1 (checked_part content))
+    then Frame (address_of content) (body_of content)
     else BadFcs
 
 -- the verdict on a piece between two flags

@@ -1,8 +1,9 @@
 pub mod Framing
 pub mod Spelling
 pub mod Deframing
-pub mod Lines
-pub mod Marks
+pub mod Scanning
+pub mod Buffers
+pub mod Judgements
 pub mod Shown
 pub mod Resting
 pub mod Laws

@@ -4,23 +4,19 @@ ghost use Rattle.std.specs.Prelude.{◌≡◌, [], MatchOption};
 ghost use Rattle.hdlc_frames.specs.Framing.{frames_of};
 ghost use Rattle.hdlc_frames.specs.FirstClose.{ClosesFirst};
 
-use crate::line::FLAG;
+use crate::transparency::FLAG;
+use memchr::memchr;
 
 /// The number of octets up to and with the flag that closes the first frame, whatever is found of that
 /// frame; None where no frame is closed.
 pub fn first_frame(octets: &[u8]) -> Option<usize>
     ensures { MatchOption result (frames_of octets.now ≡ []) (ClosesFirst octets.now) }
 {
-    let mut begun = false;
-    let mut filled = false;
-    for (i, octet) in octets.iter().enumerate() {
-        if *octet == FLAG {
-            if filled {
-                return Some(i + 1);
-            }
-            begun = true;
-        } else {
-            filled = begun;
+    let mut at = memchr(FLAG, octets)? + 1;
+    while let Some(count) = memchr(FLAG, &octets[at..]) {
+        at += count + 1;
+        if count > 0 {
+            return Some(at);
         }
     }
     None

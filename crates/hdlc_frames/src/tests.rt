@@ -1,13 +1,14 @@
 //! Streams and frames from outside, in every cut.
 
-use super::{Control, Deframer, Found, Frame, control, first_frame, put_frame};
+use super::laws::frame_length;
+use super::{Control, Deframer, Found, Frame, control, control_extended, first_frame, put_frame};
 use er_base::Room;
 use std::process::Abort;
 use std::test::Fail;
 
 // Feeds a piece until it is used whole, and compares what was found with what is expected from the place
 // `next` on. Gives the place behind it.
-fn fed(
+fn feed_whole(
     rt: &impl Abort,
     deframer: &mut Deframer,
     piece: &[u8],
@@ -29,15 +30,31 @@ fn fed(
 }
 
 // Reads a stream whole, and in every cut into two and into three pieces.
-fn in_every_cut(rt: &impl Abort, stream: &[u8], expected: &[Found<'_>]) {
+fn in_cuts_of_three(rt: &impl Abort, stream: &[u8], expected: &[Found<'_>]) {
     for first in 0..stream.len() + 1 {
         for second in first..stream.len() + 1 {
             let mut deframer = Deframer::new();
-            let next = fed(rt, &mut deframer, &stream[..first], expected, 0);
-            let next = fed(rt, &mut deframer, &stream[first..second], expected, next);
-            let next = fed(rt, &mut deframer, &stream[second..], expected, next);
+            let next = feed_whole(rt, &mut deframer, &stream[..first], expected, 0);
+            let next = feed_whole(rt, &mut deframer, &stream[first..second], expected, next);
+            let next = feed_whole(rt, &mut deframer, &stream[second..], expected, next);
             assert_eq!(rt; next, expected.len());
         }
+    }
+}
+
+// Reads six octets in each of the 32 ways to cut them: bit `i` of a mask cuts behind octet `i`.
+fn in_every_cut(rt: &impl Abort, stream: &[u8; 6], expected: &[Found<'_>]) {
+    for mask in 0..32u8 {
+        let mut deframer = Deframer::new();
+        let mut next = 0;
+        let mut start = 0;
+        for place in 1..7usize {
+            if place == 6 || mask >> (place - 1) & 1 == 1 {
+                next = feed_whole(rt, &mut deframer, &stream[start..place], expected, next);
+                start = place;
+            }
+        }
+        assert_eq!(rt; next, expected.len());
     }
 }
 
@@ -47,34 +64,31 @@ const SABM: Found<'static> = Found::Frame(Frame {
 });
 
 #[test]
-fn one_frame(rt: HostRuntime) {
+fn six_octets_in_every_cut(rt: HostRuntime) {
     in_every_cut(&rt, &[0x7e, 0x01, 0x3f, 0xeb, 0xdf, 0x7e], &[SABM]);
-}
-
-#[test]
-fn another_octet_is_a_bad_check(rt: HostRuntime) {
     in_every_cut(&rt, &[0x7e, 0x01, 0x3f, 0xea, 0xdf, 0x7e], &[Found::BadFcs]);
-}
-
-#[test]
-fn an_escape_in_its_place_is_too_short(rt: HostRuntime) {
     in_every_cut(
         &rt,
         &[0x7e, 0x01, 0x3f, 0x7d, 0xdf, 0x7e],
         &[Found::TooShort],
     );
+    in_every_cut(
+        &rt,
+        &[0x7e, 0x01, 0x3f, 0xeb, 0x7d, 0x7e],
+        &[Found::Aborted],
+    );
 }
 
 #[test]
 fn short_aborted_and_empty_pieces(rt: HostRuntime) {
-    in_every_cut(&rt, &[0x7e, 0x01, 0x7e], &[Found::TooShort]);
-    in_every_cut(&rt, &[0x7e, 0x01, 0x7d, 0x7e], &[Found::Aborted]);
-    in_every_cut(&rt, &[0x7e, 0x7e, 0x7e], &[]);
+    in_cuts_of_three(&rt, &[0x7e, 0x01, 0x7e], &[Found::TooShort]);
+    in_cuts_of_three(&rt, &[0x7e, 0x01, 0x7d, 0x7e], &[Found::Aborted]);
+    in_cuts_of_three(&rt, &[0x7e, 0x7e, 0x7e], &[]);
 }
 
 #[test]
 fn frames_share_a_flag(rt: HostRuntime) {
-    in_every_cut(
+    in_cuts_of_three(
         &rt,
         &[
             0x55, 0x7e, 0x01, 0x3f, 0xeb, 0xdf, 0x7e, 0x7d, 0x7e, 0x01, 0x3f, 0xeb, 0xdf, 0x7e,
@@ -114,12 +128,12 @@ const ESCAPED: [u8; 13] = [
 ];
 
 #[test]
-#[tactic(auto, using(crate::proofs::WritingLaws::spelling_room))]
 fn a_frame_is_written_and_read(rt: HostRuntime) -> Result<(), Fail> {
+    frame_length();
     let mut out = Room::with_capacity(rt.alloc(), 100)?;
     put_frame(0x03, &[0x7e, 0x7d, 0x05, 0xeb], &mut out);
     assert_eq!(rt; out.held(), ESCAPED.as_slice());
-    in_every_cut(
+    in_cuts_of_three(
         &rt,
         &ESCAPED,
         &[Found::Frame(Frame {
@@ -142,43 +156,70 @@ fn the_first_frame_ends(rt: HostRuntime) {
     assert_eq!(rt; first_frame(&[0x7e, 0x01, 0x3f, 0xeb, 0xdf, 0x7e]), Some(6));
 }
 
+// Controls with their octets at modulo 8; the P/F bit is set in the last of each pair.
+const MODULO_8: [(Control, u8, u8); 9] = [
+    (Control::Info { ns: 0, nr: 0 }, 0x00, 0x10),
+    (Control::Info { ns: 7, nr: 5 }, 0xae, 0xbe),
+    (Control::Rr { nr: 3 }, 0x61, 0x71),
+    (Control::Rnr { nr: 0 }, 0x05, 0x15),
+    (Control::Rej { nr: 7 }, 0xe9, 0xf9),
+    (Control::Srej { nr: 1 }, 0x2d, 0x3d),
+    (Control::Ua, 0x63, 0x73),
+    (Control::Dm, 0x0f, 0x1f),
+    (Control::Frmr, 0x87, 0x97),
+];
+
 #[test]
-fn control_octets(rt: HostRuntime) {
+fn controls_modulo_8(rt: HostRuntime) {
+    for (expected, clear, set) in MODULO_8 {
+        assert_eq!(rt;
+            control(&[clear, 0x0a]),
+            Some((expected, [0x0a].as_slice()))
+        );
+        assert_eq!(rt; control(&[set]), Some((expected, [].as_slice())));
+    }
+    let sabm = Control::Sabm { poll: true };
+    let disc = Control::Disc { poll: false };
+    assert_eq!(rt; control(&[0x3f]), Some((sabm, [].as_slice())));
+    assert_eq!(rt; control(&[0x43]), Some((disc, [].as_slice())));
+    for octet in [0x03, 0x6f, 0x7f, 0xef] {
+        assert_eq!(rt; control(&[octet]), None);
+    }
     assert_eq!(rt; control(&[]), None);
     assert_eq!(rt;
-        control(&[0x00, 0x0a]),
-        Some((Control::Info { ns: 0, nr: 0 }, [0x0a].as_slice()))
+        Control::Info { ns: 7, nr: 5 }.octets(true).as_slice(),
+        [0xbe].as_slice()
+    );
+    assert_eq!(rt; sabm.octets(false).as_slice(), [0x3f].as_slice());
+}
+
+#[test]
+fn controls_modulo_128(rt: HostRuntime) {
+    let info = Control::Info { ns: 127, nr: 64 };
+    let rr = Control::Rr { nr: 1 };
+    let sabme = Control::Sabme { poll: true };
+    assert_eq!(rt;
+        control_extended(&[0xfe, 0x81, 0x41]),
+        Some((info, [0x41].as_slice()))
+    );
+    assert_eq!(rt; control_extended(&[0x01, 0x02]), Some((rr, [].as_slice())));
+    assert_eq!(rt; control_extended(&[0x7f]), Some((sabme, [].as_slice())));
+    assert_eq!(rt;
+        control_extended(&[0x73, 0x02]),
+        Some((Control::Ua, [0x02].as_slice()))
+    );
+    for octets in [[0x3f, 0x00], [0x11, 0x02], [0x03, 0x00]] {
+        assert_eq!(rt; control_extended(&octets), None);
+    }
+    assert_eq!(rt; control_extended(&[0x01]), None);
+    assert_eq!(rt; control_extended(&[]), None);
+    assert_eq!(rt;
+        info.octets_extended(true).as_slice(),
+        [0xfe, 0x81].as_slice()
     );
     assert_eq!(rt;
-        control(&[0xbe]),
-        Some((Control::Info { ns: 7, nr: 5 }, [].as_slice()))
+        rr.octets_extended(false).as_slice(),
+        [0x01, 0x02].as_slice()
     );
-    assert_eq!(rt;
-        control(&[0x61]),
-        Some((Control::Rr { nr: 3 }, [].as_slice()))
-    );
-    assert_eq!(rt;
-        control(&[0x15]),
-        Some((Control::Rnr { nr: 0 }, [].as_slice()))
-    );
-    assert_eq!(rt;
-        control(&[0xe9]),
-        Some((Control::Rej { nr: 7 }, [].as_slice()))
-    );
-    assert_eq!(rt;
-        control(&[0x2d]),
-        Some((Control::Srej { nr: 1 }, [].as_slice()))
-    );
-    assert_eq!(rt;
-        control(&[0x3f]),
-        Some((Control::Sabm { poll: true }, [].as_slice()))
-    );
-    assert_eq!(rt;
-        control(&[0x43]),
-        Some((Control::Disc { poll: false }, [].as_slice()))
-    );
-    assert_eq!(rt; control(&[0x73]), Some((Control::Ua, [].as_slice())));
-    assert_eq!(rt; control(&[0x0f]), Some((Control::Dm, [].as_slice())));
-    assert_eq!(rt; control(&[0x87]), Some((Control::Frmr, [].as_slice())));
-    assert_eq!(rt; control(&[0x03]), None);
+    assert_eq!(rt; sabme.octets_extended(false).as_slice(), [0x7f].as_slice());
 }

@@ -1,12 +1,11 @@
 //! Frames written.
 
-ghost use Rattle.std.specs.Prelude.{◌≡◌, ◌+◌, ◌/◌, ◌%◌, ◌≤◌, [], ◌∷◌, ◌++◌, length};
-ghost use Rattle.hdlc_fcs.specs.FrameCheck.{fcs_of};
-ghost use Rattle.hdlc_frames.specs.Spelling.{escaped_octet, escaped, spelling};
+ghost use Rattle.std.specs.Prelude.{◌≡◌, ◌+◌, ◌≤◌, ◌++◌, length};
+ghost use Rattle.hdlc_frames.specs.Spelling.{escaped, spelling};
 
-use crate::line::{ESCAPE, ESCAPE_BIT, FLAG};
+use crate::transparency::{ESCAPE, ESCAPE_BIT, FLAG, before_flag_or_escape};
 use er_base::Room;
-use hdlc_fcs::Running;
+use hdlc_fcs::check_octets;
 
 /// Appends a frame: a flag, the address, the body and their check sequence with flags and escapes escaped,
 /// a flag (ISO/IEC 13239, start/stop transmission with octet transparency).
@@ -25,36 +24,20 @@ pub fn put_frame(address: u8, body: &[u8], out: &mut Room)
     out.put(&[FLAG]);
 }
 
-// The check sequence of an address and a body, the low octet first.
-fn check_octets(address: u8, body: &[u8]) -> [u8; 2]
-    ensures { result ≡ fcs_of (address ∷ body.now) % 256 ∷ fcs_of (address ∷ body.now) / 256 ∷ [] }
-{
-    let mut check = Running::new();
-    check.add(&[address]);
-    check.add(body);
-    check.value().to_le_bytes()
-}
-
 // Appends octets of content, escaped.
 fn put_escaped(content: &[u8], out: &mut Room)
     requires { length out.old.items + length (escaped content.now) ≤ out.old.capacity }
     ensures items { out.new.items ≡ out.old.items ++ escaped content.now }
     ensures capacity { out.new.capacity ≡ out.old.capacity }
 {
-    for octet in content {
-        put_escaped_octet(*octet, out);
-    }
-}
-
-// Appends one octet of content, escaped.
-#[tactic(auto, unfolding(crate::specs::Spelling::escaped_octet))]
-fn put_escaped_octet(octet: u8, out: &mut Room)
-    requires { length out.old.items + length (escaped_octet octet) ≤ out.old.capacity }
-    ensures items { out.new.items ≡ out.old.items ++ escaped_octet octet }
-    ensures capacity { out.new.capacity ≡ out.old.capacity }
-{
-    match octet {
-        FLAG | ESCAPE => out.put(&[ESCAPE, octet ^ ESCAPE_BIT]),
-        _ => out.put(&[octet]),
+    let mut rest = content;
+    while !rest.is_empty() {
+        let count = before_flag_or_escape(rest);
+        out.put(&rest[..count]);
+        if count == rest.len() {
+            return;
+        }
+        out.put(&[ESCAPE, rest[count] ^ ESCAPE_BIT]);
+        rest = &rest[count + 1..];
     }
 }

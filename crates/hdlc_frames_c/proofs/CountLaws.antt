@@ -1,14 +1,12 @@
 -- Frames counted as they come.
 use Rattle.std.proofs.Common.{◌≡◌, ℕ, ◌+◌, ◌-◌, ◌≤◌, ◌<◌, cond, List, [], ◌++◌, length, take, drop, Option, None, Some, refl, sym, ◌∙◌, ap, arith, true, false}
-use Rattle.std.specs.Prelude.{count_by}
 use Rattle.std.specs.Option.{option_to_list}
 use Rattle.std.proofs.Math.Seq.{take-add}
 use Rattle.std.proofs.lemmas.List.{take-take, length-take, length-take-le, length-drop}
 use Rattle.std.proofs.lemmas.List.Sums.{sum_by-append}
-use Rattle.hdlc_frames.specs.Framing.{Verdict, frames_of}
-use Rattle.hdlc_frames.specs.Deframing.{Kept, fed, kept_of, AddsToFrames}
-use Rattle.hdlc_frames.proofs.DeframingLaws.{fed_kept}
-use Rattle.hdlc_frames.proofs.StreamLaws.{frames_of-nothing}
+use Rattle.hdlc_frames.specs.Framing.{Verdict, frames_of, between_flags, all_but_last, cut}
+use Rattle.hdlc_frames.specs.Deframing.{Kept, feeding_of, kept_of, AddsToFrames}
+use Rattle.hdlc_frames.specs.Laws.{GoesOn}
 use Rattle.hdlc_frames_c.specs.FrameCount.{is_frame, frame_count, found_count}
 
 count_append : (us vs : List Verdict) → frame_count (us ++ vs) ≡ frame_count us + frame_count vs
@@ -26,12 +24,12 @@ used_part stream at end used h =
     let fewer : used ≤ end - at = omega (arith, length-take (end - at) (drop at stream)) in
     ap (λ xs. take at stream ++ xs) (take-take used (end - at) (drop at stream) fewer) ∙ sym (take-add at used stream)
 
-pub kept_on : (stream : List ℕ) (at end used : ℕ) (k new : Kept) → k ≡ kept_of (take at stream) → used ≡ (fed k (take (end - at) (drop at stream))).used → used ≤ length (take (end - at) (drop at stream))
-    → new ≡ (fed k (take (end - at) (drop at stream))).kept → new ≡ kept_of (take (at + used) stream)
-kept_on stream at end used k new kept by within e =
+pub kept_on : GoesOn → (stream : List ℕ) (at end used : ℕ) (k new : Kept) → k ≡ kept_of (take at stream) → used ≡ (feeding_of k (take (end - at) (drop at stream))).used → used ≤ length (take (end - at) (drop at stream))
+    → new ≡ (feeding_of k (take (end - at) (drop at stream))).kept → new ≡ kept_of (take (at + used) stream)
+kept_on goes stream at end used k new kept by within e =
     let piece : List ℕ = take (end - at) (drop at stream) in
-    e ∙ ap (λ (h : Kept). (fed h piece).kept) kept ∙ sym (fed_kept (take at stream) piece)
-    ∙ ap (λ n. kept_of (take at stream ++ take n piece)) (sym (by ∙ ap (λ (h : Kept). (fed h piece).used) kept))
+    e ∙ ap (λ (h : Kept). (feeding_of h piece).kept) kept ∙ sym (goes (take at stream) piece).1
+    ∙ ap (λ n. kept_of (take at stream ++ take n piece)) (sym (by ∙ ap (λ (h : Kept). (feeding_of h piece).used) kept))
     ∙ ap kept_of (used_part stream at end used within)
 
 pub count_on : (stream : List ℕ) (at end used : ℕ) (k : Kept) (v : Option Verdict) (count : ℕ) → k ≡ kept_of (take at stream) → AddsToFrames k (take (end - at) (drop at stream)) used v → used ≤ length (take (end - at) (drop at stream))
@@ -41,8 +39,8 @@ count_on stream at end used k v count kept adds within e =
     ∙ ap frame_count (sym (adds (take at stream) kept)) ∙ ap (λ xs. frame_count (frames_of xs)) (used_part stream at end used within)
 
 pub nothing_yet : 0 ≡ frame_count (frames_of [])
-unfolding frame_count
-nothing_yet = ap (λ vs. count_by is_frame vs) (sym frames_of-nothing)
+unfolding frame_count frames_of between_flags all_but_last cut
+nothing_yet = refl
 
 -- a part has as many octets as its ends are apart
 pub part_size : (stream : List ℕ) (at end : ℕ) → end ≤ length stream → length (take (end - at) (drop at stream)) ≡ end - at

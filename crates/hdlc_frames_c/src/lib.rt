@@ -7,6 +7,7 @@ ghost use Rattle.hdlc_frames.specs.Framing.{frames_of};
 ghost use Rattle.hdlc_frames.specs.Shown.{shown};
 ghost use Rattle.hdlc_frames_c.specs.FrameCount.{frame_count, found_count};
 
+use hdlc_frames::laws::goes_on;
 use hdlc_frames::{Deframer, Found};
 
 /// The number of frames in a stream that is read in pieces of `piece` octets, or of one octet where `piece`
@@ -15,6 +16,7 @@ use hdlc_frames::{Deframer, Found};
 pub extern "C" fn hdlc_frames_c_count(stream: &[u8], piece: u32) -> u64
     ensures { result ≡ frame_count (frames_of stream.now) }
 {
+    goes_on();
     let size = piece.max(1) as usize;
     let mut deframer = Deframer::new();
     let mut count = 0;

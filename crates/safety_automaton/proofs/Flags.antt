@@ -1,9 +1,18 @@
--- The two direction flags, and the text that a message is sealed in.
-use Rattle.std.proofs.Common.{◌≡◌, ℕ, Bool, true, false, List, refl}
-use Rattle.sapdu.proofs.Texts.{same_dt_texts}
-use Rattle.safety_automaton.specs.Safety.{same_flag, message_text, flag_of, other_role}
+-- The two direction flags, and tests that are told the other way round.
+use Rattle.std.proofs.Common.{◌≡◌, ℕ, not, Bool, true, false, Option, refl}
+use Rattle.std.proofs.Math.Bool.{beq}
+use Rattle.er_base.specs.declared.release.Release.{Release}
+use Rattle.des_block.specs.declared.triple_key.TripleKey.{TripleKey}
+use Rattle.safety_automaton.specs.declared.phase.Stage.{Stage}
+use Rattle.safety_automaton.specs.declared.phase.Stage.TheVariants as stage
+use Rattle.safety_automaton.specs.declared.phase.Phase.{Phase as CodePhase}
+use Rattle.safety_automaton.specs.declared.phase.Phase.TheVariants as code
+use Rattle.safety_automaton.specs.declared.safe_state.SafeState.TheVariants as state
+use Rattle.safety_automaton.specs.Reports.{state_of}
+use Rattle.safety_automaton.specs.Kept.{stage_view, phase_view}
 use Rattle.safety_automaton.specs.declared.role.Role.{Role}
 use Rattle.safety_automaton.specs.declared.role.Role.TheVariants.{Initiator, Responder}
+use Rattle.safety_automaton.specs.Safety.{same_flag, flag_of, other_role}
 
 pub same_flag_at : (b : Bool) → same_flag b b ≡ true
 same_flag_at true = refl
@@ -20,17 +29,30 @@ pub own_flag : (r : Role) → same_flag (flag_of r) (flag_of (other_role r)) ≡
 own_flag Initiator = refl
 own_flag Responder = refl
 
--- two sides with one flag have one role
-pub same_role : (a b : Role) → flag_of a ≡ flag_of b → a ≡ b
-same_role Initiator Initiator e = refl
-same_role Initiator Responder e = cc
-same_role Responder Initiator e = cc
-same_role Responder Responder e = refl
+-- a flag that isn't the peer's is the own
+pub is_own_flag : (r : Role) (flag : Bool) → same_flag flag (flag_of (other_role r)) ≡ false → flag ≡ flag_of r
+is_own_flag Initiator true e = cc
+is_own_flag Initiator false e = refl
+is_own_flag Responder true e = refl
+is_own_flag Responder false e = cc
 
--- the sealed text of a message tells its direction flag and its user octets
-pub same_message : (f g : Bool) (to to' : ℕ) (user user' : List ℕ)
-    → message_text f to user ≡ message_text g to' user' → (f ≡ g) × (user ≡ user')
-unfolding message_text
-same_message f g to to' user user' e =
-    let same = same_dt_texts user user' 0 0 f g to to' 0 0 0 0 e in
-    (same.0, same.2)
+-- the test of the code, `!=`
+pub same_flag_if : (a b : Bool) → not (beq a b) ≡ false → same_flag a b ≡ true
+same_flag_if true true e = refl
+same_flag_if true false e = cc
+same_flag_if false true e = cc
+same_flag_if false false e = refl
+
+keyed : (me peer : ℕ) (keys : TripleKey) (at : Stage) → state_of (stage_view me peer keys at) ≡ state.Released → ⊥
+keyed me peer keys (stage.WaitAu3 ra rb) e = cc
+keyed me peer keys (stage.WaitAr ra rb) e = cc
+keyed me peer keys stage.Connected e = cc
+
+-- a phase of the code that isn't released
+pub not_released : (me : ℕ) (phase : CodePhase) → ((release : Release) (session : Option TripleKey) → phase ≡ code.Released release session → ⊥)
+    → state_of (phase_view me phase) ≡ state.Released → ⊥
+not_released me (code.Ready peer kmac rb) other e = cc
+not_released me (code.WaitAu1 ra) other e = cc
+not_released me (code.WaitAu2 peer kmac rb) other e = cc
+not_released me (code.Keyed session) other e = keyed me session.peer session.keys session.stage e
+not_released me (code.Released release session) other e = other release session refl

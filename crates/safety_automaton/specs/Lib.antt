@@ -3,3 +3,4 @@ pub mod Safety
 pub mod Reports
 pub mod Kept
 pub mod Rules
+pub mod Laws

@@ -7,7 +7,7 @@ use Rattle.safety_automaton.specs.declared.deed.SealRefused.{SealRefused}
 use Rattle.safety_automaton.specs.declared.deed.SealRefused.TheVariants as refused
 use Rattle.safety_automaton.specs.declared.safe_state.SafeState.{SafeState}
 use Rattle.safety_automaton.specs.declared.safe_state.SafeState.TheVariants as state
-use Rattle.safety_automaton.specs.Safety.{Safety, Phase, Ready, WaitAu1, WaitAu2, WaitAu3, WaitAr, Connected, Released, SafeDeed, Answers, Trusts, Accepts, Joins, Takes, Seals, Refuses, Leaves, IsLeft, Refusal, IsReleased, IsNotConnected, HasLength}
+use Rattle.safety_automaton.specs.Safety.{Safety, Phase, Ready, WaitAu1, WaitAu2, WaitAu3, WaitAr, Connected, Released, SafetyOutcome, SentAu1, SentAu2, SentAu3, SentAr, ReceivedAr, AcceptedDt, SentDt, Refused, ReleasedLocally, ReleasedByPeer, NothingDone, Refusal, RefusedReleased, RefusedNotConnected, RefusedLength}
 
 -- a side as it is kept: the side, and the texts that its last call sealed and verified
 pub record KeptSafe : Type 0 where
@@ -15,7 +15,7 @@ pub record KeptSafe : Type 0 where
   pub sealed : Option (List ℕ)
   pub verified : Option (List ℕ)
 
--- a side that was just made
+-- a side without texts, as one that was just made
 abbrev pub made : Safety → KeptSafe
 made s = record { safety = s; sealed = None; verified = None }
 
@@ -24,46 +24,67 @@ abbrev pub state_of : Phase → SafeState
 state_of (Ready peer kmac rb) = state.Ready
 state_of (WaitAu1 ra) = state.WaitAu1
 state_of (WaitAu2 peer kmac rb) = state.WaitAu2
-state_of (WaitAu3 peering) = state.WaitAu3
-state_of (WaitAr peering) = state.WaitAr
+state_of (WaitAu3 connection) = state.WaitAu3
+state_of (WaitAr connection) = state.WaitAr
 state_of (Connected peer session) = state.Connected
 state_of (Released release session) = state.Released
 
 -- what is told of received octets
 pub data Report : Type 0 where
-  IsAnswered : Report
-  IsConnected : (peer : ℕ) → Report
-  IsAccepted : (user : List ℕ) → Report
-  HasReleased : (release : Release) → Report
-  IsIgnored : Report
+  -- an AU2 or an AU3 was sent
+  ToldAnswered : Report
+  ToldConnected : (peer : ℕ) → Report
+  ToldAccepted : (user : List ℕ) → Report
+  ToldReleased : (release : Release) → Report
+  ToldIgnored : Report
+
+-- user octets that were accepted, if any, are so
+abbrev pub IfAccepted : Report → (List ℕ → Type 0) → Type 0
+IfAccepted ToldAnswered P = Unit {0}
+IfAccepted (ToldConnected peer) P = Unit {0}
+IfAccepted (ToldAccepted user) P = P user
+IfAccepted (ToldReleased release) P = Unit {0}
+IfAccepted ToldIgnored P = Unit {0}
 
 -- an answer of the code
 abbrev pub report_view : CodeDeed → Report
-report_view deed.Answered = IsAnswered
-report_view (deed.Connected peer) = IsConnected peer
-report_view (deed.Accepted user) = IsAccepted user.now
-report_view (deed.Released release) = HasReleased release
-report_view deed.Ignored = IsIgnored
+report_view deed.Answered = ToldAnswered
+report_view (deed.Connected peer) = ToldConnected peer
+report_view (deed.Accepted user) = ToldAccepted user.now
+report_view (deed.Released release) = ToldReleased release
+report_view deed.Ignored = ToldIgnored
 
--- what is told of a deed of the model
-abbrev pub report_of : SafeDeed → Report
-report_of (Answers session sealed octets) = IsAnswered
-report_of (Trusts session verified sealed octets) = IsAnswered
-report_of (Accepts peering verified sealed octets) = IsConnected peering.peer
-report_of (Joins peering verified) = IsConnected peering.peer
-report_of (Takes session user verified) = IsAccepted user
-report_of (Leaves release octets) = HasReleased release
-report_of (IsLeft release) = HasReleased release
-report_of deed = IsIgnored
+-- what is told of an outcome of received octets; the others tell nothing
+abbrev pub report_of : SafetyOutcome → Report
+report_of (SentAu1 octets) = ToldIgnored
+report_of (SentAu2 session sealed octets) = ToldAnswered
+report_of (SentAu3 session verified sealed octets) = ToldAnswered
+report_of (SentAr connection verified sealed octets) = ToldConnected connection.peer
+report_of (ReceivedAr connection verified) = ToldConnected connection.peer
+report_of (AcceptedDt session user verified) = ToldAccepted user
+report_of (SentDt session user sealed octets) = ToldIgnored
+report_of (Refused refusal) = ToldIgnored
+report_of (ReleasedLocally release octets) = ToldReleased release
+report_of (ReleasedByPeer release) = ToldReleased release
+report_of NothingDone = ToldIgnored
 
 -- why the code refuses a send
 abbrev pub refusal_view : SealRefused → Refusal
-refusal_view (refused.Released release) = IsReleased release
-refusal_view refused.NotConnected = IsNotConnected
-refusal_view (refused.Length found) = HasLength found
+refusal_view (refused.Released release) = RefusedReleased release
+refusal_view refused.NotConnected = RefusedNotConnected
+refusal_view (refused.Length found) = RefusedLength found
 
--- a send was Ok exactly where the model seals, and else refused for the model's reason
-abbrev pub SendsAs : Result (Unit {0}) SealRefused → SafeDeed → Type 0
-SendsAs (Ok done) (Seals session user sealed octets) = Unit {0}
-SendsAs (Ok done) deed = ⊥
-SendsAs (Err refused) deed = deed ≡ Refuses (refusal_view refused)
+-- a send was Ok exactly where the model sends a DT, and else refused for the model's reason
+abbrev pub SendsAs : Result (Unit {0}) SealRefused → SafetyOutcome → Type 0
+SendsAs (Ok done) (SentDt session user sealed octets) = Unit {0}
+SendsAs (Ok done) (SentAu1 octets) = ⊥
+SendsAs (Ok done) (SentAu2 session sealed octets) = ⊥
+SendsAs (Ok done) (SentAu3 session verified sealed octets) = ⊥
+SendsAs (Ok done) (SentAr connection verified sealed octets) = ⊥
+SendsAs (Ok done) (ReceivedAr connection verified) = ⊥
+SendsAs (Ok done) (AcceptedDt session user verified) = ⊥
+SendsAs (Ok done) (Refused refusal) = ⊥
+SendsAs (Ok done) (ReleasedLocally release octets) = ⊥
+SendsAs (Ok done) (ReleasedByPeer release) = ⊥
+SendsAs (Ok done) NothingDone = ⊥
+SendsAs (Err refused) outcome = outcome ≡ Refused (refusal_view refused)

@@ -1,15 +1,16 @@
 ghost use Rattle.std.specs.Prelude.{List, ◌≡◌};
-ghost use Rattle.safety_automaton.specs.Keys.{Entry, key_of, AreDistinct};
+ghost use Rattle.safety_automaton.specs.Keys.{Entry, key_at, AreDistinct};
 
 use des_block::TripleKey;
 
 /// Where a side of a safe connection finds the KMAC of a pair of ETCS numbers (UNISIG SUBSET-037).
 pub trait KeyFinder {
-    // the keys, no pair twice
+    // the keys, each with its pair and its moments; no two of one pair have a moment in common
     ghost entries: { Self → List Entry };
 
-    /// The KMAC of an engine and a radio block centre, by their ETCS numbers, which are below 2^24. None where there is none.
-    fn find(&self, engine: u32, rbc: u32) -> Option<TripleKey>
-        ensures found { result ≡ key_of (entries self.now) engine rbc }
+    /// The KMAC of an engine and a radio block centre that holds at the moment `now`, in milliseconds, by their ETCS numbers, which
+    /// are below 2^24. None where there is none.
+    fn find(&self, engine: u32, rbc: u32, now: u64) -> Option<TripleKey>
+        ensures found { result ≡ key_at (entries self.now) now engine rbc }
         ensures distinct { AreDistinct (entries self.now) };
 }

@@ -1,27 +1,30 @@
 //! One side of a safe connection: its calls.
 
-ghost use Rattle.std.specs.Prelude.{◌≡◌, ◌+◌, ◌≤◌, ◌<◌, ◌^◌, ◌++◌, [], length, option_map, Result, None};
-ghost use Rattle.cbc_mac.specs.Mac.{mac_of};
+ghost use Rattle.std.specs.Prelude.{ℕ, ◌≡◌, ◌+◌, ◌≤◌, ◌<◌, ◌^◌, length, option_map, Option, None, OnOk, OnErr};
 ghost use Rattle.sapdu.specs.Spelling.{HasUserOctets, HasNumber, spelling};
+ghost use Rattle.sapdu.specs.Messages.{HasRoomForSapdu};
 ghost use Rattle.sapdu.specs.Reading.{view};
-ghost use Rattle.safety_automaton.specs.Safety.{flag_of, initiator, responder, fixed, Start, Hear, Say, Leave, Ready, step, sealed_by, verified_by, sent_by, session_in, leaves};
-ghost use Rattle.safety_automaton.specs.Reports.{made, state_of, report_view, report_of, SendsAs};
+ghost use Rattle.des_block.specs.declared.triple_key.TripleKey.{TripleKey};
+ghost use Rattle.safety_automaton.specs.Keys.{key_at, no_keys};
+ghost use Rattle.safety_automaton.specs.Safety.{flag_of, initiator, responder, fixed, ConnectRequest, Received, DataRequest, DisconnectRequest, Released, step, sealed_by, verified_by, sent_by, session_in, releases};
+ghost use Rattle.safety_automaton.specs.Reports.{made, state_of, report_view, report_of, SendsAs, IfAccepted};
+ghost use Rattle.safety_automaton.specs.Laws.{IsValid};
 ghost use Rattle.safety_automaton.specs.declared.safe_state.SafeState.TheVariants as state;
-ghost use Rattle.safety_automaton.specs.Kept.{Does, HasPeer, phase_view};
+ghost use Rattle.er_base.specs.Stored.{Appends};
+ghost use Rattle.safety_automaton.specs.Kept.{Does, HasPeer, IsUnreleased, phase_view};
 
-mod rows;
-mod set_up;
+mod received;
+mod sent;
 
 use crate::deed::{SafeDeed, SealRefused};
 use crate::key_finder::KeyFinder;
+use crate::laws;
 use crate::phase::Phase;
 use crate::role::Role;
 use crate::safe_state::SafeState;
-use crate::text::Text;
-use cbc_mac::MacKey;
 use des_block::TripleKey;
-use er_base::{Release, Room};
-use sapdu::SaPdu;
+use er_base::{Cause, Release, Room};
+use sapdu::{SaPdu, SealedText};
 use std::marker::Model;
 
 /// One side of a safe connection (UNISIG SUBSET-037: peer entity authentication, Safe Transmission, release; octet values, the
@@ -33,37 +36,24 @@ pub struct Safe {
     me: u32,
     role: Role,
     phase: Phase,
-    // the session keys of the phase, prepared once for all texts
-    prepared: Option<MacKey>,
-    sealed: Option<Text>,
-    verified: Option<Text>,
+    sealed: Option<SealedText>,
+    verified: Option<SealedText>,
 }
 
 impl Model for Safe {
     ghost use Rattle.std.specs.Prelude.{◌≡◌, ◌<◌, ◌^◌};
-    ghost use Rattle.safety_automaton.specs.Safety.{session_in};
     ghost use Rattle.safety_automaton.specs.Reports.{KeptSafe};
-    ghost use Rattle.safety_automaton.specs.Kept.{phase_view, HasPeer};
+    ghost use Rattle.safety_automaton.specs.Kept.{phase_view, HasPeer, HasNoTexts};
 
     ghost Value = { KeptSafe };
 
     ghost view = { λ s. record {
-      safety = record { me = s.me; role = s.role; phase = phase_view s.phase };
+      safety = record { me = s.me; role = s.role; phase = phase_view s.me s.phase };
       sealed = s.sealed;
       verified = s.verified;
     } };
 
-    ghost invariant = { λ s. (s.me < 2 ^ 24) × HasPeer s.phase × (s.prepared ≡ session_in (phase_view s.phase)) };
-}
-
-// Session keys, where they are known, prepared for many texts.
-fn prepared(session: Option<TripleKey>) -> Option<MacKey>
-    ensures { result ≡ session }
-{
-    match session {
-        Some(session) => Some(MacKey::new(&session)),
-        None => None,
-    }
+    ghost invariant = { λ s. (s.me < 2 ^ 24) × HasPeer s.phase × HasNoTexts s.phase s.sealed s.verified };
 }
 
 impl Safe {
@@ -71,7 +61,8 @@ impl Safe {
     pub fn initiator(me: u32, peer: u32, kmac: TripleKey, rb: u64) -> Safe
         requires me { me < 2 ^ 24 }
         requires peer { peer < 2 ^ 24 }
-        ensures { result ≡ made (initiator me peer kmac rb) }
+        ensures made { result ≡ made (initiator me peer kmac rb) }
+        ensures valid { IsValid result.safety }
     {
         Safe::with_phase(me, Role::Initiator, Phase::Ready { peer, kmac, rb })
     }
@@ -79,7 +70,8 @@ impl Safe {
     /// A responder that waits to be called: its ETCS number, below 2^24, and its random number.
     pub fn responder(me: u32, ra: u64) -> Safe
         requires { me < 2 ^ 24 }
-        ensures { result ≡ made (responder me ra) }
+        ensures made { result ≡ made (responder me ra) }
+        ensures valid { IsValid result.safety }
     {
         Safe::with_phase(me, Role::Responder, Phase::WaitAu1 { ra })
     }
@@ -88,89 +80,104 @@ impl Safe {
     pub fn fixed(me: u32, peer: u32, role: Role, session: TripleKey) -> Safe
         requires me { me < 2 ^ 24 }
         requires peer { peer < 2 ^ 24 }
-        ensures { result ≡ made (fixed me peer role session) }
+        ensures made { result ≡ made (fixed me peer role session) }
+        ensures valid { IsValid result.safety }
     {
-        Safe::with_phase(me, role, Phase::Connected { peer, session })
+        Safe::with_phase(me, role, Phase::connected(peer, &session))
     }
 
     /// An initiator begins: writes an AU1 to `out`.
     pub fn start(&mut self, out: &mut Room)
         requires ready { state_of self.old.safety.phase ≡ state.Ready }
-        requires room { length out.old.items + 1032 ≤ out.old.capacity }
-        ensures safety { self.new.safety ≡ (step [] self.old.safety Start).0 }
-        ensures sealed { self.new.sealed ≡ sealed_by (step [] self.old.safety Start).1 }
-        ensures verified { self.new.verified ≡ verified_by (step [] self.old.safety Start).1 }
-        ensures items { out.new.items ≡ out.old.items ++ sent_by (step [] self.old.safety Start).1 }
-        ensures capacity { out.new.capacity ≡ out.old.capacity }
+        requires room { HasRoomForSapdu out.old }
+        ensures safety { self.new.safety ≡ (step no_keys self.old.safety ConnectRequest).0 }
+        ensures sealed { self.new.sealed ≡ None }
+        ensures verified { self.new.verified ≡ None }
+        ensures out { Appends out.old out.new (sent_by (step no_keys self.old.safety ConnectRequest).1) }
+        ensures sent { length out.new.items ≤ length out.old.items + 13 }
     {
-        if let Phase::Ready { peer, kmac, rb } = self.phase {
-            let au1 = SaPdu::Au1 {
-                id: self.me,
-                feature: 1,
-                rb,
-            };
-            self.write(&au1, out);
-            self.becomes(Phase::WaitAu2 { peer, kmac, rb }, None, None);
-        }
+        laws::lengths();
+        self.send_au1(out);
     }
 
-    /// Takes octets from the peer: tells what they did, and writes the answering SaPDU to `out`, where there is one.
+    /// Takes octets from the peer at a moment in milliseconds: tells what they did, and writes the answering SaPDU to `out`, where
+    /// there is one; for a local release that is the DI. An answer has at most 21 octets.
     pub fn receive<'o, K: KeyFinder>(
         &mut self,
         keys: &K,
+        now: u64,
         octets: &'o [u8],
         out: &mut Room,
     ) -> SafeDeed<'o>
-        requires room { length out.old.items + 1032 ≤ out.old.capacity }
-        ensures safety { self.new.safety ≡ (step (K.entries keys.now) self.old.safety (Hear octets.now)).0 }
-        ensures report { report_view result ≡ report_of (step (K.entries keys.now) self.old.safety (Hear octets.now)).1 }
-        ensures sealed { self.new.sealed ≡ sealed_by (step (K.entries keys.now) self.old.safety (Hear octets.now)).1 }
-        ensures verified { self.new.verified ≡ verified_by (step (K.entries keys.now) self.old.safety (Hear octets.now)).1 }
-        ensures items { out.new.items ≡ out.old.items ++ sent_by (step (K.entries keys.now) self.old.safety (Hear octets.now)).1 }
-        ensures capacity { out.new.capacity ≡ out.old.capacity }
+        requires room { HasRoomForSapdu out.old }
+        ensures safety { self.new.safety ≡ (step (key_at (K.entries keys.now) now) self.old.safety (Received octets.now)).0 }
+        ensures report { report_view result ≡ report_of (step (key_at (K.entries keys.now) now) self.old.safety (Received octets.now)).1 }
+        ensures sealed { self.new.sealed ≡ sealed_by (step (key_at (K.entries keys.now) now) self.old.safety (Received octets.now)).1 }
+        ensures verified { self.new.verified ≡ verified_by (step (key_at (K.entries keys.now) now) self.old.safety (Received octets.now)).1 }
+        ensures out { Appends out.old out.new (sent_by (step (key_at (K.entries keys.now) now) self.old.safety (Received octets.now)).1) }
+        ensures sent { length out.new.items ≤ length out.old.items + 21 }
+        ensures accepted { IfAccepted (report_view result) (λ user. length user ≤ 1023) }
+        ensures inert { state_of self.old.safety.phase ≡ state.Released → (self.new ≡ self.old) × (out.new ≡ out.old) }
     {
-        self.hears(keys, octets, out)
+        laws::lengths();
+        if let Phase::Released { .. } = self.phase {
+            return SafeDeed::Ignored;
+        }
+        self.receive_octets(keys, now, octets, out)
     }
 
-    /// Sends user octets, 1 to 1,023 of them: seals them, and writes the DT to `out`. A refused send changes nothing, but that the
-    /// texts of the last call are forgotten.
+    /// Sends user octets, 1 to 1,023 of them: seals them, and writes the DT to `out`. A refused send changes nothing.
     pub fn send(&mut self, user: &[u8], out: &mut Room) -> Result<(), SealRefused>
-        requires room { length out.old.items + 1032 ≤ out.old.capacity }
-        ensures safety { self.new.safety ≡ (step [] self.old.safety (Say user.now)).0 }
-        ensures report { SendsAs result (step [] self.old.safety (Say user.now)).1 }
-        ensures sealed { self.new.sealed ≡ sealed_by (step [] self.old.safety (Say user.now)).1 }
-        ensures verified { self.new.verified ≡ verified_by (step [] self.old.safety (Say user.now)).1 }
-        ensures items { out.new.items ≡ out.old.items ++ sent_by (step [] self.old.safety (Say user.now)).1 }
-        ensures capacity { out.new.capacity ≡ out.old.capacity }
+        requires room { HasRoomForSapdu out.old }
+        ensures safety { self.new.safety ≡ (step no_keys self.old.safety (DataRequest user.now)).0 }
+        ensures report { SendsAs result (step no_keys self.old.safety (DataRequest user.now)).1 }
+        ensures out { Appends out.old out.new (sent_by (step no_keys self.old.safety (DataRequest user.now)).1) }
+        ensures sealed { OnOk result (self.new.sealed ≡ sealed_by (step no_keys self.old.safety (DataRequest user.now)).1) }
+        ensures verified { OnOk result (self.new.verified ≡ None) }
+        ensures refused { OnErr result ((self.new ≡ self.old) × (out.new ≡ out.old)) }
+        ensures sent { length out.new.items ≤ length out.old.items + 1032 }
     {
-        match self.phase {
-            Phase::Released { release, .. } => {
-                self.forget();
-                Err(SealRefused::Released(release))
-            }
-            Phase::Connected { peer, session } => self.seal(peer, &session, user, out),
-            _ => {
-                self.forget();
-                Err(SealRefused::NotConnected)
-            }
-        }
+        laws::lengths();
+        self.send_dt(user, out)
     }
 
     /// The user releases, with a sub-reason: writes a DI to `out`. A released side does nothing.
     pub fn release(&mut self, sub: u8, out: &mut Room)
-        requires room { length out.old.items + 1032 ≤ out.old.capacity }
-        ensures safety { self.new.safety ≡ (step [] self.old.safety (Leave sub)).0 }
-        ensures sealed { self.new.sealed ≡ sealed_by (step [] self.old.safety (Leave sub)).1 }
-        ensures verified { self.new.verified ≡ verified_by (step [] self.old.safety (Leave sub)).1 }
-        ensures items { out.new.items ≡ out.old.items ++ sent_by (step [] self.old.safety (Leave sub)).1 }
-        ensures capacity { out.new.capacity ≡ out.old.capacity }
+        requires room { HasRoomForSapdu out.old }
+        ensures safety { self.new.safety ≡ (step no_keys self.old.safety (DisconnectRequest sub)).0 }
+        ensures sealed { self.new.sealed ≡ None }
+        ensures verified { self.new.verified ≡ None }
+        ensures out { Appends out.old out.new (sent_by (step no_keys self.old.safety (DisconnectRequest sub)).1) }
+        ensures sent { length out.new.items ≤ length out.old.items + 3 }
+        ensures inert { state_of self.old.safety.phase ≡ state.Released → (self.new ≡ self.old) × (out.new ≡ out.old) }
     {
-        match self.phase {
-            Phase::Released { .. } => self.forget(),
-            _ => {
-                self.leave(0, sub, out);
-            }
+        if let Phase::Released { .. } = self.phase {
+            return;
         }
+        self.release_for(Cause::User { sub }, out);
+    }
+
+    /// Forgets the texts that the last call sealed and verified, as before an event of its owner in which this side has no call.
+    pub fn forget(&mut self)
+        ensures { self.new ≡ made self.old.safety }
+    {
+        self.sealed = None;
+        self.verified = None;
+    }
+
+    /// Which end of the connection this side is.
+    pub fn role(&self) -> Role
+        ensures { result ≡ self.now.safety.role }
+    {
+        self.role
+    }
+
+    /// The own ETCS number, below 2^24.
+    pub fn me(&self) -> u32
+        ensures me { result ≡ self.now.safety.me }
+        ensures below { result < 2 ^ 24 }
+    {
+        self.me
     }
 
     /// What this side waits for.
@@ -191,43 +198,36 @@ impl Safe {
     pub fn sealed(&self) -> Option<&[u8]>
         ensures { option_map (λ t. t.now) result ≡ self.now.sealed }
     {
-        match &self.sealed {
-            Some(text) => Some(text.octets()),
-            None => None,
-        }
+        self.sealed.as_ref().map(SealedText::octets)
     }
 
     /// The text, unpadded, whose MAC verified in the last call.
     pub fn verified(&self) -> Option<&[u8]>
         ensures { option_map (λ t. t.now) result ≡ self.now.verified }
     {
-        match &self.verified {
-            Some(text) => Some(text.octets()),
-            None => None,
-        }
+        self.verified.as_ref().map(SealedText::octets)
     }
 
     // A side that was just made.
     fn with_phase(me: u32, role: Role, phase: Phase) -> Safe
         requires me { me < 2 ^ 24 }
         requires peer { HasPeer phase }
-        ensures { result ≡ made (record { me = me; role = role; phase = phase_view phase }) }
+        ensures { result ≡ made (record { me = me; role = role; phase = phase_view me phase }) }
     {
         Safe {
             me,
             role,
             phase,
-            prepared: prepared(phase.session()),
             sealed: None,
             verified: None,
         }
     }
 
-    // Goes on to a phase with the same session keys, in a call that sealed and verified these texts.
-    fn becomes(&mut self, phase: Phase, sealed: Option<Text>, verified: Option<Text>)
+    // Sets a phase that isn't released, in a call that sealed and verified these texts.
+    fn set_phase(&mut self, phase: Phase, sealed: Option<SealedText>, verified: Option<SealedText>)
         requires peer { HasPeer phase }
-        requires session { session_in (phase_view phase) ≡ session_in self.old.safety.phase }
-        ensures safety { self.new.safety ≡ record self.old.safety { phase = phase_view phase } }
+        requires unreleased { IsUnreleased phase }
+        ensures safety { self.new.safety ≡ record self.old.safety { phase = phase_view self.old.safety.me phase } }
         ensures sealed { self.new.sealed ≡ sealed }
         ensures verified { self.new.verified ≡ verified }
     {
@@ -236,41 +236,12 @@ impl Safe {
         self.verified = verified;
     }
 
-    // The same to a phase in which the session keys are known for the first time.
-    fn learns(
-        &mut self,
-        phase: Phase,
-        session: MacKey,
-        sealed: Option<Text>,
-        verified: Option<Text>,
-    )
-        requires peer { HasPeer phase }
-        requires session { session_in (phase_view phase) ≡ Some session }
-        ensures safety { self.new.safety ≡ record self.old.safety { phase = phase_view phase } }
-        ensures sealed { self.new.sealed ≡ sealed }
-        ensures verified { self.new.verified ≡ verified }
+    // Ends the connection; the session keys stay.
+    fn set_released(&mut self, release: Release)
+        ensures { self.new ≡ made (record self.old.safety { phase = Released release (session_in self.old.safety.phase) }) }
     {
-        self.phase = phase;
-        self.prepared = Some(session);
-        self.sealed = sealed;
-        self.verified = verified;
-    }
-
-    // The MAC of a text under the session keys, which are known. They are prepared then; the second arm is right too.
-    fn mac(&self, session: &TripleKey, text: &Text) -> u64
-        requires { session_in self.now.safety.phase ≡ Some session.now }
-        ensures { result ≡ mac_of session.now text.now }
-    {
-        match &self.prepared {
-            Some(prepared) => text.mac(prepared),
-            None => text.mac(&MacKey::new(session)),
-        }
-    }
-
-    // Stays as it is, in a call that sealed and verified nothing.
-    fn forget(&mut self)
-        ensures { self.new ≡ made self.old.safety }
-    {
+        let session = self.phase.session();
+        self.phase = Phase::Released { release, session };
         self.sealed = None;
         self.verified = None;
     }
@@ -279,26 +250,22 @@ impl Safe {
     fn write(&self, pdu: &SaPdu, out: &mut Room)
         requires user { HasUserOctets (view pdu.now) }
         requires number { HasNumber (view pdu.now) }
-        requires room { length out.old.items + 1032 ≤ out.old.capacity }
-        ensures items { out.new.items ≡ out.old.items ++ spelling (view pdu.now) (flag_of self.now.safety.role) }
-        ensures capacity { out.new.capacity ≡ out.old.capacity }
+        requires room { HasRoomForSapdu out.old }
+        ensures { Appends out.old out.new (spelling (view pdu.now) (flag_of self.now.safety.role)) }
     {
+        sapdu::laws::lengths_of_spellings();
         sapdu::write_into(pdu, self.role.flag(), out);
     }
 
-    // Releases, and tells the peer by a DI.
-    fn leave<'o>(&mut self, reason: u8, sub: u8, out: &mut Room) -> SafeDeed<'o>
-        requires { length out.old.items + 1032 ≤ out.old.capacity }
-        ensures { Does (leaves self.old.safety reason sub) self.new out.old out.new (report_view result) }
+    // Releases for a cause, and tells the peer by a DI.
+    fn release_for<'o>(&mut self, cause: Cause, out: &mut Room) -> SafeDeed<'o>
+        requires { HasRoomForSapdu out.old }
+        ensures { Does (releases self.old.safety cause) self.new out.old out.new (report_view result) }
     {
-        let release = Release {
-            reason,
-            sub,
-            by_peer: false,
-        };
-        let session = self.phase.session();
+        let release = cause.release();
+        let Release { reason, sub, .. } = release;
         self.write(&SaPdu::Di { reason, sub }, out);
-        self.becomes(Phase::Released { release, session }, None, None);
+        self.set_released(release);
         SafeDeed::Released(release)
     }
 }

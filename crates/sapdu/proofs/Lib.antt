@@ -1,6 +1,5 @@
-pub mod Eight
-pub mod Unfaulted
-pub mod Spelled
-pub mod Answered
+pub mod Facts
+pub mod ReadBack
+pub mod SpelledBack
 pub mod Ranges
 pub mod Texts

@@ -1,14 +1,17 @@
 -- The text that the MAC of an SaPDU seals (SUBSET-037, computation of the MAC): the length of what follows in two octets,
 -- the receiver's number DA in three, and the part m of the SaPDU. It isn't padded here.
-use Rattle.std.specs.Prelude.{ℕ, ◌^◌, ◌≡◌, ◌<◌, Bool, true, false, List, [], ◌∷◌, ◌++◌, length, replicate, refl}
-use Rattle.er_base.specs.Octets.{two, three, eight}
-use Rattle.sapdu.specs.Spelling.{Pdu, Au1, Au2, Au3, Ar, Dt, Di, Fits, header, header_without_flag}
+use Rattle.std.specs.Prelude.{ℕ, ◌^◌, ◌≡◌, ◌<◌, ◌≤◌, Bool, true, false, List, [], ◌∷◌, ◌++◌, length, replicate, refl}
+use Rattle.er_base.specs.Octets.{two, three, eight, AreOctets}
+use Rattle.sapdu.specs.Spelling.{Pdu, Au1, Au2, Au3, Ar, Dt, Di, Fits, HasUserOctets, header, kind_of}
 
 -- AU1 and DI have no MAC
 abbrev pub HasMac : Pdu → Type 0
 HasMac (Au1 id feature rb) = ⊥
+HasMac (Au2 id feature ra mac) = Unit {0}
+HasMac (Au3 mac) = Unit {0}
+HasMac (Ar mac) = Unit {0}
+HasMac (Dt user mac) = Unit {0}
 HasMac (Di reason sub) = ⊥
-HasMac pdu = Unit {0}
 
 -- the part m of an SaPDU with its flag, by the random numbers Ra and Rb: of an AU2 its first 13 octets and Rb, of an AU3 its header
 -- and both random numbers, of an AR its header, of a DT its header and user octets
@@ -29,6 +32,30 @@ addressed pdu flag da ra rb = three da ++ sealed_part pdu flag ra rb
 abbrev pub sealed_text : Pdu → Bool → ℕ → ℕ → ℕ → List ℕ
 sealed_text pdu flag da ra rb = two (length (addressed pdu flag da ra rb)) ++ addressed pdu flag da ra rb
 
+-- what is sealed: an SaPDU with its flag, to a receiver, in a set-up with these random numbers
+pub record Sealing : Type 0 where
+  pub pdu : Pdu
+  pub flag : Bool
+  pub receiver : ℕ
+  pub ra : ℕ
+  pub rb : ℕ
+
+-- its text
+abbrev pub text : Sealing → List ℕ
+text it = sealed_text it.pdu it.flag it.receiver it.ra it.rb
+
+-- its text as a MAC takes it, with so many zero octets behind it
+abbrev pub padded_text : Sealing → ℕ → List ℕ
+padded_text it zeros = text it ++ replicate zeros 0
+
+-- an SaPDU that has a MAC and a spelling, and numbers that fit their octets
+pub record IsSealing (it : Sealing) : Type 0 where
+  pub fits : Fits it.pdu
+  pub has_mac : HasMac it.pdu
+  pub receiver : it.receiver < 2 ^ 24
+  pub ra : it.ra < 2 ^ 64
+  pub rb : it.rb < 2 ^ 64
+
 -- what the text of an SaPDU seals beside its kind and flag
 pub data Content : Type 0 where
   -- of an AU2: the responder's number, the safety feature, both random numbers
@@ -48,22 +75,44 @@ content_of (Ar mac) ra rb = OfNone
 content_of (Dt user mac) ra rb = OfDt user
 content_of (Di reason sub) ra rb = OfNone
 
--- the same kind, flag, receiver and content
-pub record SameSealed (p q : Pdu) (f g : Bool) (da da' ra ra' rb rb' : ℕ) : Type 0 where
-  pub kind : header_without_flag p ≡ header_without_flag q
-  pub flag : f ≡ g
-  pub receiver : da ≡ da'
-  pub content : content_of p ra rb ≡ content_of q ra' rb'
+-- the same kind, flag and receiver
+pub record SameHeading (a b : Sealing) : Type 0 where
+  pub kind : kind_of a.pdu ≡ kind_of b.pdu
+  pub flag : a.flag ≡ b.flag
+  pub receiver : a.receiver ≡ b.receiver
+
+-- and the same content
+pub record SameSealed (a b : Sealing) : Type 0 where
+  pub heading : SameHeading a b
+  pub content : content_of a.pdu a.ra a.rb ≡ content_of b.pdu b.ra b.rb
+
+-- ---- laws
 
 -- sealed texts that are equal, or equal after padding with zero octets, are those of the same content
 abbrev pub SealsOne : Type 0
-SealsOne =
-    (p q : Pdu) (f g : Bool) (da da' ra ra' rb rb' j k : ℕ)
-    → Fits p → Fits q → HasMac p → HasMac q → da < 2 ^ 24 → da' < 2 ^ 24 → ra < 2 ^ 64 → ra' < 2 ^ 64 → rb < 2 ^ 64 → rb' < 2 ^ 64
-    → sealed_text p f da ra rb ++ replicate j 0 ≡ sealed_text q g da' ra' rb' ++ replicate k 0
-    → SameSealed p q f g da da' ra ra' rb rb'
+SealsOne = (a b : Sealing) (j k : ℕ) → IsSealing a → IsSealing b → padded_text a j ≡ padded_text b k → SameSealed a b
 
--- known answers: the messages 6162 and 616200 of an engine to the radio block centre 9
+-- texts that are equal have the same kind, flag and receiver, whatever their numbers are
+abbrev pub TellsHeading : Type 0
+TellsHeading = (a b : Sealing) → HasMac a.pdu → HasMac b.pdu → text a ≡ text b → SameHeading a b
+
+-- and those of two messages have the same user octets
+abbrev pub TellsUser : Type 0
+TellsUser =
+    (user user' : List ℕ) (mac mac' da da' ra ra' rb rb' : ℕ) (f g : Bool)
+    → sealed_text (Dt user mac) f da ra rb ≡ sealed_text (Dt user' mac') g da' ra' rb' → user ≡ user'
+
+-- a sealed text is octets
+abbrev pub SealsOctets : Type 0
+SealsOctets = (it : Sealing) → IsSealing it → AreOctets (text it)
+
+-- and has at most 1,029 of them
+abbrev pub SealsFew : Type 0
+SealsFew = (it : Sealing) → HasUserOctets it.pdu → length (text it) ≤ 1029
+
+-- ---- known answers
+
+-- the messages 6162 and 616200 of an engine to the radio block centre 9
 pub known_text : sealed_text (Dt (97 ∷ 98 ∷ []) 0) false 9 0 0 ≡ 0 ∷ 6 ∷ 0 ∷ 0 ∷ 9 ∷ 10 ∷ 97 ∷ 98 ∷ []
 known_text = refl
 

@@ -1,10 +1,13 @@
--- The SaPDUs of SUBSET-037 (the structure of the safety layer's messages) as octets, the most significant octet of a number
--- first. The header octet has three bits ETY, four bits MTI and last the bit DF: 0 from the initiator, 1 from the responder.
-use Rattle.std.specs.Prelude.{ℕ, ◌+◌, ◌-◌, ◌*◌, ◌%◌, ◌^◌, ◌==◌, ◌≡◌, ◌<◌, ◌≤◌, ◌||◌, nat_lt, Bool, true, false, if◌then◌else◌, List, [], ◌∷◌, ◌++◌, length, take, drop, slice_index, Option, Some, None, Result, Ok, Err}
-use Rattle.std.specs.Int.{from_be_bytes, w64}
-use Rattle.er_base.specs.Octets.{three, eight}
+-- The SaPDUs of SUBSET-037 as octets, the most significant octet of a number first: what they hold, how they are spelled, and what
+-- octets are read as.
+use Rattle.std.specs.Prelude.{ℕ, ◌+◌, ◌-◌, ◌%◌, ◌^◌, ◌==◌, ◌≡◌, ◌<◌, ◌≤◌, ◌↔◌, nat_lt, Bool, true, false, if◌then◌else◌, List, [], ◌∷◌, ◌++◌, length, take, drop, slice_index, Option, Some, None, Result, Ok, Err}
+use Rattle.er_base.specs.Octets.{three, eight, number_in, AreOctets}
 use Rattle.sapdu.specs.declared.fault.SaFault.{SaFault}
 use Rattle.sapdu.specs.declared.fault.SaFault.TheVariants.{Short, Kind, Long}
+use Rattle.sapdu.specs.declared.kind.SaKind.{SaKind}
+use Rattle.sapdu.specs.declared.kind.SaKind.TheVariants as kind
+use Rattle.sapdu.specs.Kinds.{Row, row, kind_with}
+use Rattle.sapdu.specs.Messages.{IsMessage, most_octets}
 
 -- an SaPDU without its flag
 pub data Pdu : Type 0 where
@@ -21,14 +24,18 @@ pub data Pdu : Type 0 where
   -- the end of the connection: a reason and a sub-reason
   Di : (reason sub : ℕ) → Pdu
 
--- the header octet with DF 0: AU1 is 42, AU2 24, AU3 06, AR 12, DT 0A, DI 10 (hexadecimal)
+-- its kind
+abbrev pub kind_of : Pdu → SaKind
+kind_of (Au1 id feature rb) = kind.Au1
+kind_of (Au2 id feature ra mac) = kind.Au2
+kind_of (Au3 mac) = kind.Au3
+kind_of (Ar mac) = kind.Ar
+kind_of (Dt user mac) = kind.Dt
+kind_of (Di reason sub) = kind.Di
+
+-- the header octet with DF 0
 abbrev pub header_without_flag : Pdu → ℕ
-header_without_flag (Au1 id feature rb) = 0x42
-header_without_flag (Au2 id feature ra mac) = 0x24
-header_without_flag (Au3 mac) = 0x06
-header_without_flag (Ar mac) = 0x12
-header_without_flag (Dt user mac) = 0x0a
-header_without_flag (Di reason sub) = 0x10
+header_without_flag pdu = (row (kind_of pdu)).header
 
 -- the bit DF
 abbrev pub df : Bool → ℕ
@@ -52,20 +59,23 @@ body (Di reason sub) = reason ∷ sub ∷ []
 abbrev pub spelling : Pdu → Bool → List ℕ
 spelling pdu flag = header pdu flag ∷ body pdu
 
--- each element is below 256 (past its end a list reads as 0)
-abbrev pub AreOctets : List ℕ → Type 0
-AreOctets octets = (k : ℕ) → slice_index octets k < 256
-
--- a DT has 1 to 1,023 user octets
+-- the user octets of a DT are a message
 abbrev pub HasUserOctets : Pdu → Type 0
-HasUserOctets (Dt user mac) = (1 ≤ length user) × (length user ≤ 1023)
-HasUserOctets pdu = Unit {0}
+HasUserOctets (Au1 id feature rb) = Unit {0}
+HasUserOctets (Au2 id feature ra mac) = Unit {0}
+HasUserOctets (Au3 mac) = Unit {0}
+HasUserOctets (Ar mac) = Unit {0}
+HasUserOctets (Dt user mac) = IsMessage user
+HasUserOctets (Di reason sub) = Unit {0}
 
 -- an ETCS number fits its three octets
 abbrev pub HasNumber : Pdu → Type 0
 HasNumber (Au1 id feature rb) = id < 2 ^ 24
 HasNumber (Au2 id feature ra mac) = id < 2 ^ 24
-HasNumber pdu = Unit {0}
+HasNumber (Au3 mac) = Unit {0}
+HasNumber (Ar mac) = Unit {0}
+HasNumber (Dt user mac) = Unit {0}
+HasNumber (Di reason sub) = Unit {0}
 
 -- each number fits its octets
 abbrev pub HasOctets : Pdu → Type 0
@@ -81,57 +91,56 @@ pub record Fits (pdu : Pdu) : Type 0 where
   pub user : HasUserOctets pdu
   pub octets : HasOctets pdu
 
--- the least and the greatest length of an SaPDU, by its header octet with DF 0 or 1
-abbrev pub bounds : ℕ → Option (ℕ × ℕ)
-bounds octet =
-    if octet == 0x42 || octet == 0x43 then Some (13, 13)
-    else if octet == 0x24 || octet == 0x25 then Some (21, 21)
-    else if octet == 0x06 || octet == 0x07 then Some (9, 9)
-    else if octet == 0x12 || octet == 0x13 then Some (9, 9)
-    else if octet == 0x0a || octet == 0x0b then Some (10, 1032)
-    else if octet == 0x10 || octet == 0x11 then Some (3, 3)
+-- the fault of so many octets of a kind, where they have one
+abbrev pub fault_of_length : Row → ℕ → Option SaFault
+fault_of_length of found =
+    if nat_lt found of.least then Some (Short of.least found)
+    else if nat_lt of.greatest found then Some (Long of.greatest found)
     else None
 
--- the fault of so many octets behind a header with these bounds
-abbrev pub fault_within : ℕ → ℕ → Option (ℕ × ℕ) → Option SaFault
-fault_within octet found None = Some (Kind octet)
-fault_within octet found (Some (least, greatest)) =
-    if nat_lt found least then Some (Short least found)
-    else if nat_lt greatest found then Some (Long greatest found)
-    else None
+-- the fault of so many octets, of which the first is this one
+abbrev pub fault_behind : ℕ → Option SaKind → ℕ → Option SaFault
+fault_behind octet None found = Some (Kind octet)
+fault_behind octet (Some one) found = fault_of_length (row one) found
 
 -- the first fault of octets, where there is one: no octet, an unknown header, too few octets, too many
 abbrev pub first_fault : List ℕ → Option SaFault
 first_fault [] = Some (Short 1 0)
-first_fault (octet ∷ rest) = fault_within octet (length (octet ∷ rest)) (bounds octet)
+first_fault (octet ∷ rest) = fault_behind octet (kind_with octet) (length (octet ∷ rest))
 
--- the number that eight octets spell
-unfoldable pub number_in : List ℕ → ℕ
-number_in octets = from_be_bytes w64 octets
+-- the fields of a kind by their places behind the header octet
+abbrev pub fields_of : SaKind → List ℕ → Pdu
+fields_of kind.Au1 rest = Au1 (number_in (take 3 rest)) (slice_index rest 3) (number_in (drop 4 rest))
+fields_of kind.Au2 rest = Au2 (number_in (take 3 rest)) (slice_index rest 3) (number_in (take 8 (drop 4 rest))) (number_in (drop 12 rest))
+fields_of kind.Au3 rest = Au3 (number_in rest)
+fields_of kind.Ar rest = Ar (number_in rest)
+fields_of kind.Dt rest = Dt (take (length rest - 8) rest) (number_in (drop (length rest - 8) rest))
+fields_of kind.Di rest = Di (slice_index rest 0) (slice_index rest 1)
 
--- the number that three octets spell
-abbrev pub etcs_number_in : List ℕ → ℕ
-etcs_number_in octets = slice_index octets 0 * 65536 + slice_index octets 1 * 256 + slice_index octets 2
+-- the fault where there is one, else the value
+abbrev pub unless : Option SaFault → Pdu × Bool → Result (Pdu × Bool) SaFault
+unless (Some fault) value = Err fault
+unless None value = Ok value
 
--- the fields by their places, behind a header octet
-abbrev pub fields_of : ℕ → List ℕ → Pdu
-fields_of octet rest =
-    if octet == 0x42 || octet == 0x43 then Au1 (etcs_number_in rest) (slice_index rest 3) (number_in (drop 4 rest))
-    else if octet == 0x24 || octet == 0x25 then
-    Au2 (etcs_number_in rest) (slice_index rest 3) (number_in (take 8 (drop 4 rest))) (number_in (drop 12 rest))
-    else if octet == 0x06 || octet == 0x07 then Au3 (number_in rest)
-    else if octet == 0x12 || octet == 0x13 then Ar (number_in rest)
-    else if octet == 0x0a || octet == 0x0b then Dt (take (length rest - 8) rest) (number_in (drop (length rest - 8) rest))
-    else Di (slice_index rest 0) (slice_index rest 1)
-
--- the fault where there is one, else the fields and the flag
-abbrev pub answered : Option SaFault → List ℕ → Result (Pdu × Bool) SaFault
-answered (Some fault) octets = Err fault
-answered None octets = Ok (fields_of (slice_index octets 0) (drop 1 octets), slice_index octets 0 % 2 == 1)
+-- what octets behind a header octet are read as
+abbrev pub read_behind : ℕ → Option SaKind → List ℕ → Result (Pdu × Bool) SaFault
+read_behind octet None rest = Err (Kind octet)
+read_behind octet (Some one) rest = unless (fault_of_length (row one) (length (octet ∷ rest))) (fields_of one rest, octet % 2 == 1)
 
 -- what octets are read as
 abbrev pub read_of : List ℕ → Result (Pdu × Bool) SaFault
-read_of octets = answered (first_fault octets) octets
+read_of [] = Err (Short 1 0)
+read_of (octet ∷ rest) = read_behind octet (kind_with octet) rest
+
+-- the reason and sub-reason of octets that are a DI with this flag
+abbrev pub di_in : List ℕ → Bool → Option (ℕ × ℕ)
+di_in [] flag = None
+di_in (octet ∷ []) flag = None
+di_in (octet ∷ reason ∷ []) flag = None
+di_in (octet ∷ reason ∷ sub ∷ []) flag = if octet == (row kind.Di).header + df flag then Some (reason, sub) else None
+di_in (octet ∷ reason ∷ sub ∷ more ∷ rest) flag = None
+
+-- ---- laws
 
 -- what is spelled is read back
 abbrev pub IsReadBack : Type 0
@@ -144,3 +153,21 @@ IsSpelledBack = (octets : List ℕ) (pdu : Pdu) (flag : Bool) → AreOctets octe
 -- a list of octets spells at most one SaPDU and flag
 abbrev pub SpellsOne : Type 0
 SpellsOne = (p q : Pdu) (f g : Bool) → Fits p → Fits q → spelling p f ≡ spelling q g → (p ≡ q) × (f ≡ g)
+
+-- a DI with this flag is what is read as one
+abbrev pub IsReadAsDi : Type 0
+IsReadAsDi = (octets : List ℕ) (flag : Bool) (reason sub : ℕ) → (di_in octets flag ≡ Some (reason, sub)) ↔ (read_of octets ≡ Ok (Di reason sub, flag))
+
+-- a spelling is octets
+abbrev pub SpellsOctets : Type 0
+SpellsOctets = (pdu : Pdu) (flag : Bool) → Fits pdu → AreOctets (spelling pdu flag)
+
+-- as many as its kind has
+abbrev pub SpellsItsLength : Type 0
+SpellsItsLength =
+    (pdu : Pdu) (flag : Bool) → HasUserOctets pdu
+    → ((row (kind_of pdu)).least ≤ length (spelling pdu flag)) × (length (spelling pdu flag) ≤ (row (kind_of pdu)).greatest)
+
+-- and never more than 1,032
+abbrev pub SpellsFew : Type 0
+SpellsFew = (pdu : Pdu) (flag : Bool) → HasUserOctets pdu → length (spelling pdu flag) ≤ most_octets

@@ -6,15 +6,20 @@
 #![tactic(auto)]
 
 mod fault;
+mod kind;
 pub mod laws;
-mod octets;
+mod message;
 mod pdu;
 mod reader;
+mod sealed_text;
 #[cfg(test)]
 mod tests;
 mod writer;
 
 pub use fault::SaFault;
+pub use kind::SaKind;
+pub use message::{MOST_OCTETS, MOST_USER_OCTETS, is_message};
 pub use pdu::SaPdu;
-pub use reader::read;
+pub use reader::{peers_di, read};
+pub use sealed_text::SealedText;
 pub use writer::write_into;

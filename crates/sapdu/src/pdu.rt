@@ -1,3 +1,5 @@
+use crate::kind::SaKind;
+
 /// An SaPDU of SUBSET-037 without its direction flag.
 #[derive(Clone, Copy, Debug, PartialEq, Eq)]
 pub enum SaPdu<'a> {
@@ -45,4 +47,24 @@ pub enum SaPdu<'a> {
         /// The sub-reason.
         sub: u8,
     },
+}
+
+impl SaPdu<'_> {
+    ghost use Rattle.std.specs.Prelude.{◌≡◌};
+    ghost use Rattle.sapdu.specs.Spelling.{kind_of};
+    ghost use Rattle.sapdu.specs.Reading.{view};
+
+    /// Its kind.
+    pub fn kind(&self) -> SaKind
+        ensures { result ≡ kind_of (view self.now) }
+    {
+        match self {
+            SaPdu::Au1 { .. } => SaKind::Au1,
+            SaPdu::Au2 { .. } => SaKind::Au2,
+            SaPdu::Au3 { .. } => SaKind::Au3,
+            SaPdu::Ar { .. } => SaKind::Ar,
+            SaPdu::Dt { .. } => SaKind::Dt,
+            SaPdu::Di { .. } => SaKind::Di,
+        }
+    }
 }

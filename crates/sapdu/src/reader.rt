@@ -1,106 +1,111 @@
-ghost use Rattle.std.specs.Prelude.{◌≡◌, ◌≢◌, ◌≤◌, ◌∷◌, length, MatchOption};
-ghost use Rattle.sapdu.specs.Spelling.{bounds, read_of};
-ghost use Rattle.sapdu.specs.Reading.{Reads, IsBody, IsBehind, InBounds, view, viewed};
+ghost use Rattle.std.specs.Prelude.{◌≡◌, ◌+◌, ◌≤◌, length};
+ghost use Rattle.er_base.specs.Octets.{eight};
+ghost use Rattle.sapdu.specs.Kinds.{row};
+ghost use Rattle.sapdu.specs.Spelling.{read_of, di_in, fault_of_length};
+ghost use Rattle.sapdu.specs.Reading.{Reads, view, viewed};
+ghost use Rattle.sapdu.specs.Representation.{IsBody, IsLong};
+ghost use Rattle.sapdu.specs.declared.kind.SaKind.TheVariants as kind;
 
 use crate::fault::SaFault;
-use crate::octets::{before_mac, only_number};
+use crate::kind::SaKind;
+use crate::laws;
 use crate::pdu::SaPdu;
-use er_base::Cursor;
+use er_base::{Cursor, number_of};
 
-/// The least and the greatest length of the SaPDU with this header, in octets.
-fn limits(header: u8) -> Option<(usize, usize)>
-    ensures { result ≡ bounds header }
+/// The fault of so many octets of an SaPDU of this kind.
+fn fault_of_length(kind: SaKind, found: usize) -> Option<SaFault>
+    ensures { result ≡ fault_of_length (row kind) found }
 {
-    match header {
-        0x42 | 0x43 => Some((13, 13)),
-        0x24 | 0x25 => Some((21, 21)),
-        0x06 | 0x07 => Some((9, 9)),
-        0x12 | 0x13 => Some((9, 9)),
-        0x0A | 0x0B => Some((10, 1032)),
-        0x10 | 0x11 => Some((3, 3)),
-        _ => None,
+    let need = kind.least();
+    let max = kind.greatest();
+    if found < need {
+        Some(SaFault::Short { need, found })
+    } else if max < found {
+        Some(SaFault::Long { max, found })
+    } else {
+        None
     }
 }
 
+/// The number that eight octets spell.
+fn only_number(octets: &[u8]) -> u64
+    requires { length octets.now ≡ 8 }
+    ensures { octets.now ≡ eight result }
+{
+    number_of(octets.try_into().unwrap())
+}
+
 /// The AU1 with these octets behind its header.
-fn read_au1<'a>(fields: &[u8]) -> Option<SaPdu<'a>>
-    ensures { MatchOption result (length fields.now ≢ 12) (λ pdu. IsBody 0x42 fields.now (view pdu)) }
+fn au1(fields: &[u8]) -> SaPdu<'_>
+    requires { length fields.now ≡ 12 }
+    ensures { IsBody kind.Au1 fields.now (view result) }
 {
     let mut cursor = Cursor::new(fields);
-    let id = cursor.take_u24()?;
-    let feature = cursor.take_u8()?;
-    let rb = only_number(cursor.rest())?;
-    Some(SaPdu::Au1 { id, feature, rb })
+    let id = cursor.take_u24().unwrap();
+    let feature = cursor.take_u8().unwrap();
+    let rb = only_number(cursor.rest());
+    SaPdu::Au1 { id, feature, rb }
 }
 
 /// The AU2 with these octets behind its header.
-fn read_au2<'a>(fields: &[u8]) -> Option<SaPdu<'a>>
-    ensures { MatchOption result (length fields.now ≢ 20) (λ pdu. IsBody 0x24 fields.now (view pdu)) }
+#[tactic(auto, unfolding(er_base::specs::Octets::eight))]
+fn au2(fields: &[u8]) -> SaPdu<'_>
+    requires { length fields.now ≡ 20 }
+    ensures { IsBody kind.Au2 fields.now (view result) }
 {
     let mut cursor = Cursor::new(fields);
-    let id = cursor.take_u24()?;
-    let feature = cursor.take_u8()?;
-    let ra = cursor.take_u64()?;
-    let mac = only_number(cursor.rest())?;
-    Some(SaPdu::Au2 {
+    let id = cursor.take_u24().unwrap();
+    let feature = cursor.take_u8().unwrap();
+    let ra = cursor.take_u64().unwrap();
+    let mac = only_number(cursor.rest());
+    SaPdu::Au2 {
         id,
         feature,
         ra,
         mac,
-    })
-}
-
-/// The AU3 with these octets behind its header.
-fn read_au3<'a>(fields: &[u8]) -> Option<SaPdu<'a>>
-    ensures { MatchOption result (length fields.now ≢ 8) (λ pdu. IsBody 0x06 fields.now (view pdu)) }
-{
-    let mac = only_number(fields)?;
-    Some(SaPdu::Au3 { mac })
-}
-
-/// The AR with these octets behind its header.
-fn read_ar<'a>(fields: &[u8]) -> Option<SaPdu<'a>>
-    ensures { MatchOption result (length fields.now ≢ 8) (λ pdu. IsBody 0x12 fields.now (view pdu)) }
-{
-    let mac = only_number(fields)?;
-    Some(SaPdu::Ar { mac })
+    }
 }
 
 /// The DT with these octets behind its header.
-fn read_dt<'a>(fields: &'a [u8]) -> Option<SaPdu<'a>>
+fn dt(fields: &[u8]) -> SaPdu<'_>
     requires least { 9 ≤ length fields.now }
     requires greatest { length fields.now ≤ 1031 }
-    ensures { MatchOption result ⊥ (λ pdu. IsBody 0x0a fields.now (view pdu)) }
+    ensures { IsBody kind.Dt fields.now (view result) }
 {
-    let (user, mac) = before_mac(fields)?;
-    Some(SaPdu::Dt { user, mac })
+    let (user, mac) = fields.split_last_chunk::<8>().unwrap();
+    SaPdu::Dt {
+        user,
+        mac: number_of(mac),
+    }
 }
 
 /// The DI with these octets behind its header.
-fn read_di<'a>(fields: &[u8]) -> Option<SaPdu<'a>>
-    ensures { MatchOption result (length fields.now ≢ 2) (λ pdu. IsBody 0x10 fields.now (view pdu)) }
+fn di(fields: &[u8]) -> SaPdu<'_>
+    requires { length fields.now ≡ 2 }
+    ensures { IsBody kind.Di fields.now (view result) }
 {
-    let mut cursor = Cursor::new(fields);
-    let reason = cursor.take_u8()?;
-    let sub = cursor.take_u8()?;
-    if cursor.left() > 0 {
-        return None;
+    SaPdu::Di {
+        reason: fields[0],
+        sub: fields[1],
     }
-    Some(SaPdu::Di { reason, sub })
 }
 
-/// The SaPDU with this header and these octets behind it, as many as its kind has: so it is never None.
-fn read_fields<'a>(header: u8, fields: &'a [u8]) -> Option<SaPdu<'a>>
-    requires { InBounds (bounds header) (length (header ∷ fields.now)) }
-    ensures { MatchOption result ⊥ (λ pdu. IsBehind header fields.now (view pdu)) }
+/// The SaPDU of this kind with these octets behind its header, as many as the kind has.
+fn pdu_of(kind: SaKind, fields: &[u8]) -> SaPdu<'_>
+    requires { IsLong (row kind) (length fields.now + 1) }
+    ensures { IsBody kind fields.now (view result) }
 {
-    match header {
-        0x42 | 0x43 => read_au1(fields),
-        0x24 | 0x25 => read_au2(fields),
-        0x06 | 0x07 => read_au3(fields),
-        0x12 | 0x13 => read_ar(fields),
-        0x0A | 0x0B => read_dt(fields),
-        _ => read_di(fields),
+    match kind {
+        SaKind::Au1 => au1(fields),
+        SaKind::Au2 => au2(fields),
+        SaKind::Au3 => SaPdu::Au3 {
+            mac: only_number(fields),
+        },
+        SaKind::Ar => SaPdu::Ar {
+            mac: only_number(fields),
+        },
+        SaKind::Dt => dt(fields),
+        SaKind::Di => di(fields),
     }
 }
 
@@ -111,26 +116,28 @@ pub fn read<'a>(octets: &'a [u8]) -> Result<(SaPdu<'a>, bool), SaFault>
     ensures spelled { Reads octets.now result }
     ensures value { viewed result ≡ read_of octets.now }
 {
+    // by this law what is answered is what the octets are read as
+    laws::spelled_is_read();
     let found = octets.len();
-    let mut cursor = Cursor::new(octets);
-    let Some(header) = cursor.take_u8() else {
+    let Some((header, fields)) = octets.split_first() else {
         return Err(SaFault::Short { need: 1, found });
     };
-    let Some((least, greatest)) = limits(header) else {
-        return Err(SaFault::Kind(header));
+    let Some(kind) = SaKind::with_header(*header) else {
+        return Err(SaFault::Kind(*header));
     };
-    if found < least {
-        return Err(SaFault::Short { need: least, found });
+    if let Some(fault) = fault_of_length(kind, found) {
+        return Err(fault);
     }
-    if greatest < found {
-        return Err(SaFault::Long {
-            max: greatest,
-            found,
-        });
+    let by_responder = *header % 2 == 1;
+    Ok((pdu_of(kind, fields), by_responder))
+}
+
+/// The reason and sub-reason of octets that are a DI with this direction flag; None exactly where they are none.
+pub fn peers_di(octets: &[u8], flag: bool) -> Option<(u8, u8)>
+    ensures { result ≡ di_in octets.now flag }
+{
+    match octets {
+        [header, reason, sub] if *header == SaKind::Di.header(flag) => Some((*reason, *sub)),
+        _ => None,
     }
-    let Some(pdu) = read_fields(header, cursor.rest()) else {
-        return Err(SaFault::Short { need: least, found });
-    };
-    let by_responder = header % 2 == 1;
-    Ok((pdu, by_responder))
 }

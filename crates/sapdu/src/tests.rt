@@ -1,8 +1,9 @@
-ghost use Rattle.std.specs.Prelude.{◌≤◌, length};
-ghost use Rattle.sapdu.specs.Spelling.{spelling, HasUserOctets, HasNumber};
+ghost use Rattle.sapdu.specs.Spelling.{HasUserOctets, HasNumber};
 ghost use Rattle.sapdu.specs.Reading.{view};
 
-use crate::{SaFault, SaPdu, laws, read, write_into};
+use crate::{
+    MOST_OCTETS, SaFault, SaPdu, SealedText, is_message, laws, peers_di, read, write_into,
+};
 use er_base::Room;
 use std::alloc::Global;
 use std::process::Abort;
@@ -40,17 +41,16 @@ fn is_spelled(
 ) -> Result<(), Fail>
     requires user { HasUserOctets (view pdu.now) }
     requires number { HasNumber (view pdu.now) }
-    requires room { length (spelling (view pdu.now) flag) ≤ 21 }
 {
     assert_eq!(rt; read(octets), Ok((*pdu, flag)));
-    let mut out = Room::with_capacity(alloc, 21)?;
+    let mut out = Room::with_capacity(alloc, MOST_OCTETS)?;
+    laws::lengths_of_spellings();
     write_into(pdu, flag, &mut out);
     assert_eq!(rt; out.held(), octets);
     Ok(())
 }
 
 #[test]
-#[tactic(auto, using(crate::proofs::Eight::length_eight, crate::proofs::Eight::length_two_numbers))]
 fn reads_and_writes_each_kind(rt: HostRuntime) -> Result<(), Fail> {
     let alloc = rt.alloc();
     let feature = 1;
@@ -72,9 +72,37 @@ fn reads_and_writes_each_kind(rt: HostRuntime) -> Result<(), Fail> {
     let user = b"ab";
     is_spelled(&rt, alloc, DT, &SaPdu::Dt { user, mac: MAC }, false)?;
     is_spelled(&rt, alloc, DI, &SaPdu::Di { reason: 4, sub: 1 }, true)?;
-    laws::spelled_is_read();
-    laws::read_is_spelled();
-    laws::sealed_texts();
+    Ok(())
+}
+
+#[test]
+fn seals_texts(rt: HostRuntime) {
+    let au2 = SaPdu::Au2 {
+        id: 9,
+        feature: 1,
+        ra: RA,
+        mac: MAC,
+    };
+    let text = SealedText::new(&au2, true, 5, 0, RB);
+    let octets =
+        b"\x00\x18\x00\x00\x05\x25\x00\x00\x09\x01\x11\x12\x13\x14\x15\x16\x17\x18\x01\x02\x03\x04\x05\x06\x07\x08";
+    assert_eq!(rt; text.octets(), octets.as_slice());
+    let user = b"ab";
+    let dt = SaPdu::Dt { user, mac: MAC };
+    let text = SealedText::new(&dt, false, 9, RA, RB);
+    assert_eq!(rt; text.octets(), b"\x00\x06\x00\x00\x09\x0Aab".as_slice());
+}
+
+#[test]
+fn tells_messages_and_disconnections(rt: HostRuntime) -> Result<(), Fail> {
+    for (length, is) in [(0, false), (1, true), (1023, true), (1024, false)] {
+        let user = vec![in rt.alloc(); 7; length]?;
+        assert_eq!(rt; is_message(&user), is, "{length}");
+    }
+    assert_eq!(rt; peers_di(DI, true), Some((4, 1)));
+    assert_eq!(rt; peers_di(DI, false), None);
+    assert_eq!(rt; peers_di(AU3, false), None);
+    assert_eq!(rt; peers_di(&DI[..2], true), None);
     Ok(())
 }
 

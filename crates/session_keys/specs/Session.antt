@@ -13,14 +13,14 @@ left_halves ra rb = take 32 (bits 64 ra) ++ take 32 (bits 64 rb)
 abbrev pub right_halves : ℕ → ℕ → List ℕ
 right_halves ra rb = drop 32 (bits 64 ra) ++ drop 32 (bits 64 rb)
 
--- three keys in turned order
-abbrev pub turned_key : TripleKey → TripleKey
-turned_key key = record { first = key.third; second = key.second; third = key.first }
+-- three keys from the last to the first
+abbrev pub reversed_key : TripleKey → TripleKey
+reversed_key key = record { first = key.third; second = key.second; third = key.first }
 
--- Ks1 is of the left halves and Ks2 of the right halves under the KMAC; Ks3 is of the left halves under the turned KMAC
+-- Ks1 is of the left halves and Ks2 of the right halves under the KMAC; Ks3 is of the left halves under the KMAC in that order
 unfoldable pub session_of : TripleKey → ℕ → ℕ → TripleKey
 session_of kmac ra rb = record {
   first = number (triple_encipher kmac (left_halves ra rb));
   second = number (triple_encipher kmac (right_halves ra rb));
-  third = number (triple_encipher (turned_key kmac) (left_halves ra rb));
+  third = number (triple_encipher (reversed_key kmac) (left_halves ra rb));
 }

@@ -3,7 +3,7 @@
 use Rattle.std.specs.Prelude.{ℕ, ◌≡◌, ◌<◌, ◌≤◌, ◌↔◌, ◌⊎◌, nat_lt, if◌then◌else◌, Bool, false, IsSome, IsNone, List, [], ◌∷◌, ◌++◌, length, slice_index, Option, Some, None, Result, Ok, Err}
 use Rattle.t70_header.specs.declared.fault.BlockFault.{BlockFault}
 use Rattle.t70_header.specs.declared.fault.BlockFault.TheVariants.{Header, Long}
-use Rattle.t70_header.specs.Blocks.{more_of, carried, joined, AllMore}
+use Rattle.t70_header.specs.Blocks.{last_block, more_of, content_of, joined_contents, AllMore}
 
 -- what blocks come to: nothing yet, a whole TPDU, or a fault
 abbrev pub Answer : Type 0
@@ -15,7 +15,7 @@ fault_of_header block = Header (length block) (slice_index block 0) (slice_index
 
 -- one block behind the octets that are held: what is held then, and the answer
 abbrev pub step : List ℕ → List ℕ → List ℕ × Answer
-step held block = joined_to (more_of block) (held ++ carried block)
+step held block = joined_to (more_of block) (held ++ content_of block)
   where
     joined_to : Option Bool → List ℕ → List ℕ × Answer
     joined_to None octets = ([], Err (fault_of_header block))
@@ -25,10 +25,10 @@ step held block = joined_to (more_of block) (held ++ carried block)
         else ([], Ok (Some octets))
 
 -- the answer to the last of several blocks that are given one by one, up to the first other than None
-abbrev pub added : List ℕ → List (List ℕ) → Answer
-added held [] = Ok None
-added held (block ∷ blocks) =
-    first_answer (step held block).1 (added (step held block).0 blocks)
+abbrev pub answer_to : List ℕ → List (List ℕ) → Answer
+answer_to held [] = Ok None
+answer_to held (block ∷ blocks) =
+    first_answer (step held block).1 (answer_to (step held block).0 blocks)
   where
     first_answer : Answer → Answer → Answer
     first_answer (Ok None) later = later
@@ -39,7 +39,7 @@ abbrev pub HasFault : List ℕ → List ℕ → BlockFault → Type 0
 HasFault held block (Header found first second) =
     IsNone (more_of block) × (Header found first second ≡ fault_of_header block)
 HasFault held block (Long n) =
-    IsSome (more_of block) × (n ≡ length (held ++ carried block)) × (1024 < n)
+    IsSome (more_of block) × (n ≡ length (held ++ content_of block)) × (1024 < n)
 
 -- the blocks up to the first one without the more-bit make this TPDU
 pub record IsWhole (held : List ℕ) (blocks : List (List ℕ)) (tpdu : List ℕ) : Type 0 where
@@ -49,7 +49,7 @@ pub record IsWhole (held : List ℕ) (blocks : List (List ℕ)) (tpdu : List ℕ
   pub cut : blocks ≡ front ++ last ∷ rest
   pub more : AllMore front
   pub ends : more_of last ≡ Some false
-  pub octets : tpdu ≡ held ++ joined front ++ carried last
+  pub octets : tpdu ≡ held ++ joined_contents front ++ content_of last
   pub fits : length tpdu ≤ 1024
 
 -- one block, behind blocks with the more-bit that could be joined, has this fault
@@ -59,12 +59,12 @@ pub record IsFaulty (held : List ℕ) (blocks : List (List ℕ)) (fault : BlockF
   pub rest : List (List ℕ)
   pub cut : blocks ≡ front ++ block ∷ rest
   pub more : AllMore front
-  pub fits : length (held ++ joined front) ≤ 1024
-  pub has_fault : HasFault (held ++ joined front) block fault
+  pub fits : length (held ++ joined_contents front) ≤ 1024
+  pub has_fault : HasFault (held ++ joined_contents front) block fault
 
 -- what the blocks come to behind octets that are held
 abbrev pub JoinedBehind : List ℕ → List (List ℕ) → Answer → Type 0
-JoinedBehind held blocks (Ok None) = AllMore blocks × (length (held ++ joined blocks) ≤ 1024)
+JoinedBehind held blocks (Ok None) = AllMore blocks × (length (held ++ joined_contents blocks) ≤ 1024)
 JoinedBehind held blocks (Ok (Some tpdu)) = IsWhole held blocks tpdu
 JoinedBehind held blocks (Err fault) = IsFaulty held blocks fault
 
@@ -74,9 +74,13 @@ Joined blocks answer = JoinedBehind [] blocks answer
 
 -- giving blocks to a joiner one by one joins them, and nothing else is an answer to them
 abbrev pub AddingJoins : Type 0
-AddingJoins = (blocks : List (List ℕ)) (answer : Answer) → Joined blocks answer ↔ (added [] blocks ≡ answer)
+AddingJoins = (blocks : List (List ℕ)) (answer : Answer) → Joined blocks answer ↔ (answer_to [] blocks ≡ answer)
 
 -- a joiner holds octets behind an answer only where that answer is that more blocks follow
 abbrev pub HoldsOnlyWhatWaits : Type 0
 HoldsOnlyWhatWaits =
     (held block : List ℕ) → ((step held block).0 ≡ []) ⊎ ((step held block).1 ≡ Ok None)
+
+-- a TPDU that was wrapped in one block is joined to itself
+abbrev pub WrappedIsJoined : Type 0
+WrappedIsJoined = (tpdu : List ℕ) → length tpdu ≤ 1024 → step [] (last_block tpdu) ≡ ([], Ok (Some tpdu))

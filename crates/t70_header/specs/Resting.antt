@@ -1,4 +1,4 @@
--- How a joiner that lends its octets is left, and what it lends.
+-- Representation: how a joiner that lends its octets is left, and what it lends; no claim rests on it.
 use Rattle.std.specs.Prelude.{◌≡◌, ℕ, List, ⊤, Option, Result, Ok, Err}
 use Rattle.std.specs.Option.{option_map}
 use Rattle.std.specs.Borrow.{MutBor, Bor, Fml, follows_so}

@@ -1,17 +1,17 @@
 ghost use Rattle.std.specs.Prelude.{◌≡◌, ◌≤◌, ◌<◌, ◌↔◌, IsTrue, IfSome, length};
 ghost use Rattle.x224_tpdu.specs.declared.kind.Kind.TheVariants.{Er};
-ghost use Rattle.x224_tpdu.specs.Spelling.{seen, kind_in};
+ghost use Rattle.x224_tpdu.specs.Spelling.{pdu_of, kind_in};
 
 use crate::counts::Counts;
 use crate::table::OF_TWELVE;
 use er_base::Room;
 use std::alloc::Global;
-use x224_tpdu::{Tpdu, read, write_into};
+use x224_tpdu::{Tpdu, laws, read, write_into};
 
 /// A run over TPDUs, with room for one that is written.
 #[derive(Drop)]
 pub struct Sweep {
-    step: u8,
+    step: usize,
     counts: Counts,
     out: Room,
     ghost above_zero: { 0 < step },
@@ -25,7 +25,7 @@ impl Sweep {
     {
         let out = Room::with_capacity(alloc, 1_024).ok()?;
         Some(Sweep {
-            step,
+            step: usize::from(step),
             counts: Counts::default(),
             out,
         })
@@ -53,15 +53,11 @@ impl Sweep {
         requires user { behind ≤ 2 }
     {
         let mut octets = [li as u8, 0, 0, dst, 0, 0, 0x41, 0x42];
-        for code in 0..=255 {
-            if code % self.step == 0 {
-                for last in 0..=255 {
-                    if last % self.step == 0 {
-                        octets[1] = code;
-                        octets[li] = last;
-                        self.try_octets(&octets[..li + 1 + behind]);
-                    }
-                }
+        for code in (0..=255).step_by(self.step) {
+            for last in (0..=255).step_by(self.step) {
+                octets[1] = code;
+                octets[li] = last;
+                self.try_octets(&octets[..li + 1 + behind]);
             }
         }
     }
@@ -82,15 +78,11 @@ impl Sweep {
         requires second { second < 12 }
     {
         let mut octets = base;
-        for a in 0..=255 {
-            if a % self.step == 0 {
-                for b in 0..=255 {
-                    if b % self.step == 0 {
-                        octets[first] = a;
-                        octets[second] = b;
-                        self.try_octets(&octets);
-                    }
-                }
+        for a in (0..=255).step_by(self.step) {
+            for b in (0..=255).step_by(self.step) {
+                octets[first] = a;
+                octets[second] = b;
+                self.try_octets(&octets);
             }
         }
     }
@@ -105,6 +97,7 @@ impl Sweep {
         if is_error(&tpdu) {
             return;
         }
+        laws::writing();
         self.out.clear();
         write_into(&tpdu, &mut self.out);
         let same = match read(self.out.held()) {
@@ -120,7 +113,7 @@ impl Sweep {
 }
 
 fn is_error(tpdu: &Tpdu) -> bool
-    ensures { IsTrue result ↔ (kind_in (seen tpdu.now) ≡ Er) }
+    ensures { IsTrue result ↔ (kind_in (pdu_of tpdu.now) ≡ Er) }
 {
     matches!(tpdu, Tpdu::Er { .. })
 }

@@ -4,7 +4,7 @@ use Rattle.std.proofs.lemmas.List.{append-nil, length-take-le, take-append-drop}
 use Rattle.std.proofs.Math.Seq.{take-length}
 use Rattle.std.proofs.lemmas.Bool.{lt-ltb, le-ltb, cases_lt}
 use Rattle.x224_tpdu.specs.declared.kind.Kind.{Kind}
-use Rattle.x224_tpdu.specs.Parameters.{Parameter, spelled, parameters_after, parameters_in, first_refused}
+use Rattle.x224_tpdu.specs.Parameters.{Parameter, parameter_octets, parameters_after, parameters_in, first_refused}
 use Rattle.x224_tpdu.specs.Parts.{IsWhole, Begins}
 
 -- what is past the first octets is what the octets behind them are made of
@@ -76,7 +76,7 @@ begins octets size value after two e there v a =
     }
 
 -- the parameters and what is left over make up the octets again
-spelled_after : (n : ℕ) (xs : List ℕ) → spelled (parameters_after n xs).0 ++ (parameters_after n xs).1 ≡ drop n xs
+spelled_after : (n : ℕ) (xs : List ℕ) → parameter_octets (parameters_after n xs).0 ++ (parameters_after n xs).1 ≡ drop n xs
 spelled_after zero [] = refl
 spelled_after (suc n) [] = refl
 spelled_after (suc n) (x ∷ xs) = spelled_after n xs
@@ -91,11 +91,11 @@ spelled_after zero (code ∷ size ∷ rest) =
           (let t : nat_lt size (length (size ∷ rest)) ≡ false = le-ltb _ _ missing in rw t refl)
     ]
   where
-    whole_spelled : (code size : ℕ) (rest : List ℕ) → size ≤ length rest → (behind : List Parameter × List ℕ) → spelled behind.0 ++ behind.1 ≡ drop size rest → spelled (record { code = code; value = take size rest } ∷ behind.0) ++ behind.1 ≡ code ∷ size ∷ rest
+    whole_spelled : (code size : ℕ) (rest : List ℕ) → size ≤ length rest → (behind : List Parameter × List ℕ) → parameter_octets behind.0 ++ behind.1 ≡ drop size rest → parameter_octets (record { code = code; value = take size rest } ∷ behind.0) ++ behind.1 ≡ code ∷ size ∷ rest
     whole_spelled code size rest fits behind h =
-        rw (length-take-le size rest fits, append_assoc (take size rest) (spelled behind.0) behind.1, h, take-append-drop size rest) refl
+        rw (length-take-le size rest fits, append_assoc (take size rest) (parameter_octets behind.0) behind.1, h, take-append-drop size rest) refl
 
-pub parameters_spelled : (octets : List ℕ) → spelled (parameters_in octets).0 ++ (parameters_in octets).1 ≡ octets
+pub parameters_spelled : (octets : List ℕ) → parameter_octets (parameters_in octets).0 ++ (parameters_in octets).1 ≡ octets
 unfolding parameters_in
 parameters_spelled octets = spelled_after 0 octets
 
@@ -127,6 +127,6 @@ none_left zero (code ∷ size ∷ rest) p after e =
           omega (arith, ap length value, length-append p.value after))
     ]
 
-pub cuts_parameters : (octets : List ℕ) → (spelled (parameters_in octets).0 ++ (parameters_in octets).1 ≡ octets) × ((p : Parameter) (after : List ℕ) → (parameters_in octets).1 ≢ p.code ∷ length p.value ∷ p.value ++ after)
+pub cuts_parameters : (octets : List ℕ) → (parameter_octets (parameters_in octets).0 ++ (parameters_in octets).1 ≡ octets) × ((p : Parameter) (after : List ℕ) → (parameters_in octets).1 ≢ p.code ∷ length p.value ∷ p.value ++ after)
 unfolding parameters_in
 cuts_parameters octets = (parameters_spelled octets, λ p after e. none_left 0 octets p after e)

@@ -1,3 +1,5 @@
+pub mod Bounds
+pub mod Converse
 pub mod Cutting
 pub mod RoundTrip
 pub mod Rows

@@ -5,11 +5,11 @@ use Rattle.x224_tpdu.specs.declared.fault.TpFault.{TpFault}
 use Rattle.x224_tpdu.specs.declared.kind.Kind.TheVariants.{Er}
 use Rattle.x224_tpdu.specs.declared.tpdu.Tpdu.{Tpdu}
 use Rattle.x224_tpdu.specs.Parameters.{size_octet}
-use Rattle.x224_tpdu.specs.Spelling.{Pdu, connection_request, connection_confirm, disconnect_request, disconnect_confirm, data_tpdu, acknowledgement, tpdu_error, seen, kind_in, NamesSize, Spells}
+use Rattle.x224_tpdu.specs.Spelling.{Pdu, connection_request, connection_confirm, disconnect_request, disconnect_confirm, data_tpdu, acknowledgement, tpdu_error, pdu_of, kind_in, NamesSize, Spells}
 use Rattle.x224_tpdu.specs.Faults.{first_fault}
-use Rattle.x224_tpdu.specs.Writing.{IsSize, size_code, own_parameters, IsWritable, written}
-use Rattle.x224_tpdu.specs.Reading.{Reads, IsRead}
-use Rattle.x224_tpdu.specs.Function.{fault_or, value_of, reading, answer_seen}
+use Rattle.x224_tpdu.specs.Writing.{IsSize, size_code, own_parameters, IsWritable, written_octets}
+use Rattle.x224_tpdu.specs.Reading.{Reads}
+use Rattle.x224_tpdu.specs.Function.{fault_or, value_of, reading, answer_of}
 use Rattle.x224_tpdu.proofs.Spelled.{shown}
 
 pub spells_one : (octets : List ℕ) (p q : Pdu) → Spells p octets → Spells q octets → p ≡ q
@@ -18,19 +18,19 @@ spells_one octets p q s t = sym (shown p octets s).value ∙ (shown q octets t).
 pub spelled_has_no_fault : (octets : List ℕ) (p : Pdu) → Spells p octets → first_fault octets ≡ None
 spelled_has_no_fault octets p s = (shown p octets s).no_fault
 
-some_not_none : (o : Option TpFault) (fault : TpFault) → o ≡ None → o ≡ Some fault → ⊥
-some_not_none o fault none some = cc
-
-pub reads_the_spelled : (octets : List ℕ) (p : Pdu) (result : Result Tpdu TpFault) → Spells p octets → Reads octets result → IsRead p result
-reads_the_spelled octets p (Ok tpdu) s r = spells_one octets (seen tpdu) p r s
-reads_the_spelled octets p (Err fault) s r = some_not_none _ fault (spelled_has_no_fault octets p s) r
-
-pub reading_is_reads : (octets : List ℕ) (result : Result Tpdu TpFault) → Reads octets result → reading octets ≡ answer_seen result
+pub reading_of_spelled : (octets : List ℕ) (p : Pdu) → Spells p octets → reading octets ≡ Ok p
 unfolding reading
-reading_is_reads octets (Ok tpdu) r =
-    let it = shown (seen tpdu) octets r in
-    ap (λ (o : Option TpFault). fault_or o (value_of octets)) it.no_fault ∙ ap (λ (p : Pdu). Ok p) it.value
-reading_is_reads octets (Err fault) r = ap (λ (o : Option TpFault). fault_or o (value_of octets)) r
+reading_of_spelled octets p s =
+    let it = shown p octets s in
+    ap (λ (o : Option TpFault). fault_or o (value_of octets)) it.no_fault ∙ ap (λ (q : Pdu). Ok q) it.value
+
+pub reading_of_faulty : (octets : List ℕ) (fault : TpFault) → first_fault octets ≡ Some fault → reading octets ≡ Err fault
+unfolding reading
+reading_of_faulty octets fault e = ap (λ (o : Option TpFault). fault_or o (value_of octets)) e
+
+pub reading_is_reads : (octets : List ℕ) (result : Result Tpdu TpFault) → Reads octets result → reading octets ≡ answer_of result
+reading_is_reads octets (Ok tpdu) r = reading_of_spelled octets (pdu_of tpdu) r
+reading_is_reads octets (Err fault) r = reading_of_faulty octets fault r
 
 -- the octet that is written names the size
 code_names : (n : ℕ) → IsSize n → NamesSize (Some (size_code n)) n
@@ -49,7 +49,7 @@ code_names n h =
     named n m e h = subst (λ (k : ℕ). NamesSize (Some (size_code k)) k) (sym e) h
 
 -- a size that is named is one that can be written
-named_is_size : (octet : Option ℕ) (n : ℕ) → NamesSize octet n → IsSize n
+pub named_is_size : (octet : Option ℕ) (n : ℕ) → NamesSize octet n → IsSize n
 named_is_size None n h = inl h
 named_is_size (Some k) n h =
     elim (cases_eq k 7) [
@@ -81,7 +81,7 @@ named_is_size (Some k) n h =
     size_at : (n k j : ℕ) → k ≡ j → n ≡ 2 ^ k → n ≡ 2 ^ j
     size_at n k j e h = h ∙ ap (λ (i : ℕ). 2 ^ i) e
 
-pub written_is_spelled : (p : Pdu) → IsWritable p → Spells p (written p)
+pub written_is_spelled : (p : Pdu) → IsWritable p → Spells p (written_octets p)
 written_is_spelled (connection_request credit dst src size user) w = record {
   parameters = own_parameters (connection_request credit dst src size user);
   fits = w.0;
@@ -111,10 +111,10 @@ spelled_is_writable octets (data_tpdu dst last number user) s k = (s.fits, tt, k
 spelled_is_writable octets (acknowledgement credit dst number) s k = (s.fits, tt, k)
 spelled_is_writable octets (tpdu_error dst cause) s k = (s.fits, tt, k)
 
-pub reads_the_written : (p : Pdu) (result : Result Tpdu TpFault) → IsWritable p → Reads (written p) result → IsRead p result
-reads_the_written p result w r = reads_the_spelled (written p) p result (written_is_spelled p w) r
+pub reading_of_written : (p : Pdu) → IsWritable p → reading (written_octets p) ≡ Ok p
+reading_of_written p w = reading_of_spelled (written_octets p) p (written_is_spelled p w)
 
-pub written_is_short : (p : Pdu) → IsWritable p → length (written p) ≤ 1024
+pub written_is_short : (p : Pdu) → IsWritable p → length (written_octets p) ≤ 1024
 written_is_short (connection_request credit dst src size user) w = omega (arith, w.0.2)
 written_is_short (connection_confirm credit dst src size user) w = omega (arith, w.0.2)
 written_is_short (disconnect_request dst src reason user) w = omega (arith, w.0.2)

@@ -7,21 +7,21 @@ use Rattle.x224_tpdu.specs.declared.fault.TpFault.{TpFault}
 use Rattle.x224_tpdu.specs.declared.kind.Kind.{Kind}
 use Rattle.x224_tpdu.specs.declared.kind.Kind.TheVariants.{Cr, Cc, Dr, Dc, Dt, Ak, Er}
 use Rattle.x224_tpdu.specs.Kinds.{kind_of, least_user, most_user}
-use Rattle.x224_tpdu.specs.Parameters.{Parameter, spelled, parameters_in, first_refused, size_octet}
+use Rattle.x224_tpdu.specs.Parameters.{Parameter, parameter_octets, parameters_in, first_refused, size_octet}
 use Rattle.x224_tpdu.specs.Spelling.{Pdu, connection_request, connection_confirm, disconnect_request, disconnect_confirm, data_tpdu, acknowledgement, tpdu_error, NamesSize, spelling, Spells}
-use Rattle.x224_tpdu.specs.Faults.{Cut, cut, rule_1, rule_2, rule_3, rule_4, rule_5, rule_6, rule_7, rule_8, rules, kind_rules, first_of, part_fault, size_fault, user_fault, first_fault}
+use Rattle.x224_tpdu.specs.Faults.{Layout, layout_of, rule_1, rule_2, rule_3, rule_4, rule_5, rule_6, rule_7, rule_8, rules, kind_rules, first_of, part_fault, size_fault, user_fault, first_fault}
 use Rattle.x224_tpdu.specs.Function.{size_of, value_in, value_by, value_of}
 use Rattle.x224_tpdu.proofs.Cutting.{in_nil, in_whole}
 
 -- parameters are found again in their octets
-pub in_spelled : (ps : List Parameter) → parameters_in (spelled ps) ≡ (ps, [])
+pub in_spelled : (ps : List Parameter) → parameters_in (parameter_octets ps) ≡ (ps, [])
 in_spelled [] = in_nil
 in_spelled (p ∷ ps) =
-    let there : length p.value ≤ length (p.value ++ spelled ps) = omega (arith, length-append p.value (spelled ps)) in
-    in_whole p.code (length p.value) (p.value ++ spelled ps) there ∙ rw (take-append_seam p.value (spelled ps), drop-append_seam p.value (spelled ps), in_spelled ps) refl
+    let there : length p.value ≤ length (p.value ++ parameter_octets ps) = omega (arith, length-append p.value (parameter_octets ps)) in
+    in_whole p.code (length p.value) (p.value ++ parameter_octets ps) there ∙ rw (take-append_seam p.value (parameter_octets ps), drop-append_seam p.value (parameter_octets ps), in_spelled ps) refl
 
 -- what a spelling is cut into
-abbrev the_cut : ℕ → List ℕ → List ℕ → Cut
+abbrev the_cut : ℕ → List ℕ → List ℕ → Layout
 the_cut code fields user = record {
   found = length (length (code ∷ fields) ∷ code ∷ fields ++ user);
   li = length (code ∷ fields);
@@ -30,7 +30,7 @@ the_cut code fields user = record {
   user = user;
 }
 
-cut_cells : (code : ℕ) (fields user : List ℕ) → cut (length (code ∷ fields) ∷ code ∷ fields ++ user) ≡ the_cut code fields user
+cut_cells : (code : ℕ) (fields user : List ℕ) → layout_of (length (code ∷ fields) ∷ code ∷ fields ++ user) ≡ the_cut code fields user
 cut_cells code fields user =
     let less : length (code ∷ fields) - 1 ≡ length fields = omega arith in
     let more : length (code ∷ fields) + 1 ≡ suc (suc (length fields)) = omega arith in
@@ -46,7 +46,7 @@ pub record IsShown (p : Pdu) (octets : List ℕ) : Type 0 where
   pub value : value_of octets ≡ p
 
 -- the parts of a cut that keep the rules of their kind, and show this TPDU
-record Keeps (kind : Kind) (c : Cut) (p : Pdu) : Type 0 where
+record Keeps (kind : Kind) (c : Layout) (p : Pdu) : Type 0 where
   keeps_4 : rule_4 kind c ≡ None
   keeps_5 : rule_5 kind c ≡ None
   keeps_6 : rule_6 kind c ≡ None
@@ -57,7 +57,7 @@ record Keeps (kind : Kind) (c : Cut) (p : Pdu) : Type 0 where
 shown_by : (kind : Kind) (p : Pdu) (code : ℕ) (fields user : List ℕ) → kind_of code ≡ Some kind → length (code ∷ fields) < 255 → Keeps kind (the_cut code fields user) p → IsShown p (length (code ∷ fields) ∷ code ∷ fields ++ user)
 shown_by kind p code fields user k short keeps =
     let octets : List ℕ = length (code ∷ fields) ∷ code ∷ fields ++ user in
-    let c : Cut = the_cut code fields user in
+    let c : Layout = the_cut code fields user in
     let some : eqb (length octets) 0 ≡ false = ne_eqb _ _ (λ e. absurd (omega arith)) in
     let counts : eqb (length (code ∷ fields)) 0 ≡ false = ne_eqb _ _ (λ e. absurd (omega arith)) in
     let below : eqb (length (code ∷ fields)) 255 ≡ false = ne_eqb _ _ (λ e. absurd (omega arith)) in
@@ -70,12 +70,12 @@ shown_by kind p code fields user k short keeps =
     (skip (rule_7 kind c) _ keeps.keeps_7 (skip (rule_8 kind c) [] keeps.keeps_8 refl)))) in
     let behind : first_of (kind_rules (kind_of code) c) ≡ None = subst (λ (o : Option Kind). first_of (kind_rules o c) ≡ None) (sym k) of_kind in
     record {
-      no_fault = ap (λ (d : Cut). first_of (rules octets d)) (cut_cells code fields user) ∙ skip (rule_1 octets) _ keeps_1 (skip (rule_2 c) _ keeps_2 (skip (rule_3 c) _ keeps_3 behind));
-      value = ap (λ (d : Cut). value_by (kind_of d.code) d) (cut_cells code fields user) ∙ ap (λ (o : Option Kind). value_by o c) k ∙ keeps.shows;
+      no_fault = ap (λ (d : Layout). first_of (rules octets d)) (cut_cells code fields user) ∙ skip (rule_1 octets) _ keeps_1 (skip (rule_2 c) _ keeps_2 (skip (rule_3 c) _ keeps_3 behind));
+      value = ap (λ (d : Layout). value_by (kind_of d.code) d) (cut_cells code fields user) ∙ ap (λ (o : Option Kind). value_by o c) k ∙ keeps.shows;
     }
 
 -- parameters that may stand pass
-part_passes : (kind : Kind) (ps : List Parameter) → first_refused kind false ps ≡ None → part_fault kind (spelled ps) ≡ None
+part_passes : (kind : Kind) (ps : List Parameter) → first_refused kind false ps ≡ None → part_fault kind (parameter_octets ps) ≡ None
 part_passes kind ps h = rw (in_spelled ps, h) refl
 
 -- a size that is named passes, and is the one that is shown
@@ -150,7 +150,7 @@ none_stand_ak (p ∷ ps) h = cc
 shown_cr : (credit dst src size : ℕ) (user octets : List ℕ) → Spells (connection_request credit dst src size user) octets → IsShown (connection_request credit dst src size user) octets
 shown_cr credit dst src size user octets s =
     let ps : List Parameter = s.parameters in
-    let fields : List ℕ = two dst ++ two src ++ 0x20 ∷ spelled ps in
+    let fields : List ℕ = two dst ++ two src ++ 0x20 ∷ parameter_octets ps in
     let named = size_passes (size_octet ps) size s.may_stand.1 in
     let enough : nat_le 6 (length ((0xE0 + credit) ∷ fields)) ≡ true = le-leb _ _ (omega arith) in
     rw s.spelled_so (shown_by Cr (connection_request credit dst src size user) (0xE0 + credit) fields user (code_cr credit s.fits.0.0) s.below_ff (record {
@@ -165,7 +165,7 @@ shown_cr credit dst src size user octets s =
 shown_cc : (credit dst src size : ℕ) (user octets : List ℕ) → Spells (connection_confirm credit dst src size user) octets → IsShown (connection_confirm credit dst src size user) octets
 shown_cc credit dst src size user octets s =
     let ps : List Parameter = s.parameters in
-    let fields : List ℕ = two dst ++ two src ++ 0x20 ∷ spelled ps in
+    let fields : List ℕ = two dst ++ two src ++ 0x20 ∷ parameter_octets ps in
     let named = size_passes (size_octet ps) size s.may_stand.1 in
     let enough : nat_le 6 (length ((0xD0 + credit) ∷ fields)) ≡ true = le-leb _ _ (omega arith) in
     rw s.spelled_so (shown_by Cc (connection_confirm credit dst src size user) (0xD0 + credit) fields user (code_cc credit s.fits.0.0) s.below_ff (record {
@@ -180,7 +180,7 @@ shown_cc credit dst src size user octets s =
 shown_dr : (dst src reason : ℕ) (user octets : List ℕ) → Spells (disconnect_request dst src reason user) octets → IsShown (disconnect_request dst src reason user) octets
 shown_dr dst src reason user octets s =
     let ps : List Parameter = s.parameters in
-    let fields : List ℕ = two dst ++ two src ++ reason ∷ spelled ps in
+    let fields : List ℕ = two dst ++ two src ++ reason ∷ parameter_octets ps in
     let enough : nat_le 6 (length (0x80 ∷ fields)) ≡ true = le-leb _ _ (omega arith) in
     rw s.spelled_so (shown_by Dr (disconnect_request dst src reason user) 0x80 fields user refl s.below_ff (record {
       keeps_4 = rw enough refl;
@@ -194,7 +194,7 @@ shown_dr dst src reason user octets s =
 shown_er : (dst cause : ℕ) (octets : List ℕ) → Spells (tpdu_error dst cause) octets → IsShown (tpdu_error dst cause) octets
 shown_er dst cause octets s =
     let ps : List Parameter = s.parameters in
-    let fields : List ℕ = two dst ++ cause ∷ spelled ps in
+    let fields : List ℕ = two dst ++ cause ∷ parameter_octets ps in
     let enough : nat_le 4 (length (0x70 ∷ fields)) ≡ true = le-leb _ _ (omega arith) in
     rw s.spelled_so (shown_by Er (tpdu_error dst cause) 0x70 fields [] refl s.below_ff (record {
       keeps_4 = rw enough refl;

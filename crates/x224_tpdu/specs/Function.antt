@@ -1,19 +1,20 @@
--- Reading as a function of octets, for layers above whose steps are functions of octets. It defines
--- nothing of its own: the law `ReadingIsReads` says that it is what the spelling and the rules say, and
--- layers above needn't look inside.
-use Rattle.std.specs.Prelude.{◌≡◌, ℕ, ◌+◌, ◌*◌, ◌%◌, ◌^◌, nat_le, List, slice_index, Option, None, Some, Result, Ok, Err}
+-- Representation: reading as a function of octets, for layers above whose steps are functions of octets.
+-- It defines nothing of its own: the laws of reading say that it is what the spelling and the rules say,
+-- and no layer above needs to look inside.
+use Rattle.std.specs.Prelude.{◌≡◌, ℕ, ◌+◌, ◌*◌, ◌%◌, ◌^◌, ◌<◌, ◌≤◌, nat_le, List, length, slice_index, Option, None, Some, Result, Ok, Err}
+use Rattle.er_base.specs.Octets.{AreOctets}
 use Rattle.x224_tpdu.specs.declared.tpdu.Tpdu.{Tpdu}
 use Rattle.x224_tpdu.specs.declared.fault.TpFault.{TpFault}
 use Rattle.x224_tpdu.specs.declared.kind.Kind.{Kind}
 use Rattle.x224_tpdu.specs.declared.kind.Kind.TheVariants.{Cr, Cc, Dr, Dc, Dt, Ak, Er}
-use Rattle.x224_tpdu.specs.Kinds.{kind_of}
+use Rattle.x224_tpdu.specs.Kinds.{kind_of, least_user, most_user}
 use Rattle.x224_tpdu.specs.Parameters.{parameters_in, size_octet}
-use Rattle.x224_tpdu.specs.Spelling.{Pdu, connection_request, connection_confirm, disconnect_request, disconnect_confirm, data_tpdu, acknowledgement, tpdu_error, seen}
-use Rattle.x224_tpdu.specs.Faults.{Cut, cut, parameter_part, first_fault}
-use Rattle.x224_tpdu.specs.Reading.{Reads}
+use Rattle.x224_tpdu.specs.Spelling.{Pdu, connection_request, connection_confirm, disconnect_request, disconnect_confirm, data_tpdu, acknowledgement, tpdu_error, pdu_of, kind_in, user_in, Spells}
+use Rattle.x224_tpdu.specs.Faults.{Layout, layout_of, parameter_part, first_fault}
+use Rattle.x224_tpdu.specs.Writing.{IsSize, IsWritable, written_octets}
 
 -- the number of two octets at a place of the fields
-abbrev pub number_at : ℕ → Cut → ℕ
+abbrev pub number_at : ℕ → Layout → ℕ
 number_at k c = slice_index c.fields k * 256 + slice_index c.fields (k + 1)
 
 -- the TPDU size that an octet of C0 names
@@ -22,11 +23,11 @@ size_of None = 128
 size_of (Some octet) = 2 ^ octet
 
 -- the TPDU size that the parameters name
-abbrev pub size_in : Cut → ℕ
+abbrev pub size_in : Layout → ℕ
 size_in c = size_of (size_octet (parameters_in (parameter_part Cr c)).0)
 
 -- the fields at their places
-abbrev pub value_in : Kind → Cut → Pdu
+abbrev pub value_in : Kind → Layout → Pdu
 value_in Cr c = connection_request (c.code % 16) (number_at 0 c) (number_at 2 c) (size_in c) c.user
 value_in Cc c = connection_confirm (c.code % 16) (number_at 0 c) (number_at 2 c) (size_in c) c.user
 value_in Dr c = disconnect_request (number_at 0 c) (number_at 2 c) (slice_index c.fields 4) c.user
@@ -37,13 +38,13 @@ value_in Ak c = acknowledgement (c.code % 16) (number_at 0 c) (slice_index c.fie
 value_in Er c = tpdu_error (number_at 0 c) (slice_index c.fields 2)
 
 -- the TPDU of a cut without a fault; where no kind is named there is one
-abbrev pub value_by : Option Kind → Cut → Pdu
+abbrev pub value_by : Option Kind → Layout → Pdu
 value_by (Some kind) c = value_in kind c
 value_by None c = tpdu_error 0 0
 
 -- the TPDU of octets without a fault
 abbrev pub value_of : List ℕ → Pdu
-value_of octets = value_by (kind_of (cut octets).code) (cut octets)
+value_of octets = value_by (kind_of (layout_of octets).code) (layout_of octets)
 
 -- a fault, or else this TPDU
 abbrev pub fault_or : Option TpFault → Pdu → Result Pdu TpFault
@@ -55,10 +56,39 @@ unfoldable pub reading : List ℕ → Result Pdu TpFault
 reading octets = fault_or (first_fault octets) (value_of octets)
 
 -- the answer of the program
-abbrev pub answer_seen : Result Tpdu TpFault → Result Pdu TpFault
-answer_seen (Ok tpdu) = Ok (seen tpdu)
-answer_seen (Err fault) = Err fault
+abbrev pub answer_of : Result Tpdu TpFault → Result Pdu TpFault
+answer_of (Ok tpdu) = Ok (pdu_of tpdu)
+answer_of (Err fault) = Err fault
 
--- the function gives the one answer
-abbrev pub ReadingIsReads : Type 0
-ReadingIsReads = (octets : List ℕ) (result : Result Tpdu TpFault) → Reads octets result → reading octets ≡ answer_seen result
+-- octets that spell a TPDU are read as this TPDU
+abbrev pub ReadingOfSpelled : Type 0
+ReadingOfSpelled = (octets : List ℕ) (p : Pdu) → Spells p octets → reading octets ≡ Ok p
+
+-- faulty octets are read as their first fault
+abbrev pub ReadingOfFaulty : Type 0
+ReadingOfFaulty = (octets : List ℕ) (fault : TpFault) → first_fault octets ≡ Some fault → reading octets ≡ Err fault
+
+-- what was written is read as the same TPDU
+abbrev pub ReadingOfWritten : Type 0
+ReadingOfWritten = (p : Pdu) → IsWritable p → reading (written_octets p) ≡ Ok p
+
+-- the bits of a field, the size and the user data are within their bounds; references and reasons are left out
+abbrev pub IsInRange : Pdu → Type 0
+IsInRange p = FieldsInRange p × (least_user (kind_in p) ≤ length (user_in p)) × (length (user_in p) ≤ most_user (kind_in p))
+  where
+    FieldsInRange : Pdu → Type 0
+    FieldsInRange (connection_request credit dst src size user) = (credit < 16) × IsSize size
+    FieldsInRange (connection_confirm credit dst src size user) = (credit < 16) × IsSize size
+    FieldsInRange (disconnect_request dst src reason user) = Unit {0}
+    FieldsInRange (disconnect_confirm dst src) = Unit {0}
+    FieldsInRange (data_tpdu dst last number user) = number < 128
+    FieldsInRange (acknowledgement credit dst number) = (credit < 16) × (number < 128)
+    FieldsInRange (tpdu_error dst cause) = Unit {0}
+
+-- what is read is within its bounds
+abbrev pub ReadingIsInRange : Type 0
+ReadingIsInRange = (octets : List ℕ) (p : Pdu) → reading octets ≡ Ok p → IsInRange p
+
+-- octets are read as a TPDU only where they spell it
+abbrev pub ReadingSpells : Type 0
+ReadingSpells = (octets : List ℕ) (p : Pdu) → AreOctets octets → reading octets ≡ Ok p → Spells p octets

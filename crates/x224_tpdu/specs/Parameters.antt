@@ -10,9 +10,9 @@ pub record Parameter : Type 0 where
   pub value : List ℕ
 
 -- parameters as octets
-abbrev pub spelled : List Parameter → List ℕ
-spelled [] = []
-spelled (p ∷ ps) = p.code ∷ length p.value ∷ p.value ++ spelled ps
+abbrev pub parameter_octets : List Parameter → List ℕ
+parameter_octets [] = []
+parameter_octets (p ∷ ps) = p.code ∷ length p.value ∷ p.value ++ parameter_octets ps
 
 -- the parameters past the first n octets, from the left, and the octets left over where no whole
 -- parameter stands
@@ -35,7 +35,7 @@ parameters_in octets = parameters_after 0 octets
 abbrev pub CutsParameters : Type 0
 CutsParameters =
     (octets : List ℕ)
-    → (spelled (parameters_in octets).0 ++ (parameters_in octets).1 ≡ octets)
+    → (parameter_octets (parameters_in octets).0 ++ (parameters_in octets).1 ≡ octets)
     × ((p : Parameter) (after : List ℕ)
     → (parameters_in octets).1 ≢ p.code ∷ length p.value ∷ p.value ++ after)
 

@@ -1,5 +1,5 @@
--- What the private functions that read the parts of a TPDU promise.
-use Rattle.std.specs.Prelude.{ℕ, ◌≡◌, ◌+◌, ◌<◌, ◌^◌, List, [], ◌∷◌, ◌++◌, length, Option, Some, None, false, Result, Err, MatchResult}
+-- Representation: what the private functions that read the parts of a TPDU promise; no claim rests on it.
+use Rattle.std.specs.Prelude.{ℕ, ◌≡◌, ◌+◌, ◌<◌, ◌^◌, List, [], ◌∷◌, ◌++◌, length, Option, Some, None, Bool, true, false, Result, Err, MatchResult}
 use Rattle.x224_tpdu.specs.declared.fault.TpFault.{TpFault}
 use Rattle.x224_tpdu.specs.declared.fault.TpFault.TheVariants.{Code}
 use Rattle.er_base.specs.Octets.{two}
@@ -8,13 +8,13 @@ use Rattle.x224_tpdu.specs.declared.kind.Kind.TheVariants.{Cr, Dc, Dt, Ak}
 use Rattle.x224_tpdu.specs.declared.parts.Parts.{Parts}
 use Rattle.x224_tpdu.specs.declared.tpdu.Tpdu.{Tpdu}
 use Rattle.x224_tpdu.specs.Kinds.{kind_of}
-use Rattle.x224_tpdu.specs.Parameters.{Parameter, parameters_in, first_refused, spelled}
-use Rattle.x224_tpdu.specs.Spelling.{Pdu, seen, kind_in, user_in, Fits, HasParameters, header}
-use Rattle.x224_tpdu.specs.Faults.{Cut, cut, rule_1, rule_2, rule_4, rule_5, kind_rules, first_of, parameter_part, part_fault}
+use Rattle.x224_tpdu.specs.Parameters.{Parameter, parameters_in, first_refused, size_octet, parameter_octets}
+use Rattle.x224_tpdu.specs.Spelling.{Pdu, pdu_of, kind_in, user_in, Fits, HasParameters, header}
+use Rattle.x224_tpdu.specs.Faults.{Layout, layout_of, rule_1, rule_2, rule_4, rule_5, kind_rules, first_of, parameter_part, part_fault}
 
 -- the parts as the rules speak of them
-abbrev pub cut_of : Parts → Cut
-cut_of parts = record {
+abbrev pub layout_in : Parts → Layout
+layout_in parts = record {
   found = parts.found;
   li = parts.li;
   code = parts.code;
@@ -23,12 +23,12 @@ cut_of parts = record {
 }
 
 -- the length indicator counts the code and the fields
-abbrev pub IsCounted : Cut → Type 0
+abbrev pub IsCounted : Layout → Type 0
 IsCounted c = c.li ≡ length c.fields + 1
 
 -- octets that keep the rules 1 and 2 are these parts
-pub record IsCut (octets : List ℕ) (c : Cut) : Type 0 where
-  pub is : c ≡ cut octets
+pub record IsLayout (octets : List ℕ) (c : Layout) : Type 0 where
+  pub is : c ≡ layout_of octets
   pub whole : octets ≡ c.li ∷ c.code ∷ c.fields ++ c.user
   pub counted : IsCounted c
   pub below_ff : c.li < 0xFF
@@ -36,14 +36,14 @@ pub record IsCut (octets : List ℕ) (c : Cut) : Type 0 where
   pub length_is : rule_2 c ≡ None
 
 -- the parameters of a header, where its kind has them
-abbrev pub parameters_of : Kind → Cut → List Parameter
+abbrev pub parameters_of : Kind → Layout → List Parameter
 parameters_of Dc c = []
 parameters_of Dt c = []
 parameters_of Ak c = []
 parameters_of kind c = (parameters_in (parameter_part kind c)).0
 
 -- the parts are those of a spelling of this TPDU
-pub record Shows (kind : Kind) (c : Cut) (p : Pdu) : Type 0 where
+pub record Shows (kind : Kind) (c : Layout) (p : Pdu) : Type 0 where
   pub kind_is : kind_in p ≡ kind
   pub fits : Fits p
   pub may_stand : HasParameters p (parameters_of kind c)
@@ -51,15 +51,20 @@ pub record Shows (kind : Kind) (c : Cut) (p : Pdu) : Type 0 where
   pub user_is : c.user ≡ user_in p
 
 -- parts of this kind that keep the rules 1 to 3 were read
-abbrev pub ReadsKind : Kind → Cut → Result Tpdu TpFault → Type 0
+abbrev pub ReadsKind : Kind → Layout → Result Tpdu TpFault → Type 0
 ReadsKind kind c result =
-    MatchResult result (λ tpdu. Shows kind c (seen tpdu)) (λ fault. first_of (kind_rules (Some kind) c) ≡ Some fault)
+    MatchResult result (λ tpdu. Shows kind c (pdu_of tpdu)) (λ fault. first_of (kind_rules (Some kind) c) ≡ Some fault)
 
 -- octets are made of whole parameters that may stand in this kind
 pub record IsWhole (kind : Kind) (part : List ℕ) : Type 0 where
   pub none_refused : first_refused kind false (parameters_in part).0 ≡ None
-  pub spelled_so : part ≡ spelled (parameters_in part).0
+  pub spelled_so : part ≡ parameter_octets (parameters_in part).0
   pub passes : part_fault kind part ≡ None
+
+-- the first TPDU size, where one was passed or else stands in what is left
+abbrev pub size_behind : Bool → Option ℕ → List Parameter → Option ℕ
+size_behind true octet rest = octet
+size_behind false octet rest = size_octet rest
 
 -- octets begin with this parameter, and the octets `after` follow it
 pub record Begins (octets : List ℕ) (code : ℕ) (value after : List ℕ) : Type 0 where
@@ -67,12 +72,12 @@ pub record Begins (octets : List ℕ) (code : ℕ) (value after : List ℕ) : Ty
   pub shorter : length after < length octets
 
 -- the code names this kind, and the length indicator counts
-pub record IsOfKind (kind : Kind) (c : Cut) : Type 0 where
+pub record IsOfKind (kind : Kind) (c : Layout) : Type 0 where
   pub named : kind_of c.code ≡ Some kind
   pub counted : IsCounted c
 
 -- the fields of CR or CC of class 2
-pub record IsConnection (c : Cut) (dst src : ℕ) (part : List ℕ) : Type 0 where
+pub record IsConnection (c : Layout) (dst src : ℕ) (part : List ℕ) : Type 0 where
   pub fields_are : c.fields ≡ two dst ++ two src ++ 0x20 ∷ part
   pub dst_fits : dst < 2 ^ 16
   pub src_fits : src < 2 ^ 16
@@ -81,6 +86,6 @@ pub record IsConnection (c : Cut) (dst src : ℕ) (part : List ℕ) : Type 0 whe
   pub class_is : rule_5 Cr c ≡ None
 
 -- parts that keep the rules 1 and 2 were read
-abbrev pub ReadsBy : Option Kind → Cut → Result Tpdu TpFault → Type 0
+abbrev pub ReadsBy : Option Kind → Layout → Result Tpdu TpFault → Type 0
 ReadsBy None c result = result ≡ Err (Code c.code)
 ReadsBy (Some kind) c result = ReadsKind kind c result

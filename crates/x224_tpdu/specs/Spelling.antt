@@ -8,7 +8,7 @@ use Rattle.x224_tpdu.specs.declared.kind.Kind.TheVariants.{Cr, Cc, Dr, Dc, Dt, A
 use Rattle.x224_tpdu.specs.declared.tpdu.Tpdu.{Tpdu}
 use Rattle.x224_tpdu.specs.declared.tpdu.Tpdu.TheVariants as code
 use Rattle.x224_tpdu.specs.Kinds.{least_user, most_user}
-use Rattle.x224_tpdu.specs.Parameters.{Parameter, spelled, first_refused, size_octet}
+use Rattle.x224_tpdu.specs.Parameters.{Parameter, parameter_octets, first_refused, size_octet}
 
 -- a TPDU by its fields, user data last
 pub data Pdu : Type 0 where
@@ -21,14 +21,14 @@ pub data Pdu : Type 0 where
   tpdu_error : (dst cause : ℕ) → Pdu
 
 -- the TPDU that a value of the program is
-abbrev pub seen : Tpdu → Pdu
-seen (code.Cr credit dst src size user) = connection_request credit dst src size user.now
-seen (code.Cc credit dst src size user) = connection_confirm credit dst src size user.now
-seen (code.Dr dst src reason user) = disconnect_request dst src reason user.now
-seen (code.Dc dst src) = disconnect_confirm dst src
-seen (code.Dt dst last number user) = data_tpdu dst last number user.now
-seen (code.Ak credit dst number) = acknowledgement credit dst number
-seen (code.Er dst cause) = tpdu_error dst cause
+abbrev pub pdu_of : Tpdu → Pdu
+pdu_of (code.Cr credit dst src size user) = connection_request credit dst src size user.now
+pdu_of (code.Cc credit dst src size user) = connection_confirm credit dst src size user.now
+pdu_of (code.Dr dst src reason user) = disconnect_request dst src reason user.now
+pdu_of (code.Dc dst src) = disconnect_confirm dst src
+pdu_of (code.Dt dst last number user) = data_tpdu dst last number user.now
+pdu_of (code.Ak credit dst number) = acknowledgement credit dst number
+pdu_of (code.Er dst cause) = tpdu_error dst cause
 
 -- the kind of a TPDU
 abbrev pub kind_in : Pdu → Kind
@@ -89,7 +89,7 @@ HasParameters p ps = (first_refused (kind_in p) false ps ≡ None) × NamesSizeO
 
 -- the header without LI
 abbrev pub header : Pdu → List Parameter → List ℕ
-header p ps = fixed_part p ++ spelled ps
+header p ps = fixed_part p ++ parameter_octets ps
 
 -- the spelling of a TPDU with these parameters
 abbrev pub spelling : Pdu → List Parameter → List ℕ

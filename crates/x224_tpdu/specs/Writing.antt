@@ -22,8 +22,8 @@ own_parameters (connection_confirm credit dst src size user) = record { code = 0
 own_parameters _ = []
 
 -- the spelling that is written
-abbrev pub written : Pdu → List ℕ
-written p = spelling p (own_parameters p)
+abbrev pub written_octets : Pdu → List ℕ
+written_octets p = spelling p (own_parameters p)
 
 -- a TPDU that can be read and isn't ER
 abbrev pub IsWritable : Pdu → Type 0

@@ -10,36 +10,39 @@ use crate::kind::Kind;
 /// The code of the parameter TPDU size.
 pub const SIZE: u8 = 0xC0;
 
-/// Tests that a parameter part is made of whole parameters that may stand in a TPDU of this kind.
-
-pub fn check_parameters(kind: Kind, part: &[u8]) -> Result<(), TpFault>
+/// Tests that a parameter part is made of whole parameters that may stand in a TPDU of this kind, and
+/// answers the octet of the first TPDU size among them.
+pub fn check_parameters(kind: Kind, part: &[u8]) -> Result<Option<u8>, TpFault>
     ensures { MatchResult result
-        (λ _. IsWhole kind part.now)
+        (λ octet. IsWhole kind part.now × (octet ≡ size_octet (parameters_in part.now).0))
         (λ fault. part_fault kind part.now ≡ Some fault) }
 {
     let mut rest = part;
     let mut sized = false;
+    let mut size = None;
     while let Some((code, value, after)) = first_parameter(rest) {
         if !is_allowed(kind, sized, code, value) {
             return Err(TpFault::Parameter(code));
         }
-        sized = sized || code == SIZE;
+        if code == SIZE && !sized {
+            sized = true;
+            size = value.first().copied();
+        }
         rest = after;
     }
     match rest {
-        [] => Ok(()),
+        [] => Ok(size),
         &[code, ..] => Err(TpFault::Parameter(code)),
     }
 }
 
-/// The TPDU size that a parameter part of CR or CC names, in octets.
-pub fn size_named(part: &[u8]) -> Result<u16, TpFault>
-    ensures fault { MatchResult result
-        (λ _. size_fault (size_octet (parameters_in part.now).0) ≡ None)
-        (λ fault. size_fault (size_octet (parameters_in part.now).0) ≡ Some fault) }
-    ensures size { MatchResult result (λ size. NamesSize (size_octet (parameters_in part.now).0) size) (λ _. Unit {0}) }
+/// The TPDU size in octets that the octet of its parameter names; 128 where there is no parameter.
+pub fn size_named(octet: Option<u8>) -> Result<u16, TpFault>
+    ensures { MatchResult result
+        (λ size. (size_fault octet ≡ None) × NamesSize octet size)
+        (λ fault. size_fault octet ≡ Some fault) }
 {
-    match first_size(part) {
+    match octet {
         None | Some(0x07) => Ok(128),
         Some(0x08) => Ok(256),
         Some(0x09) => Ok(512),
@@ -49,19 +52,6 @@ pub fn size_named(part: &[u8]) -> Result<u16, TpFault>
         Some(0x0D) => Ok(8_192),
         Some(octet) => Err(TpFault::Value { code: SIZE, octet }),
     }
-}
-
-fn first_size(part: &[u8]) -> Option<u8>
-    ensures { result ≡ size_octet (parameters_in part.now).0 }
-{
-    let mut rest = part;
-    while let Some((code, value, after)) = first_parameter(rest) {
-        if code == SIZE {
-            return value.first().copied();
-        }
-        rest = after;
-    }
-    None
 }
 
 // The parameter with which the octets begin, as its code and its value, and the octets behind it.

@@ -1,6 +1,6 @@
 ghost use Rattle.std.specs.Prelude.{◌≡◌, Some, MatchResult};
 ghost use Rattle.x224_tpdu.specs.Faults.{first_fault};
-ghost use Rattle.x224_tpdu.specs.Parts.{cut_of, IsCut};
+ghost use Rattle.x224_tpdu.specs.Parts.{layout_in, IsLayout};
 
 use crate::fault::TpFault;
 
@@ -20,9 +20,9 @@ pub struct Parts<'a> {
 }
 
 /// Cuts octets that have a header of the length that they name.
-pub fn cut<'a>(octets: &'a [u8]) -> Result<Parts<'a>, TpFault>
+pub fn parts_of<'a>(octets: &'a [u8]) -> Result<Parts<'a>, TpFault>
     ensures { MatchResult result
-        (λ parts. IsCut octets.now (cut_of parts))
+        (λ parts. IsLayout octets.now (layout_in parts))
         (λ fault. first_fault octets.now ≡ Some fault) }
 {
     let &[li, ref rest @ ..] = octets else {

@@ -4,13 +4,13 @@ ghost use Rattle.x224_tpdu.specs.declared.kind.Kind.TheVariants.{Cr, Cc, Dr, Dc,
 ghost use Rattle.x224_tpdu.specs.Kinds.{kind_of, least_user, most_user};
 ghost use Rattle.x224_tpdu.specs.Faults.{rule_4, rule_5, first_of, user_fault};
 ghost use Rattle.x224_tpdu.specs.Reading.{Reads};
-ghost use Rattle.x224_tpdu.specs.Function.{reading, answer_seen};
-ghost use Rattle.x224_tpdu.specs.Parts.{cut_of, IsCounted, IsOfKind, IsConnection, ReadsKind, ReadsBy};
+ghost use Rattle.x224_tpdu.specs.Function.{reading, answer_of};
+ghost use Rattle.x224_tpdu.specs.Parts.{layout_in, IsCounted, IsOfKind, IsConnection, ReadsKind, ReadsBy};
 
 use crate::fault::TpFault;
 use crate::kind::{Kind, kind_named};
 use crate::parameters::{check_parameters, size_named};
-use crate::parts::{Parts, cut};
+use crate::parts::{Parts, parts_of};
 use crate::tpdu::Tpdu;
 
 /// Reads octets as a TPDU, which lends its user data from them. Answers the TPDU exactly where the
@@ -26,15 +26,15 @@ use crate::tpdu::Tpdu;
 /// 8. `UserData`: too much, or none in DT.
 pub fn read<'a>(octets: &'a [u8]) -> Result<Tpdu<'a>, TpFault>
     ensures exact { Reads octets.now result }
-    ensures function { reading octets.now ≡ answer_seen result }
+    ensures function { reading octets.now ≡ answer_of result }
 {
-    let parts = cut(octets)?;
+    let parts = parts_of(octets)?;
     read_parts(&parts)
 }
 
 fn read_parts<'a>(parts: &Parts<'a>) -> Result<Tpdu<'a>, TpFault>
-    requires { IsCounted (cut_of parts.now) }
-    ensures { ReadsBy (kind_of parts.now.code) (cut_of parts.now) result }
+    requires { IsCounted (layout_in parts.now) }
+    ensures { ReadsBy (kind_of parts.now.code) (layout_in parts.now) result }
 {
     match kind_named(parts.code) {
         None => Err(TpFault::Code(parts.code)),
@@ -49,42 +49,40 @@ fn read_parts<'a>(parts: &Parts<'a>) -> Result<Tpdu<'a>, TpFault>
 }
 
 fn read_cr<'a>(parts: &Parts<'a>) -> Result<Tpdu<'a>, TpFault>
-    requires { IsOfKind Cr (cut_of parts.now) }
-    ensures { ReadsKind Cr (cut_of parts.now) result }
+    requires { IsOfKind Cr (layout_in parts.now) }
+    ensures { ReadsKind Cr (layout_in parts.now) result }
 {
-    let (dst, src, parameters) = connection(parts)?;
-    check_parameters(Kind::Cr, parameters)?;
-    let size = size_named(parameters)?;
+    let fields = connection(parts)?;
+    let size = size_named(check_parameters(Kind::Cr, fields.parameters)?)?;
     check_user(Kind::Cr, parts.user)?;
     Ok(Tpdu::Cr {
         credit: parts.code % 16,
-        dst,
-        src,
+        dst: fields.dst,
+        src: fields.src,
         size,
         user: parts.user,
     })
 }
 
 fn read_cc<'a>(parts: &Parts<'a>) -> Result<Tpdu<'a>, TpFault>
-    requires { IsOfKind Cc (cut_of parts.now) }
-    ensures { ReadsKind Cc (cut_of parts.now) result }
+    requires { IsOfKind Cc (layout_in parts.now) }
+    ensures { ReadsKind Cc (layout_in parts.now) result }
 {
-    let (dst, src, parameters) = connection(parts)?;
-    check_parameters(Kind::Cc, parameters)?;
-    let size = size_named(parameters)?;
+    let fields = connection(parts)?;
+    let size = size_named(check_parameters(Kind::Cc, fields.parameters)?)?;
     check_user(Kind::Cc, parts.user)?;
     Ok(Tpdu::Cc {
         credit: parts.code % 16,
-        dst,
-        src,
+        dst: fields.dst,
+        src: fields.src,
         size,
         user: parts.user,
     })
 }
 
 fn read_dr<'a>(parts: &Parts<'a>) -> Result<Tpdu<'a>, TpFault>
-    requires { IsOfKind Dr (cut_of parts.now) }
-    ensures { ReadsKind Dr (cut_of parts.now) result }
+    requires { IsOfKind Dr (layout_in parts.now) }
+    ensures { ReadsKind Dr (layout_in parts.now) result }
 {
     let &[
         dst_high,
@@ -110,8 +108,8 @@ fn read_dr<'a>(parts: &Parts<'a>) -> Result<Tpdu<'a>, TpFault>
 }
 
 fn read_dc<'a>(parts: &Parts<'a>) -> Result<Tpdu<'a>, TpFault>
-    requires { IsOfKind Dc (cut_of parts.now) }
-    ensures { ReadsKind Dc (cut_of parts.now) result }
+    requires { IsOfKind Dc (layout_in parts.now) }
+    ensures { ReadsKind Dc (layout_in parts.now) result }
 {
     let &[dst_high, dst_low, src_high, src_low] = parts.fields else {
         return Err(wrong_length(parts));
@@ -124,8 +122,8 @@ fn read_dc<'a>(parts: &Parts<'a>) -> Result<Tpdu<'a>, TpFault>
 }
 
 fn read_dt<'a>(parts: &Parts<'a>) -> Result<Tpdu<'a>, TpFault>
-    requires { IsOfKind Dt (cut_of parts.now) }
-    ensures { ReadsKind Dt (cut_of parts.now) result }
+    requires { IsOfKind Dt (layout_in parts.now) }
+    ensures { ReadsKind Dt (layout_in parts.now) result }
 {
     let &[dst_high, dst_low, octet] = parts.fields else {
         return Err(wrong_length(parts));
@@ -141,8 +139,8 @@ fn read_dt<'a>(parts: &Parts<'a>) -> Result<Tpdu<'a>, TpFault>
 }
 
 fn read_ak<'a>(parts: &Parts<'a>) -> Result<Tpdu<'a>, TpFault>
-    requires { IsOfKind Ak (cut_of parts.now) }
-    ensures { ReadsKind Ak (cut_of parts.now) result }
+    requires { IsOfKind Ak (layout_in parts.now) }
+    ensures { ReadsKind Ak (layout_in parts.now) result }
 {
     let &[dst_high, dst_low, octet] = parts.fields else {
         return Err(wrong_length(parts));
@@ -159,8 +157,8 @@ fn read_ak<'a>(parts: &Parts<'a>) -> Result<Tpdu<'a>, TpFault>
 }
 
 fn read_er<'a>(parts: &Parts<'a>) -> Result<Tpdu<'a>, TpFault>
-    requires { IsOfKind Er (cut_of parts.now) }
-    ensures { ReadsKind Er (cut_of parts.now) result }
+    requires { IsOfKind Er (layout_in parts.now) }
+    ensures { ReadsKind Er (layout_in parts.now) result }
 {
     let &[dst_high, dst_low, cause, ref parameters @ ..] = parts.fields else {
         return Err(wrong_length(parts));
@@ -173,12 +171,19 @@ fn read_er<'a>(parts: &Parts<'a>) -> Result<Tpdu<'a>, TpFault>
     })
 }
 
-// The two references and the parameter part of CR or CC, whose class is 2.
-fn connection<'a>(parts: &Parts<'a>) -> Result<(u16, u16, &'a [u8]), TpFault>
-    requires { IsCounted (cut_of parts.now) }
+// The fields behind the code of CR or CC, the class left out.
+#[derive(Clone, Copy)]
+struct ConnectionFields<'a> {
+    dst: u16,
+    src: u16,
+    parameters: &'a [u8],
+}
+
+fn connection<'a>(parts: &Parts<'a>) -> Result<ConnectionFields<'a>, TpFault>
+    requires { IsCounted (layout_in parts.now) }
     ensures { MatchResult result
-        (λ found. IsConnection (cut_of parts.now) found.0 found.1 found.2.now)
-        (λ fault. first_of (rule_4 Cr (cut_of parts.now) ∷ rule_5 Cr (cut_of parts.now) ∷ []) ≡ Some fault) }
+        (λ found. IsConnection (layout_in parts.now) found.dst found.src found.parameters.now)
+        (λ fault. first_of (rule_4 Cr (layout_in parts.now) ∷ rule_5 Cr (layout_in parts.now) ∷ []) ≡ Some fault) }
 {
     let &[
         dst_high,
@@ -194,11 +199,11 @@ fn connection<'a>(parts: &Parts<'a>) -> Result<(u16, u16, &'a [u8]), TpFault>
     if class != 0x20 {
         return Err(TpFault::Class(class));
     }
-    Ok((
-        number(dst_high, dst_low),
-        number(src_high, src_low),
+    Ok(ConnectionFields {
+        dst: number(dst_high, dst_low),
+        src: number(src_high, src_low),
         parameters,
-    ))
+    })
 }
 
 fn number(high: u8, low: u8) -> u16

@@ -1,10 +1,10 @@
 ghost use Rattle.std.specs.Prelude.{◌≤◌, length};
-ghost use Rattle.x224_tpdu.specs.Spelling.{seen};
-ghost use Rattle.x224_tpdu.specs.Writing.{IsWritable, written};
+ghost use Rattle.x224_tpdu.specs.Spelling.{pdu_of};
+ghost use Rattle.x224_tpdu.specs.Writing.{IsWritable, written_octets};
 
 use crate::{TpFault, Tpdu, read, write_into};
 use er_base::{NoMemory, Room, octets_of};
-use std::alloc::{AllocError, Global};
+use std::alloc::Global;
 use std::process::Abort;
 use std::test::Fail;
 
@@ -97,7 +97,7 @@ fn er(dst: u16, cause: u8) -> Answer<'static> {
 fn same_answers(rt: &impl Abort, alloc: Global, rows: &[(&str, Answer)]) -> Result<(), Fail> {
     for (word, wanted) in rows {
         let mut octets = Vec::new(alloc);
-        octets_of(alloc, word.as_bytes(), &mut octets)?;
+        octets_of(word.as_bytes(), &mut octets)?;
         assert_eq!(rt; read(&octets), *wanted, "{word}");
     }
     Ok(())
@@ -266,7 +266,7 @@ fn tests_values_and_their_order(rt: HostRuntime) -> Result<(), Fail> {
 }
 
 // A TPDU of these first octets and of so many octets behind them.
-fn with_user(alloc: Global, first: &[u8], count: usize) -> Result<Vec<u8>, AllocError> {
+fn with_user(alloc: Global, first: &[u8], count: usize) -> Result<Vec<u8>, NoMemory> {
     let mut octets = Vec::from_slice(alloc, first)?;
     for _ in 0..count {
         octets.push(0x41)?;
@@ -306,8 +306,8 @@ fn bounds_the_header(rt: HostRuntime) -> Result<(), Fail> {
 }
 
 fn spelling_of(alloc: Global, tpdu: &Tpdu) -> Result<Room, NoMemory>
-    requires value { IsWritable (seen tpdu.now) }
-    requires room { length (written (seen tpdu.now)) ≤ 16 }
+    requires value { IsWritable (pdu_of tpdu.now) }
+    requires room { length (written_octets (pdu_of tpdu.now)) ≤ 16 }
 {
     let mut out = Room::with_capacity(alloc, 16)?;
     write_into(tpdu, &mut out);

@@ -1,19 +1,19 @@
-ghost use Rattle.std.specs.Prelude.{◌≡◌, ◌+◌, ◌≤◌, ◌++◌, [], ◌∷◌, length};
+ghost use Rattle.std.specs.Prelude.{◌≡◌, ◌++◌, [], ◌∷◌, length};
 ghost use Rattle.er_base.specs.Octets.{two};
-ghost use Rattle.x224_tpdu.specs.Spelling.{seen};
-ghost use Rattle.x224_tpdu.specs.Writing.{IsSize, IsWritable, size_code, written};
+ghost use Rattle.er_base.specs.Stored.{HasRoom, Appends};
+ghost use Rattle.x224_tpdu.specs.Spelling.{pdu_of};
+ghost use Rattle.x224_tpdu.specs.Writing.{IsSize, IsWritable, size_code, written_octets};
 
 use crate::parameters::SIZE;
 use crate::tpdu::Tpdu;
-use er_base::Room;
+use er_base::{Room, two_of};
 
 /// Appends the spelling of a TPDU that isn't ER: CR and CC with the TPDU size as their one parameter,
 /// and the others without parameters. [`crate::read`] gives the same TPDU back.
 pub fn write_into(tpdu: &Tpdu, out: &mut Room)
-    requires value { IsWritable (seen tpdu.now) }
-    requires room { length out.old.items + length (written (seen tpdu.now)) ≤ out.old.capacity }
-    ensures items { out.new.items ≡ out.old.items ++ written (seen tpdu.now) }
-    ensures capacity { out.new.capacity ≡ out.old.capacity }
+    requires value { IsWritable (pdu_of tpdu.now) }
+    requires room { HasRoom out.old (length (written_octets (pdu_of tpdu.now))) }
+    ensures { Appends out.old out.new (written_octets (pdu_of tpdu.now)) }
 {
     match *tpdu {
         Tpdu::Cr {
@@ -42,14 +42,14 @@ pub fn write_into(tpdu: &Tpdu, out: &mut Room)
             reason,
             user,
         } => {
-            let [dst_high, dst_low] = octets_of(dst);
-            let [src_high, src_low] = octets_of(src);
+            let [dst_high, dst_low] = two_of(dst);
+            let [src_high, src_low] = two_of(src);
             out.put(&[6, 0x80, dst_high, dst_low, src_high, src_low, reason]);
             out.put(user);
         }
         Tpdu::Dc { dst, src } => {
-            let [dst_high, dst_low] = octets_of(dst);
-            let [src_high, src_low] = octets_of(src);
+            let [dst_high, dst_low] = two_of(dst);
+            let [src_high, src_low] = two_of(src);
             out.put(&[5, 0xC0, dst_high, dst_low, src_high, src_low]);
         }
         Tpdu::Dt {
@@ -58,7 +58,7 @@ pub fn write_into(tpdu: &Tpdu, out: &mut Room)
             number,
             user,
         } => {
-            let [dst_high, dst_low] = octets_of(dst);
+            let [dst_high, dst_low] = two_of(dst);
             let octet = if last { 0x80 + number } else { number };
             out.put(&[4, 0xF0, dst_high, dst_low, octet]);
             out.put(user);
@@ -68,7 +68,7 @@ pub fn write_into(tpdu: &Tpdu, out: &mut Room)
             dst,
             number,
         } => {
-            let [dst_high, dst_low] = octets_of(dst);
+            let [dst_high, dst_low] = two_of(dst);
             out.put(&[4, 0x60 + credit, dst_high, dst_low, number]);
         }
         Tpdu::Er { .. } => unreachable!(),
@@ -78,22 +78,13 @@ pub fn write_into(tpdu: &Tpdu, out: &mut Room)
 // The header of CR or CC, whose code this is.
 fn put_connection(code: u8, dst: u16, src: u16, size: u16, out: &mut Room)
     requires size { IsSize size }
-    requires room { length out.old.items + 10 ≤ out.old.capacity }
-    ensures items { out.new.items ≡ out.old.items
-        ++ (9 ∷ code ∷ two dst ++ two src ++ 0x20 ∷ 0xC0 ∷ 1 ∷ size_code size ∷ []) }
-    ensures capacity { out.new.capacity ≡ out.old.capacity }
+    requires room { HasRoom out.old 10 }
+    ensures { Appends out.old out.new (9 ∷ code ∷ two dst ++ two src ++ 0x20 ∷ 0xC0 ∷ 1 ∷ size_code size ∷ []) }
 {
-    let [dst_high, dst_low] = octets_of(dst);
-    let [src_high, src_low] = octets_of(src);
+    let [dst_high, dst_low] = two_of(dst);
+    let [src_high, src_low] = two_of(src);
     out.put(&[9, code, dst_high, dst_low, src_high, src_low]);
     out.put(&[0x20, SIZE, 1, octet_of(size)]);
-}
-
-// The two octets of a number, the most significant one first.
-fn octets_of(number: u16) -> [u8; 2]
-    ensures { result ≡ two number }
-{
-    [(number / 256) as u8, (number % 256) as u8]
 }
 
 // The octet that names a TPDU size.

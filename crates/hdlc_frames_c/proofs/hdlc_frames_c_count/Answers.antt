@@ -23,7 +23,7 @@ loop-at-preserved c =
     let some : 0 < length (take (end - at) (drop at stream)) = omega (arith, c.min-end.ensures, c.max-size.ensures) in
     let count = c.frames_in-count.ensures in
     let few = few_on found c.loop-at.count at used inv.few (call.moves some) in
-    let kept = kept_on stream at end used c.loop-at.deframer c.feed.follows.lender-at-none inv.kept call.used within c.feed.follows.holds-at-none in
+    let kept = kept_on c.goes_on.ensures stream at end used c.loop-at.deframer c.feed.follows.lender-at-none inv.kept call.used within c.feed.follows.holds-at-none in
     let counted = count_on stream at end used c.loop-at.deframer found c.loop-at.count inv.kept call.frames within inv.count in
     record {
       within = omega arith;

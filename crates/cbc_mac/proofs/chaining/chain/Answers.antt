@@ -1,44 +1,38 @@
--- What is kept is IP of the chaining value behind the blocks so far.
-use Rattle.std.proofs.Common.{◌≡◌, ℕ, ◌+◌, ◌*◌, ◌/◌, List, [], length, take, sym, ◌∙◌, arith}
+-- The value is that of the blocks so far.
+use Rattle.std.proofs.Common.{◌≡◌, ℕ, ◌+◌, ◌*◌, ◌/◌, ◌<◌, ◌^◌, List, [], length, take, drop, get_or, refl, sym, ◌∙◌, arith}
 use Rattle.std.specs.Prelude.{slice_index_or}
-use Rattle.std.proofs.lemmas.List.{take_all, take_rest}
-use Rattle.bit_lists.specs.Bits.{bits, pick}
-use Rattle.des_block.specs.Tables.{initial_permutation}
-use Rattle.cbc_mac.specs.Mac.{padded, blocks, chained_under}
-use Rattle.cbc_mac.proofs.Blocks.{length-blocks, block_is, whole_block_is}
-use Rattle.cbc_mac.proofs.Chains.{halves_init, halves_step, halves_end}
+use Rattle.std.specs.Int.{from_be_bytes, w64}
+use Rattle.std.proofs.lemmas.List.{length-take-le, length-drop, take_all}
+use Rattle.bit_lists.specs.Bits.{bits, xor}
+use Rattle.bit_lists.proofs.Widths.{bits-from_be_bytes}
+use Rattle.des_block.specs.Des.{des_encipher}
+use Rattle.cbc_mac.specs.Mac.{blocks, chained}
+use Rattle.cbc_mac.proofs.Blocks.{get_or-first_chunks, get_or-blocks, length-whole_blocks, octet-take, octet-drop}
+use Rattle.cbc_mac.proofs.Chains.{chained_none, chained_more}
 use Rattle.cbc_mac.proofs.chaining.chain.Goals as goal
-use Rattle.cbc_mac.proofs.chaining.chain.Goals.{then-text-ne0, else-text-ne0}
 
-pub loop-i-init : goal.loop-i-init
-loop-i-init c = halves_init c.args.schedule.now
+pub loop-block-init : goal.loop-block-init
+loop-block-init c = c.zero-value.ensures ∙ chained_none (bits 64 c.args.schedule.now.first) (blocks c.args.text.now)
 
-pub loop-i-preserved : goal.loop-i-preserved
-loop-i-preserved c =
+pub loop-block-preserved : goal.loop-block-preserved
+loop-block-preserved c =
     let text : List ℕ = c.args.text.now in
-    let i : ℕ = c.loop-i.i in
-    let read : bits 64 c.block_at.result ≡ slice_index_or (blocks (padded text)) i [] = c.block_at.ensures ∙ sym (whole_block_is text i (omega arith)) in
-    halves_step c.args.schedule.now (blocks (padded text)) i c.loop-i.halves c.block_at.result c.initial_permutation.result c.rounds-halves.result (omega (arith, length-blocks text)) c.loop-i.invariant read c.initial_permutation.ensures c.rounds-halves.ensures
+    let key : List ℕ = bits 64 c.args.schedule.now.first in
+    let i : ℕ = c.loop-block.block-index in
+    let within : i < length text / 8 = omega (arith, c.as_chunks.ensures.front_len) in
+    let octets : List ℕ = take 8 (drop (8 * i) text) in
+    let read : get_or c.as_chunks.result.0.now i [] ≡ octets = rw c.as_chunks.ensures.front (get_or-first_chunks (length text / 8) text i within) in
+    let size : length octets ≡ 8 = length-take-le 8 (drop (8 * i) text) (omega (arith, length-drop (8 * i) text)) in
+    let below : (k : ℕ) → get_or octets k 0 < 2 ^ 8 = octet-take (drop (8 * i) text) 8 (octet-drop text (8 * i) (λ k. omega (arith, c.type_inv.text k))) in
+    let word : c.from_be_bytes.result ≡ from_be_bytes w64 octets = rw read at c.from_be_bytes.ensures in
+    let block : bits 64 c.from_be_bytes.result ≡ slice_index_or (blocks text) i [] =
+    rw word (bits-from_be_bytes octets size (λ (k : ℕ) (lt : k < length octets). below k)) ∙ sym (get_or-blocks text i within) in
+    let more : chained key (take (i + 1) (blocks text)) ≡ des_encipher key (xor (chained key (take i (blocks text))) (slice_index_or (blocks text) i [])) =
+    chained_more key (blocks text) i (omega (arith, length-whole_blocks text)) in
+    rw (c.chain.ensures, c.first-first.ensures, more, c.loop-block.invariant, block) refl
 
 pub returns : goal.returns
 returns c =
-    let keys : List (List ℕ) = c.args.schedule.now in
     let text : List ℕ = c.args.text.now in
-    let xs : List (List ℕ) = blocks (padded text) in
-    let i : ℕ = c.loop-i.i in
-    let whole : i ≡ length text / 8 = omega arith in
-    let all : bits 64 c.if-text-ne0.halves ≡ pick initial_permutation (chained_under keys xs) =
-    elim c.if-text-ne0.branch [
-      | then-text-ne0 w ↦
-          let start : 8 * (length text / 8) ≡ 8 * i = omega arith in
-          let rest = rw take_rest at w.padded_block.ensures in
-          let here = rw start at rest in
-          let read : bits 64 w.padded_block.result ≡ slice_index_or xs i [] = here ∙ sym (block_is text i (omega arith)) in
-          let step = halves_step keys xs i c.loop-i.halves w.padded_block.result w.initial_permutation-then-text-ne0.result w.rounds-halves-then-text-ne0.result (omega (arith, length-blocks text)) c.loop-i.invariant read w.initial_permutation-then-text-ne0.ensures w.rounds-halves-then-text-ne0.ensures in
-          let over : take (i + 1) xs ≡ xs = take_all (i + 1) xs (omega (arith, length-blocks text)) in
-          rw (w.halves-is, ← over) step
-      | else-text-ne0 w ↦
-          let over : take i xs ≡ xs = take_all i xs (omega (arith, length-blocks text)) in
-          rw (w.halves-is, ← over) c.loop-i.invariant
-    ] in
-    halves_end keys xs c.if-text-ne0.halves c.final_permutation.result all c.final_permutation.ensures
+    let all : take c.loop-block.block-index (blocks text) ≡ blocks text = take_all c.loop-block.block-index (blocks text) (omega (arith, length-whole_blocks text, c.as_chunks.ensures.front_len)) in
+    rw (← all) (c.block.ensures ∙ c.loop-block.invariant)

@@ -1,8 +1,7 @@
 use Rattle.std.proofs.Common.{◌≡◌, take}
-use Rattle.bit_lists.specs.Bits.{bits, pick}
-use Rattle.des_block.specs.Tables.{initial_permutation}
-use Rattle.cbc_mac.specs.Mac.{padded, blocks, chained_under}
+use Rattle.bit_lists.specs.Bits.{bits}
+use Rattle.cbc_mac.specs.Mac.{blocks, chained}
 use Rattle.cbc_mac.proofs.chaining.chain.Given as goal
 
-abbrev pub invariant-loop-i : goal.invariant-loop-i
-invariant-loop-i l = bits 64 l.halves ≡ pick initial_permutation (chained_under l.schedule (take l.i (blocks (padded l.text))))
+abbrev pub invariant-loop-block : goal.invariant-loop-block
+invariant-loop-block l = l.value ≡ chained (bits 64 l.schedule.first) (take l.block-index (blocks l.text))

@@ -8,12 +8,12 @@ use Rattle.cbc_mac.proofs.chaining.padded_block.Goals as goal
 
 pub returns : goal.returns
 returns c =
-    let rest : List ℕ = c.args.rest.now in
+    let rest : List ℕ = c.args.octets.now in
     let octets : List ℕ = take 8 (rest ++ replicate 8 0) in
     let made : List ℕ = c.copy_from_slice.new.self ++ drop (length rest) (replicate 8 0) in
     let copied : c.copy_from_slice.new.self ≡ rest = c.copy_from_slice.ensures.after in
     let read : made ≡ octets = rw copied (front_is rest c.requires) in
-    let below : (i : ℕ) → get_or octets i 0 < 2 ^ 8 = octet-front rest (λ k. omega (arith, c.type_inv.rest k)) in
+    let below : (i : ℕ) → get_or octets i 0 < 2 ^ 8 = octet-front rest (λ k. omega (arith, c.type_inv.octets k)) in
     let word : bits 64 c.from_be_bytes.result ≡ flat_map (bits 8) made =
     rw c.from_be_bytes.ensures
     (bits-from_be_bytes made (rw read (length-front rest))

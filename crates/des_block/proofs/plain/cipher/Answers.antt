@@ -6,7 +6,7 @@ use Rattle.std.proofs.lemmas.List.{drop_more, drop_all}
 use Rattle.bit_lists.specs.Bits.{bits, pick}
 use Rattle.bit_lists.proofs.Xors.{bits-xor}
 use Rattle.bit_lists.proofs.Widths.{bits_or}
-use Rattle.des_block.specs.Tables.{initial_permutation, final_permutation}
+use Rattle.des_block.specs.Tables.{initial_permutation, inverse_initial_permutation}
 use Rattle.des_block.specs.Des.{cipher, rounds, cipher_function}
 use Rattle.des_block.proofs.PlainSteps.{first_half, second_half}
 use Rattle.des_block.proofs.plain.cipher.Goals as goal
@@ -38,6 +38,6 @@ returns c =
     let over : drop c.loop-key.key-index keys ≡ [] = drop_all c.loop-key.key-index keys (omega arith) in
     let held = rw over at c.loop-key.invariant.value in
     let permuted : bits 64 start ≡ pick initial_permutation (bits 64 c.args.block) = c.select-permuted.ensures.value in
-    let final : bits 64 c.select.result ≡ pick final_permutation (bits 64 (bit_or (right * 2 ^ 32 % 2 ^ 64) left)) = c.select.ensures.value in
+    let final : bits 64 c.select.result ≡ pick inverse_initial_permutation (bits 64 (bit_or (right * 2 ^ 32 % 2 ^ 64) left)) = c.select.ensures.value in
     let joined : bits 64 (bit_or (right * 2 ^ 32 % 2 ^ 64) left) ≡ bits 32 right ++ bits 32 left = bits_or 64 32 32 right left (omega arith) c.loop-key.invariant.small_right c.loop-key.invariant.small_left in
     rw (final, joined, held, first_half start, second_half start, permuted) refl

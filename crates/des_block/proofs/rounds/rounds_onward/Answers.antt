@@ -4,7 +4,7 @@ use Rattle.std.proofs.lemmas.List.{drop_more, drop_all}
 use Rattle.bit_lists.specs.Bits.{bits}
 use Rattle.bit_lists.proofs.Xors.{bits-xor}
 use Rattle.des_block.specs.Des.{rounds, cipher_function}
-use Rattle.des_block.specs.Schedule.{kept_key}
+use Rattle.des_block.specs.Representation.{kept_key}
 use Rattle.des_block.proofs.PlainSteps.{first_half, second_half}
 use Rattle.des_block.proofs.rounds.rounds_onward.Goals as goal
 

@@ -1,7 +1,7 @@
 use Rattle.std.proofs.Common.{◌≡◌, map, drop}
 use Rattle.bit_lists.specs.Bits.{bits}
 use Rattle.des_block.specs.Des.{rounds}
-use Rattle.des_block.specs.Schedule.{kept_key}
+use Rattle.des_block.specs.Representation.{kept_key}
 use Rattle.des_block.proofs.rounds.rounds_onward.Given as goal
 
 abbrev pub invariant-loop-key : goal.invariant-loop-key

@@ -1,8 +1,12 @@
 -- One step more, a step that breaks off, and the end, by the lemmas on runs of steps.
-use Rattle.std.proofs.Common.{◌≡◌, ◌<◌, ◌≤◌, List, ℕ, length, get_or, slice_get, Some, refl, subst}
+use Rattle.std.proofs.Common.{◌≡◌, ◌<◌, ◌≤◌, List, ℕ, length, get_or, slice_get, Some, refl, subst, sym, ap}
 use Rattle.std.proofs.lemmas.Option.{slice_get_read}
+use Rattle.er_scenario.specs.declared.grammar.Grammar.TheVariants.{Running}
+use Rattle.er_scenario.specs.declared.level.Level.{Level}
 use Rattle.er_scenario.specs.declared.numbered.Numbered.{Numbered}
-use Rattle.er_program.proofs.DrillSteps.{in_range_at}
+use Rattle.drill_model.specs.Steps.{IsOfLevel}
+use Rattle.drill_model.specs.Worlds.{Plan, plan_of}
+use Rattle.er_program.proofs.DrillSteps.{of_level, etcs_numbers, readable_at}
 use Rattle.er_program.proofs.DrillRuns.{went_more, went_sink, went_halt, went_end}
 use Rattle.er_program.proofs.drill.drill.Goals as goal
 
@@ -10,32 +14,40 @@ use Rattle.er_program.proofs.drill.drill.Goals as goal
 item_at : (xs ys : List Numbered) (i : ℕ) (x : Numbered) → xs ≡ ys → i < length xs → x ≡ get_or xs i x → slice_get ys i ≡ Some x
 item_at xs ys i x same inside is = subst (λ (zs : List Numbered). slice_get zs i ≡ Some x) same (slice_get_read xs (length xs) i x refl inside is)
 
-pub step_once-requires-clause-range : goal.step_once-requires-clause-range
-step_once-requires-clause-range g c =
-    in_range_at c.args.scenario.now.steps c.loop-numbered.numbered-index c.numbered-item.result c.requires.steps
-    (item_at _ _ _ _ c.as_slice-numbered-items.ensures c.loop-numbered-test.true c.numbered-item.is)
+pub step_once-requires-clause-level : goal.step_once-requires-clause-level
+step_once-requires-clause-level g c =
+    let readable = readable_at Running c.args.scenario.now.level c.args.scenario.now.steps c.loop-numbered.numbered-index c.numbered-item.result c.requires.steps
+    (item_at _ _ _ _ c.as_slice-numbered-items.ensures c.loop-numbered-test.true c.numbered-item.is) in
+    subst (λ (l : Level). IsOfLevel l c.numbered-item.result.step) (sym (ap (λ (p : Plan). p.level) c.loop-numbered.invariant.plan_is))
+    (of_level c.args.scenario.now.level c.numbered-item.result.step readable.of_level)
 
-pub returns-in-Err-Sink : goal.returns-in-Err-Sink
-returns-in-Err-Sink g c =
-    went_sink _ _ c.numbered-item.result _ _ _ _ _ _ _ c.loop-numbered.invariant
-    (item_at _ _ _ _ c.as_slice-numbered-items.ensures c.loop-numbered-test.true c.numbered-item.is)
-    (rw c.in-Err-Sink.field-0-is at c.in-Err-Sink.ensures)
+pub step_once-requires-clause-numbers : goal.step_once-requires-clause-numbers
+step_once-requires-clause-numbers g c =
+    let readable = readable_at Running c.args.scenario.now.level c.args.scenario.now.steps c.loop-numbered.numbered-index c.numbered-item.result c.requires.steps
+    (item_at _ _ _ _ c.as_slice-numbered-items.ensures c.loop-numbered-test.true c.numbered-item.is) in
+    etcs_numbers c.numbered-item.result.step readable.range
 
-pub returns-in-Err-Fault : goal.returns-in-Err-Fault
-returns-in-Err-Fault g c =
+pub returns-in-Err-Sink-clause-drills : goal.returns-in-Err-Sink-clause-drills
+returns-in-Err-Sink-clause-drills g c =
+    went_sink c.runs_grow.ensures.text _ _ c.numbered-item.result _ _ _ _ _ _ _ c.loop-numbered.invariant
+    (item_at _ _ _ _ c.as_slice-numbered-items.ensures c.loop-numbered-test.true c.numbered-item.is)
+    (rw c.in-Err-Sink.field-0-is at (c.in-Err-Sink.ensures.drills (plan_of c.args.scenario.now) _ c.loop-numbered.invariant.ran))
+
+pub returns-in-Err-Fault-clause-drills : goal.returns-in-Err-Fault-clause-drills
+returns-in-Err-Fault-clause-drills g c =
     went_halt _ _ c.numbered-item.result _ _ _ _ _ _ _ _ _ _ _ c.loop-numbered.invariant
     (item_at _ _ _ _ c.as_slice-numbered-items.ensures c.loop-numbered-test.true c.numbered-item.is)
-    (rw c.in-Err-Fault.field-0-is at c.in-Err-Fault.ensures)
-    (rw c.in-Err-Fault.field-0-is at c.not_done.ensures)
+    (rw c.in-Err-Fault.field-0-is at (c.in-Err-Fault.ensures.drills (plan_of c.args.scenario.now) _ c.loop-numbered.invariant.ran))
+    (rw c.in-Err-Fault.field-0-is at c.not_done.ensures.gives)
 
 pub loop-numbered-preserved : goal.loop-numbered-preserved
 loop-numbered-preserved g c =
-    went_more _ _ c.numbered-item.result _ _ _ _ _ _ _ _ c.loop-numbered.invariant
+    went_more c.runs_grow.ensures.text _ _ c.numbered-item.result _ _ _ _ _ _ _ _ c.loop-numbered.invariant
     (item_at _ _ _ _ c.as_slice-numbered-items.ensures c.loop-numbered-test.true c.numbered-item.is)
-    c.in-Ok.ensures
+    (c.in-Ok.ensures.drills (plan_of c.args.scenario.now) _ c.loop-numbered.invariant.ran)
 
-pub returns : goal.returns
-returns g c =
+pub returns-clause-drills : goal.returns-clause-drills
+returns-clause-drills g c =
     went_end _ _ _ _ _ _ _ _ _ _ c.loop-numbered.invariant
     (subst (λ (xs : List Numbered). length xs ≤ c.loop-numbered.numbered-index) c.as_slice-numbered-items.ensures c.loop-numbered-test.false)
-    c.closed.ensures
+    (c.closed.ensures.gives (plan_of c.args.scenario.now) _ c.loop-numbered.invariant.ran)

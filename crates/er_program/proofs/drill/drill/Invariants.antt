@@ -1,5 +1,5 @@
 -- So many steps were done, and their lines were written.
-use Rattle.er_program.specs.Drills.{Went}
+use Rattle.er_program.specs.Writing.{Went}
 use Rattle.er_program.proofs.drill.drill.Given as goal
 
 abbrev pub invariant-loop-numbered : goal.invariant-loop-numbered

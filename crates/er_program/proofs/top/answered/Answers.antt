@@ -3,5 +3,5 @@ use Rattle.std.proofs.Common.{sym}
 use Rattle.er_program.proofs.RunEndings.{ends_unfit}
 use Rattle.er_program.proofs.top.answered.Goals as goal
 
-pub returns-in-None-clause-ends : goal.returns-in-None-clause-ends
-returns-in-None-clause-ends g c = rw (sym c.in-None.ensures) (ends_unfit _ _ _ _ _ _ _ c.misused.result c.misused.ensures)
+pub returns-in-Misused-clause-ends : goal.returns-in-Misused-clause-ends
+returns-in-Misused-clause-ends g c = rw (sym c.in-Misused.ensures) (ends_unfit _ _ _ _ _ _ _ c.misused.result c.misused.ensures.gives)

@@ -1,20 +1,21 @@
 -- What was chosen and done so far and what is left give what all lines give.
 use Rattle.std.proofs.Common.{◌≡◌, ◌+◌, ◌≤◌, length, false}
+use Rattle.er_base.specs.Lines.{lines_of, rows_of}
 use Rattle.er_settings.specs.Ranges.{AllAllowed}
-use Rattle.er_scenario.specs.Lines.{lines_of, rows_of}
-use Rattle.er_scenario.specs.Files.{all_said, scenario_from}
-use Rattle.er_scenario.specs.Printed.{AreInRange}
-use Rattle.er_scenario.proofs.BodyLines.{finished}
+use Rattle.er_scenario.specs.Choices.{default_choices}
+use Rattle.er_scenario.specs.Files.{body_of}
+use Rattle.er_scenario.specs.Texts.{AreReadable}
+use Rattle.er_scenario.proofs.BodyLines.{behind}
 use Rattle.er_scenario.proofs.reader.read_body.Given as goal
 
-abbrev pub invariant-loop-steps : goal.invariant-loop-steps
-invariant-loop-steps l = record {
-  said : finished l.level l.choices l.steps.items (all_said l.is_late (rows_of l.number (lines_of l.rest)))
-      ≡ scenario_from l.level (all_said false (rows_of l.header (lines_of l.text)));
+abbrev pub invariant-loop-row : goal.invariant-loop-row
+invariant-loop-row l = record {
+  said : behind l.steps.items (body_of l.grammar l.level l.is_late l.choices (rows_of l.number (lines_of l.rest)))
+      ≡ body_of l.grammar l.level false default_choices (rows_of l.header (lines_of l.text));
   allowed : AllAllowed l.choices.settings;
-  range : AreInRange l.steps.items;
+  readable : AreReadable l.grammar l.level l.steps.items;
   room : l.number + length l.rest ≤ 16777216;
 }
 
-abbrev pub decreases-loop-steps : goal.decreases-loop-steps
-decreases-loop-steps l = length l.rest
+abbrev pub decreases-loop-row : goal.decreases-loop-row
+decreases-loop-row l = length l.rest

@@ -1,5 +1,5 @@
-use Rattle.hdlc_frames.proofs.SpellingLaws as spellings
+use Rattle.hdlc_frames.proofs.SpellingLaws as written
 use Rattle.hdlc_frames.proofs.laws.frame_alone.Goals as goal
 
 pub returns : goal.returns
-returns c = spellings.frame_alone
+returns c = written.frame_alone c.content_reads_back.ensures

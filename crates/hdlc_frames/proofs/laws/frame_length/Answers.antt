@@ -1,5 +1,5 @@
-use Rattle.hdlc_frames.proofs.WritingLaws as writing
+use Rattle.hdlc_frames.proofs.WritingLaws as written
 use Rattle.hdlc_frames.proofs.laws.frame_length.Goals as goal
 
 pub returns : goal.returns
-returns c = writing.spelling_room
+returns c = written.spelling_room c.content_reads_back.ensures

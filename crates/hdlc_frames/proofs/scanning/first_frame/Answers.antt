@@ -1,26 +1,26 @@
-use Rattle.std.proofs.Common.{arith}
-use Rattle.hdlc_frames.proofs.FirstCloseLaws.{Before, at_start, after_flag_octet, after_other_octet, at_closing_flag}
+use Rattle.std.proofs.Common.{◌≡◌, arith, refl, zero}
+use Rattle.std.proofs.lemmas.Bool.{eqb-true}
+use Rattle.hdlc_frames.proofs.FirstCloseLaws.{no_frame, behind_first, flag_found_again, closing_flag_found, no_flag_found}
 use Rattle.hdlc_frames.proofs.scanning.first_frame.Goals as goal
-use Rattle.hdlc_frames.proofs.scanning.first_frame.Goals.{then-octet-eq-FLAG+else-filled, else-octet-eq-FLAG}
 
-pub loop-i-init : goal.loop-i-init
-loop-i-init c = let h = at_start c.args.octets.now in record { begun = h.begun; filled = h.filled; none = h.none }
+pub returns-in_err-at : goal.returns-in_err-at
+returns-in_err-at c = rw c.from_residual.ensures (no_frame c.args.octets.now c.in_err-at.ensures)
 
-pub returns-then-filled : goal.returns-then-filled
-returns-then-filled c =
-    let i = c.loop-i.invariant in
-    at_closing_flag c.loop-i.begun c.loop-i.filled c.args.octets.now c.loop-i.i (omega arith) c.if-octet-eq-FLAG.true c.if-filled.true
-    (record { begun = i.begun; filled = i.filled; none = i.none })
+pub loop-count-init : goal.loop-count-init
+loop-count-init c =
+    let found = c.in_ok-at.ensures in
+    behind_first c.args.octets.now c.in_ok-at.field-0 found.0.high found.0.before (eqb-true _ 0x7e found.1)
 
-pub loop-i-preserved : goal.loop-i-preserved
-loop-i-preserved c =
-    let i = c.loop-i.invariant in
-    let before : Before c.loop-i.begun c.loop-i.filled c.args.octets.now c.loop-i.i = record { begun = i.begun; filled = i.filled; none = i.none } in
-    elim c.if-octet-eq-FLAG.branch [
-      | then-octet-eq-FLAG+else-filled w ↦
-          let h = after_flag_octet c.loop-i.begun c.loop-i.filled c.args.octets.now c.loop-i.i (omega arith) w.if-octet-eq-FLAG.true w.if-filled.false before in
-          rw (w.begun-is, w.filled-is) (record { begun = h.begun; filled = h.filled; none = h.none })
-      | else-octet-eq-FLAG w ↦
-          let h = after_other_octet c.loop-i.begun c.loop-i.filled c.args.octets.now c.loop-i.i (omega arith) w.if-octet-eq-FLAG.false before in
-          rw (w.begun-is, w.filled-is) (record { begun = h.begun; filled = h.filled; none = h.none })
-    ]
+pub returns-then-count-gt0 : goal.returns-then-count-gt0
+returns-then-count-gt0 c =
+    let found = c.in-Some.ensures in
+    closing_flag_found c.args.octets.now _ c.loop-count.at c.in-Some.count refl c.loop-count.invariant c.if-count-gt0.true found.0.high found.0.before (eqb-true _ 0x7e found.1)
+
+pub loop-count-preserved : goal.loop-count-preserved
+loop-count-preserved c =
+    let found = c.in-Some.ensures in
+    let none : c.in-Some.count ≡ zero = omega (arith, c.if-count-gt0.false) in
+    flag_found_again c.args.octets.now _ c.loop-count.at c.in-Some.count refl c.loop-count.invariant none found.0.high (eqb-true _ 0x7e found.1)
+
+pub returns : goal.returns
+returns c = no_flag_found c.args.octets.now _ c.loop-count.at refl c.loop-count.invariant c.in_default.ensures

@@ -1,4 +1,4 @@
-use Rattle.safety_automaton.proofs.Verified.{accepts_verified, verified_accepts}
+use Rattle.safety_automaton.proofs.Messages.{accepts_verified, verified_accepts}
 use Rattle.safety_automaton.proofs.laws.accepts_verified.Goals as goal
 
 pub returns : goal.returns

@@ -9,8 +9,8 @@ use Rattle.des_block.proofs.key_schedule.KeySchedule.encipher.Goals as goal
 pub returns : goal.returns
 unfolding cipher
 returns c =
-    let value : bits 64 c.final_permutation.result ≡ cipher c.args.self.now (bits 64 c.args.block) =
-    rw (c.final_permutation.ensures, c.rounds_onward.ensures, c.initial_permutation.ensures, c.self.view_is) refl in
+    let value : bits 64 c.inverse_initial_permutation.result ≡ cipher c.args.self.now (bits 64 c.args.block) =
+    rw (c.inverse_initial_permutation.ensures, c.rounds.ensures, c.initial_permutation.ensures) refl in
     record {
       value = value;
       undone = rw value (cipher_undone c.args.self.now (bits 64 c.args.block) (length-bits 64 c.args.block));

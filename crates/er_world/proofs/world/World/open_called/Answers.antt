@@ -1,8 +1,32 @@
-use Rattle.er_world.proofs.WorldRows.{opened_with, goes_called, none_from_map}
+use Rattle.std.proofs.Common.{◌≡◌, refl, sym, ap, ◌∙◌, subst, Option, Some}
+use Rattle.safe_pair.specs.Openings.{OfKeys}
+use Rattle.drill_model.specs.Links.{LinkOpening, OfPair}
+use Rattle.drill_model.specs.Worlds.{link_opening}
+use Rattle.er_world.proofs.WorldRows.{OpenDone, opens_does, opens_nothing}
 use Rattle.er_world.proofs.world.World.open_called.Goals as goal
 
-pub returns-clause-does : goal.returns-clause-does
-returns-clause-does c =
-    opened_with c.args.self.now c.open.new.self c.args.number _ c.start.new.self _ _ c.open.ensures.placed c.open.ensures.inside
-    (none_from_map (λ l. l.now) c.link.result _ c.if-is_some.ensures c.link.ensures)
-    (goes_called c.args.e.safety c.args.r.safety c.args.keys c.new-link.result c.start.new.self c.place.result _ _ _ c.new-link.ensures c.place.ensures c.in_ok-start.ensures)
+pub returns-in-Link-clause-does : goal.returns-in-Link-clause-does
+returns-in-Link-clause-does c =
+    opens_nothing (λ l. l.now) c.link.result (record { links = record { marks = c.world_grows.ensures.marks; facts = c.world_grows.ensures.facts; lines = c.world_grows.ensures.lines }; history = c.world_grows.ensures.history; own = c.world_grows.ensures.own; other = c.world_grows.ensures.other; marks = c.world_grows.ensures.world; text = c.world_grows.ensures.text }) c.args.self.now c.args.number _ c.args.out.now.items
+    c.if-is_some.ensures c.link.ensures (sym c.if-not-is_link.ensures)
+    (ap (λ w. link_opening w.plan.level c.args.engine c.args.rbc c.args.ke c.args.kr c.args.ra c.args.rb) (sym c.self.view_is)
+    ∙ ap (λ l. link_opening l c.args.engine c.args.rbc c.args.ke c.args.kr c.args.ra c.args.rb) c.in-Link.is)
+
+pub returns-in-Full-clause-does : goal.returns-in-Full-clause-does
+returns-in-Full-clause-does c =
+    opens_nothing (λ l. l.now) c.link.result (record { links = record { marks = c.world_grows.ensures.marks; facts = c.world_grows.ensures.facts; lines = c.world_grows.ensures.lines }; history = c.world_grows.ensures.history; own = c.world_grows.ensures.own; other = c.world_grows.ensures.other; marks = c.world_grows.ensures.world; text = c.world_grows.ensures.text }) c.args.self.now c.args.number _ c.args.out.now.items
+    c.if-is_some.ensures c.link.ensures (sym c.if-not-is_link.ensures)
+    (ap (λ w. link_opening w.plan.level c.args.engine c.args.rbc c.args.ke c.args.kr c.args.ra c.args.rb) (sym c.self.view_is)
+    ∙ ap (λ l. link_opening l c.args.engine c.args.rbc c.args.ke c.args.kr c.args.ra c.args.rb) c.in-Full.is)
+
+pub returns-in_ok-link-in-Safe-clause-does : goal.returns-in_ok-link-in-Safe-clause-does
+returns-in_ok-link-in-Safe-clause-does c =
+    let level_is : link_opening c.args.self.now.plan.level c.args.engine c.args.rbc c.args.ke c.args.kr c.args.ra c.args.rb
+    ≡ Some (OfPair (OfKeys c.args.engine c.args.rbc c.args.ke c.args.kr c.args.ra c.args.rb)) =
+    ap (λ w. link_opening w.plan.level c.args.engine c.args.rbc c.args.ke c.args.kr c.args.ra c.args.rb) (sym c.self.view_is)
+    ∙ ap (λ l. link_opening l c.args.engine c.args.rbc c.args.ke c.args.kr c.args.ra c.args.rb) c.in-Safe.is in
+    subst (λ (o : Option LinkOpening). OpenDone c.args.self.now.plan c.args.self.now c.args.number o c.open.new.self c.args.out.now.items c.called.new.out.items) (sym level_is)
+    (opens_does (λ l. l.now) c.link.result (record { links = record { marks = c.world_grows.ensures.marks; facts = c.world_grows.ensures.facts; lines = c.world_grows.ensures.lines }; history = c.world_grows.ensures.history; own = c.world_grows.ensures.own; other = c.world_grows.ensures.other; marks = c.world_grows.ensures.world; text = c.world_grows.ensures.text }) c.args.self.now c.open.new.self c.args.number
+    (OfPair (OfKeys c.args.engine c.args.rbc c.args.ke c.args.kr c.args.ra c.args.rb)) c.in_ok-link-in-Safe.link _ _
+    c.if-is_some.ensures c.link.ensures (sym c.if-not-is_link.ensures) c.open.ensures.placed c.open.ensures.inside
+    (λ moment at. (rw c.place.ensures at c.in_ok-link-in-Safe.ensures) refl c.args.self.now.plan.settings moment (ap (λ w. w.moment) c.self.view_is ∙ at)))

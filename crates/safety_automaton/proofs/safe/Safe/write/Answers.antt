@@ -1,9 +1,8 @@
 use Rattle.std.proofs.Common.{arith}
 use Rattle.sapdu.specs.Reading.{view}
-use Rattle.safety_automaton.proofs.Lengths.{spelling_length}
 use Rattle.safety_automaton.proofs.safe.Safe.write.Goals as goal
 
 pub write_into-requires-clause-room : goal.write_into-requires-clause-room
 write_into-requires-clause-room c =
-    let few = spelling_length (view c.args.pdu.now) c.flag.result c.requires.user in
+    let few = c.lengths_of_spellings.ensures.few (view c.args.pdu.now) c.flag.result c.requires.user in
     omega arith

@@ -1,9 +1,0 @@
-use Rattle.bit_lists.specs.Bits.{bits}
-use Rattle.des_block.proofs.KeyChoices.{chosen_c, chosen_d}
-use Rattle.des_block.proofs.key_words.chosen_halves.Goals as goal
-
-pub returns-clause-c : goal.returns-clause-c
-returns-clause-c c = chosen_c c.initial_permutation-rows.result (bits 64 c.args.key) c.initial_permutation-rows.type_inv c.initial_permutation-rows.ensures
-
-pub returns-clause-d : goal.returns-clause-d
-returns-clause-d c = chosen_d c.initial_permutation-rows.result (bits 64 c.args.key) c.initial_permutation-rows.type_inv c.initial_permutation-rows.ensures

@@ -1,0 +1,269 @@
+-- A link of level safe that is loss-free so far delivers; and a drain as long as its bound leaves nothing waiting.
+use Rattle.std.proofs.Common.{◌≡◌, ℕ, zero, suc, ◌^◌, ◌+◌, ◌≤◌, ◌<◌, nat_lt, if◌then◌else◌, true, false, Bool, List, [], ◌∷◌, ◌++◌, map, length, refl, sym, ap, ap₂, subst, ◌∙◌, append-nil, arith}
+use Rattle.std.specs.Prelude.{Option, Some, None}
+use Rattle.std.specs.List.{list_any, AllByRecursion}
+use Rattle.std.proofs.lemmas.Bool.{ltb-false, le-ltb}
+use Rattle.std.proofs.lemmas.List.Concat.{flat_map-append}
+use Rattle.er_base.specs.declared.side.Side.{Side}
+use Rattle.er_base.specs.declared.side.Side.TheVariants.{E, R}
+use Rattle.er_base.specs.Sides.{other}
+use Rattle.er_settings.specs.declared.settings.Settings.{Settings}
+use Rattle.er_scenario.specs.declared.level.Level.{Level}
+use Rattle.er_scenario.specs.declared.level.Level.TheVariants as level
+use Rattle.er_scenario.specs.declared.step.Step.{Step}
+use Rattle.er_scenario.specs.declared.step.Step.TheVariants as does
+use Rattle.des_block.specs.declared.triple_key.TripleKey.{TripleKey}
+use Rattle.safety_automaton.specs.Safety.{Safety, SafetyEvent, Received, DataRequest, SafetyOutcome, SentAu1, SentAu2, SentAu3, SentAr, ReceivedAr, AcceptedDt, SentDt, Refused, ReleasedLocally, ReleasedByPeer, NothingDone}
+use Rattle.safety_automaton.specs.Rules.{IsStep, StepsOnly}
+use Rattle.safe_pair.specs.Facts.{SideFact, MarkedFact, at_side, is_side, facts_of, marked}
+use Rattle.safe_pair.specs.Openings.{PairOpening, Agrees, key_for}
+use Rattle.safe_pair.specs.Talks.{answer}
+use Rattle.safe_pair.specs.Deliveries.{sent_of, accepted_of, Flow, under_way, delivered, Flows, Delivers, FitsOpening, set_up_sapdus, IsComplete, HasFlowed, FlowsDeliver}
+use Rattle.safe_pair.specs.Deliveries as pair
+use Rattle.drill_model.specs.Outcomes.{Occurrence}
+use Rattle.drill_model.specs.Links.{Link, LinkOpening, OfPair, waiting_of, Pass, pass, link_step}
+use Rattle.drill_model.specs.Steps.{FitsFields, AllFit}
+use Rattle.drill_model.specs.Worlds.{Plan, fixed_opening, link_opening, wire_opening, link_at, history_on, next_of, next_side, overfull_side, Drain, drain, drain_on, world_run}
+use Rattle.drill_model.specs.Kinds.{sent_by, accepted_by, deliveries, IsLossFree, EndsAgree, bound}
+use Rattle.drill_model.specs.Headline.{IsConnectedEnd, HasAll, IsEmpty, IsDelivered, DeliversAlways}
+use Rattle.drill_model.specs.Headline as claim
+use Rattle.drill_model.specs.Growth.{FactsGrow, HistoryGrows, HistoryOfOwn, HistoryOfOther}
+use Rattle.drill_laws.proofs.Worlds.{OpensFit, StepFits, AtPlace, world_lives}
+use Rattle.drill_laws.proofs.Viewing.{IsView, IsFlow, pass_view, FitsLinkStep, FitsLinkOpening, MayFlow, flow_keeps, sent_by_facts, accepted_by_facts}
+
+-- ---- a delivery sends no message
+
+module _ (only : StepsOnly) where
+  no_send : (s side : Side) (event : SafetyEvent) (octets : List ℕ) → event ≡ Received octets → (key_of : ℕ → ℕ → Option TripleKey) (side_of : Safety) (next : Safety)
+      (outcome : SafetyOutcome) → IsStep key_of side_of event next outcome → sent_of s (map (at_side side) (facts_of event outcome)) ≡ []
+  no_send s side event octets is key_of x next (SentAu1 o) row = refl
+  no_send E E event octets is key_of x next (SentAu2 session sealed o) row = refl
+  no_send E R event octets is key_of x next (SentAu2 session sealed o) row = refl
+  no_send R E event octets is key_of x next (SentAu2 session sealed o) row = refl
+  no_send R R event octets is key_of x next (SentAu2 session sealed o) row = refl
+  no_send E E event octets is key_of x next (SentAu3 session verified sealed o) row = refl
+  no_send E R event octets is key_of x next (SentAu3 session verified sealed o) row = refl
+  no_send R E event octets is key_of x next (SentAu3 session verified sealed o) row = refl
+  no_send R R event octets is key_of x next (SentAu3 session verified sealed o) row = refl
+  no_send E E event octets is key_of x next (SentAr c verified sealed o) row = refl
+  no_send E R event octets is key_of x next (SentAr c verified sealed o) row = refl
+  no_send R E event octets is key_of x next (SentAr c verified sealed o) row = refl
+  no_send R R event octets is key_of x next (SentAr c verified sealed o) row = refl
+  no_send E E event octets is key_of x next (ReceivedAr c verified) row = refl
+  no_send E R event octets is key_of x next (ReceivedAr c verified) row = refl
+  no_send R E event octets is key_of x next (ReceivedAr c verified) row = refl
+  no_send R R event octets is key_of x next (ReceivedAr c verified) row = refl
+  no_send E E event octets is key_of x next (AcceptedDt session user verified) row = refl
+  no_send E R event octets is key_of x next (AcceptedDt session user verified) row = refl
+  no_send R E event octets is key_of x next (AcceptedDt session user verified) row = refl
+  no_send R R event octets is key_of x next (AcceptedDt session user verified) row = refl
+  no_send s side event octets is key_of x next (SentDt session user sealed o) row = absurd (not_both octets user (sym is ∙ row.event_is))
+    where
+      not_both : (octets user : List ℕ) → Received octets ≡ DataRequest user → ⊥
+      not_both octets user e = cc
+  no_send s side event octets is key_of x next (Refused refusal) row = refl
+  no_send s side event octets is key_of x next (ReleasedLocally release o) row = refl
+  no_send s side event octets is key_of x next (ReleasedByPeer release) row = refl
+  no_send s side event octets is key_of x next NothingDone row = refl
+
+  -- the greatest number of deliveries stays as it is
+  abbrev most_of : PairOpening → Flow → ℕ
+  most_of opening f = set_up_sapdus opening + (length (sent_of E f.facts) + length (sent_of R f.facts))
+
+  sent_grows : (s : Side) (facts more : List SideFact) → sent_of s more ≡ [] → sent_of s (facts ++ more) ≡ sent_of s facts
+  sent_grows s facts more none =
+      flat_map-append (λ (f : SideFact). if is_side s f.side then pair.sent_in f.fact else []) facts more
+      ∙ ap (λ (xs : List (List ℕ)). sent_of s facts ++ xs) none
+      ∙ append-nil (sent_of s facts)
+
+  same_sent : (opening : PairOpening) (f : Flow) (s side : Side) (octets : List ℕ) (rest : List (List ℕ))
+      → sent_of s (delivered opening f side octets rest).facts ≡ sent_of s f.facts
+  same_sent opening f s E octets rest =
+      let a : Safety × SafetyOutcome = answer opening f.pair R (Received octets) in
+      sent_grows s f.facts (map (at_side R) (facts_of (Received octets) a.1))
+      (no_send s R (Received octets) octets refl (key_for opening) f.pair.r a.0 a.1 (only (key_for opening) f.pair.r (Received octets)))
+  same_sent opening f s R octets rest =
+      let a : Safety × SafetyOutcome = answer opening f.pair E (Received octets) in
+      sent_grows s f.facts (map (at_side E) (facts_of (Received octets) a.1))
+      (no_send s E (Received octets) octets refl (key_for opening) f.pair.e a.0 a.1 (only (key_for opening) f.pair.e (Received octets)))
+
+  same_most : (opening : PairOpening) (f : Flow) (side : Side) (octets : List ℕ) (rest : List (List ℕ))
+      → most_of opening (delivered opening f side octets rest) ≡ most_of opening f
+  same_most opening f side octets rest =
+      ap₂ (λ (x y : List (List ℕ)). set_up_sapdus opening + (length x + length y)) (same_sent opening f E side octets rest) (same_sent opening f R side octets rest)
+
+  one_more : (opening : PairOpening) (f : Flow) (side : Side) (octets : List ℕ) (rest : List (List ℕ))
+      → (delivered opening f side octets rest).deliveries ≡ f.deliveries + 1
+  one_more opening f E octets rest = refl
+  one_more opening f R octets rest = refl
+
+  -- ---- drains
+
+  abbrev Fits : Link → Type 0
+  Fits l = (length l.from_e ≤ 4096) × (length l.from_r ≤ 4096)
+
+  fits_in : (b c : Bool) → (if b then Some E else if c then Some R else None) ≡ None → (b ≡ false) × (c ≡ false)
+  fits_in true c e = cc
+  fits_in false true e = cc
+  fits_in false false e = (refl, refl)
+
+  fits_of : (l : Link) → overfull_side l ≡ None → Fits l
+  fits_of l none =
+      let parts = fits_in (nat_lt 4096 (length l.from_e)) (nat_lt 4096 (length l.from_r)) none in
+      (ltb-false 4096 (length l.from_e) parts.0, ltb-false 4096 (length l.from_r) parts.1)
+
+  none_of : (l : Link) → Fits l → overfull_side l ≡ None
+  none_of l fits = rw (le-ltb 4096 (length l.from_e) fits.0, le-ltb 4096 (length l.from_r) fits.1) refl
+
+  module _ (grow : FactsGrow) (law : FlowsDeliver) (opening : PairOpening) (fit : FitsOpening opening) (agree : Agrees opening) where
+    abbrev Nothing : Link → Type 0
+    Nothing l = (l.from_e ≡ []) × (l.from_r ≡ [])
+
+    none_left : (f : Flow) → Flows opening f → most_of opening f ≤ f.deliveries → (side : Side) (frames : List (List ℕ)) → under_way f side ≡ frames → frames ≡ []
+    none_left f flows enough side [] is = refl
+    none_left f flows enough side (frame ∷ frames) is =
+        let g : Flow = delivered opening f side frame frames in
+        let bounded : g.deliveries ≤ most_of opening g = (law opening fit agree g (Delivers f side frame frames is flows)).bounded in
+        let same : most_of opening g ≡ most_of opening f = same_most opening f side frame frames in
+        let more : g.deliveries ≡ f.deliveries + 1 = one_more opening f side frame frames in
+        absurd (omega arith)
+
+    -- so many more passes leave nothing waiting
+    abbrev Empties : ℕ → (Link → Drain) → Type 0
+    Empties most drained =
+        (l : Link) (history : List Occurrence) (f : Flow) → IsView opening f l history → Flows opening f → Fits l → most_of opening f ≤ f.deliveries + most
+        → Nothing (drained l).link
+
+    fits_after : (f : Flow) (l : Link) (side : Side) (frame : List ℕ) (frames : List (List ℕ)) (m : Link) (later : List Occurrence) → Flows opening f
+        → under_way f side ≡ frame ∷ frames → IsView opening (delivered opening f side frame frames) m later
+        → (length f.from_e ≤ 4096) × (length f.from_r ≤ 4096) → Fits m
+    fits_after f l E frame frames m later flows is v small =
+        let long : length f.from_e ≡ length (frame ∷ frames) = ap length is in
+        let rest : length m.from_e ≡ length frames = ap length v.from_e_is in
+        let room = (law opening fit agree f flows).room E frame frames 4096 is (omega arith) small.1 in
+        let least : length f.from_e ≤ 4096 = small.0 in
+        (omega arith, subst (λ (x : List (List ℕ)). length x ≤ 4096) (sym v.from_r_is) room)
+    fits_after f l R frame frames m later flows is v small =
+        let long : length f.from_r ≡ length (frame ∷ frames) = ap length is in
+        let rest : length m.from_r ≡ length frames = ap length v.from_r_is in
+        let room = (law opening fit agree f flows).room R frame frames 4096 is (omega arith) small.0 in
+        let least : length f.from_r ≤ 4096 = small.1 in
+        (subst (λ (x : List (List ℕ)). length x ≤ 4096) (sym v.from_e_is) room, omega arith)
+
+    passes_empty : (most : ℕ) (others : Link → Drain) → Empties most others → (l : Link) (history : List Occurrence) (f : Flow) → IsView opening f l history → Flows opening f
+        → Fits l → most_of opening f ≤ f.deliveries + suc most → (side : Side) (frame : List ℕ) (frames : List (List ℕ)) → waiting_of l side ≡ frame ∷ frames
+        → under_way f side ≡ frame ∷ frames → Nothing (others (link_step l (Pass side)).0).link
+    passes_empty most others each l history f v flows fits enough side frame frames waits is =
+        let g : Flow = delivered opening f side frame frames in
+        let a : Link × List Occurrence = pass l side (frame ∷ frames) in
+        let there : IsView opening g a.0 (history ++ a.1) = pass_view grow opening f l history side frame frames v in
+        let same : most_of opening g ≡ most_of opening f = same_most opening f side frame frames in
+        let more : g.deliveries ≡ f.deliveries + 1 = one_more opening f side frame frames in
+        let small : (length f.from_e ≤ 4096) × (length f.from_r ≤ 4096) =
+        (subst (λ (x : List (List ℕ)). length x ≤ 4096) v.from_e_is fits.0, subst (λ (x : List (List ℕ)). length x ≤ 4096) v.from_r_is fits.1) in
+        let after : Fits a.0 = fits_after f l side frame frames a.0 (history ++ a.1) flows is there small in
+        let still : most_of opening g ≤ g.deliveries + most = omega arith in
+        let Q : List (List ℕ) → Type 0 = λ frames. Nothing (others (pass l side frames).0).link in
+        subst Q (sym waits) (each a.0 (history ++ a.1) g there (Delivers f side frame frames is flows) after still)
+
+    drains_on : (most : ℕ) (others : Link → Drain) → Empties most others → (l : Link) (history : List Occurrence) (f : Flow) → IsView opening f l history → Flows opening f
+        → Fits l → most_of opening f ≤ f.deliveries + suc most → (xs ys : List (List ℕ)) → l.from_e ≡ xs → l.from_r ≡ ys
+        → Nothing (drain_on others l (next_of xs ys) None).link
+    drains_on most others each l history f v flows fits enough [] [] e r = (e, r)
+    drains_on most others each l history f v flows fits enough [] (frame ∷ frames) e r =
+        passes_empty most others each l history f v flows fits enough R frame frames r (sym v.from_r_is ∙ r)
+    drains_on most others each l history f v flows fits enough (frame ∷ frames) ys e r =
+        passes_empty most others each l history f v flows fits enough E frame frames e (sym v.from_e_is ∙ e)
+
+    pub drain_empties : (most : ℕ) → Empties most (drain most)
+    unfolding drain
+    drain_empties zero l history f v flows fits enough =
+        let enough_now : most_of opening f ≤ f.deliveries = omega arith in
+        (v.from_e_is ∙ none_left f flows enough_now E f.from_e refl, v.from_r_is ∙ none_left f flows enough_now R f.from_r refl)
+    drain_empties (suc most) l history f v flows fits enough =
+        let Q : Option Side → Type 0 = λ o. Nothing (drain_on (drain most) l (next_side l) o).link in
+        subst Q (sym (none_of l fits)) (drains_on most (drain most) (drain_empties most) l history f v flows fits enough l.from_e l.from_r refl refl)
+
+  -- ---- one link
+
+  delivers_at : (grow : FactsGrow) → FlowsDeliver → (settings : Settings) (l : Link) (history : List Occurrence) → MayFlow grow l history → IsLossFree l.opening history
+      → claim.Delivers settings history l
+  delivers_at grow law settings l history may free =
+      let t : IsFlow grow l history = may.flow free.undisturbed in
+      let o : PairOpening = t.opening in
+      let f : Flow = t.f in
+      let v : IsView o f l history = t.view in
+      let fit : FitsOpening o = subst (FitsLinkOpening grow) v.opening_is may.fit in
+      let agree : Agrees o = subst EndsAgree v.opening_is free.agree in
+      let has : HasFlowed o f = law o fit agree f t.flows in
+      let sent : (s : Side) → sent_by s history ≡ sent_of s f.facts = λ s. sent_by_facts s history v.plain ∙ ap (sent_of s) v.facts_are in
+      let accepted : (s : Side) → accepted_by s history ≡ accepted_of s f.facts = λ s. accepted_by_facts s history v.plain ∙ ap (accepted_of s) v.facts_are in
+      let bound_is : bound settings l.opening history ≡ most_of o f =
+      ap (λ (p : LinkOpening). bound settings p history) v.opening_is
+      ∙ ap₂ (λ (x y : List (List ℕ)). set_up_sapdus o + (length x + length y)) (sent E) (sent R) in
+      let count : deliveries history ≡ f.deliveries = v.count in
+      let bounded : f.deliveries ≤ most_of o f = has.bounded in
+      let D : LinkOpening → Type 0 = λ p. IsEmpty p l → IsDelivered p history l in
+      let done : D (OfPair o) = λ empty.
+      let complete : IsComplete f = has.complete (sym v.from_e_is ∙ empty.0) (sym v.from_r_is ∙ empty.1) in
+      record {
+        e_connected = subst IsConnectedEnd (sym v.e_is) complete.e_connected;
+        r_connected = subst IsConnectedEnd (sym v.r_is) complete.r_connected;
+        at_r = accepted R ∙ complete.at_r ∙ sym (sent E);
+        at_e = accepted E ∙ complete.at_e ∙ sym (sent R);
+      } in
+      record {
+        unforged = ap (λ (fs : List SideFact). list_any (λ (m : MarkedFact). m.forged) (marked fs)) v.facts_are ∙ has.unforged;
+        bounded = omega arith;
+        done = subst D (sym v.opening_is) done;
+        drains = λ none most enough.
+            let so_many : most_of o f ≤ f.deliveries + most = omega arith in
+            drain_empties grow law o fit agree most l history f v t.flows (fits_of l none) so_many;
+      }
+
+-- ---- worlds
+
+fixed_fits : (grow : FactsGrow) (l : Level) (engine rbc : ℕ) (ke kr : TripleKey) → engine < 2 ^ 24 → rbc < 2 ^ 24
+    → OpensFit (FitsLinkOpening grow) (fixed_opening l engine rbc ke kr)
+fixed_fits grow level.Safe engine rbc ke kr e r = (e, r)
+fixed_fits grow level.Link engine rbc ke kr e r = tt
+fixed_fits grow level.Full engine rbc ke kr e r = tt
+
+link_fits : (grow : FactsGrow) (l : Level) (engine rbc : ℕ) (ke : TripleKey) (kr : Option TripleKey) (ra rb : ℕ) → engine < 2 ^ 24 → rbc < 2 ^ 24 → ra < 2 ^ 64 → rb < 2 ^ 64
+    → OpensFit (FitsLinkOpening grow) (link_opening l engine rbc ke kr ra rb)
+link_fits grow level.Safe engine rbc ke kr ra rb e r a b = (e, r, a, b)
+link_fits grow level.Link engine rbc ke kr ra rb e r a b = tt
+link_fits grow level.Full engine rbc ke kr ra rb e r a b = tt
+
+wire_fits : (grow : FactsGrow) (l : Level) → OpensFit (FitsLinkOpening grow) (wire_opening l)
+wire_fits grow level.Safe = tt
+wire_fits grow level.Link = tt
+wire_fits grow level.Full = tt
+
+step_fits : (grow : FactsGrow) (plan : Plan) (s : Step) → FitsFields s → StepFits (FitsLinkOpening grow) (FitsLinkStep grow) plan s
+step_fits grow plan (does.Fixed n engine rbc ke kr) fit = fixed_fits grow plan.level engine rbc ke kr fit.0.0 fit.0.1
+step_fits grow plan (does.Link n engine rbc ke kr ra rb) fit = link_fits grow plan.level engine rbc ke kr ra rb fit.0.0 fit.0.1 fit.1.0 fit.1.1
+step_fits grow plan (does.Wire n) fit = wire_fits grow plan.level
+step_fits grow plan (does.Send n s text) fit = fit.1
+step_fits grow plan (does.Pass n s) fit = tt
+step_fits grow plan (does.Lose n s) fit = tt
+step_fits grow plan (does.Repeat n s) fit = tt
+step_fits grow plan (does.Alter n s place mask) fit = tt
+step_fits grow plan (does.Put n s text) fit = tt
+step_fits grow plan (does.Copy n s m t) fit = tt
+step_fits grow plan (does.Take n s) fit = tt
+step_fits grow plan (does.Release n s sub) fit = tt
+step_fits grow plan (does.Tick moment) fit = tt
+step_fits grow plan (does.Drain n most) fit = tt
+
+steps_fit : (grow : FactsGrow) (plan : Plan) (steps : List Step) → AllFit steps → AllByRecursion (StepFits (FitsLinkOpening grow) (FitsLinkStep grow) plan) steps
+steps_fit grow plan [] fit = tt
+steps_fit grow plan (s ∷ steps) fit = (step_fits grow plan s fit.0, steps_fit grow plan steps fit.1)
+
+pub delivers_always : StepsOnly → FlowsDeliver → FactsGrow → HistoryGrows → HistoryOfOwn → HistoryOfOther → DeliversAlways
+delivers_always only law facts grow own other plan steps fit n l is free =
+    let at : AtPlace (MayFlow facts) (link_at (world_run plan steps).0 n) (history_on n (world_run plan steps).1) =
+    world_lives grow own other plan (FitsLinkOpening facts) (FitsLinkStep facts) (MayFlow facts) (flow_keeps facts plan.settings) steps (steps_fit facts plan steps fit) n in
+    let may : MayFlow facts l (history_on n (world_run plan steps).1) =
+    subst (λ (p : Option Link). AtPlace (MayFlow facts) p (history_on n (world_run plan steps).1)) is at in
+    delivers_at only facts law plan.settings l (history_on n (world_run plan steps).1) may free

@@ -1,0 +1,6 @@
+mod Worlds
+mod Talking
+mod Printing
+mod Viewing
+mod Delivering
+mod Openings

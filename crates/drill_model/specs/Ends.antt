@@ -1,0 +1,71 @@
+-- The ends of a link, one kind a level, and what an end does with an event (this profile). At level safe an end is a side of a safe
+-- connection, and what it sends is an SaPDU.
+use Rattle.std.specs.Prelude.{ℕ, List, [], ◌∷◌, Option, Some, None}
+use Rattle.des_block.specs.declared.triple_key.TripleKey.{TripleKey}
+use Rattle.safety_automaton.specs.Safety.{Safety, SafetyEvent, ConnectRequest, Received, DataRequest, DisconnectRequest, Refusal, SafetyOutcome, SentAu1, SentAu2, SentAu3, SentAr, ReceivedAr, AcceptedDt, SentDt, ReleasedLocally, ReleasedByPeer, NothingDone}
+use Rattle.safety_automaton.specs.Safety as safety
+use Rattle.safe_pair.specs.Facts.{Sent, Sealed, Verified, Connected, Accepted, heard_in}
+use Rattle.drill_model.specs.Outcomes.{SendRefusal, RefusedReleased, RefusedNotConnected, RefusedLength, Outcome, OfSafety, Refused, Released, Frame}
+
+-- what is given to an end
+pub data EndEvent : Type 0 where
+  -- an end that calls is to begin
+  Start : EndEvent
+  -- octets from the peer: at level safe an SaPDU, else a piece of what it sent from flag to flag, in which several frames may close
+  Receive : (octets : List ℕ) → EndEvent
+  -- the user sends
+  Send : (octets : List ℕ) → EndEvent
+  -- the user takes a message
+  Take : EndEvent
+  -- the user releases, with this sub-reason
+  Release : (sub : ℕ) → EndEvent
+  -- the moment has come
+  Tick : EndEvent
+
+pub data End : Type 0 where
+  -- level safe
+  OfSafe : (side : Safety) → End
+
+-- ---- level safe
+
+-- an event, as the safety layer has it
+abbrev pub safety_event : EndEvent → Option SafetyEvent
+safety_event Start = Some ConnectRequest
+safety_event (Receive octets) = Some (Received octets)
+safety_event (Send octets) = Some (DataRequest octets)
+safety_event Take = None
+safety_event (Release sub) = Some (DisconnectRequest sub)
+safety_event Tick = None
+
+abbrev pub refusal_of : Refusal → SendRefusal
+refusal_of (safety.RefusedReleased release) = RefusedReleased release
+refusal_of safety.RefusedNotConnected = RefusedNotConnected
+refusal_of (safety.RefusedLength found) = RefusedLength found
+
+-- the outcomes of a side that received these octets
+abbrev pub outcomes_by : (heard : List ℕ) → SafetyOutcome → List Outcome
+outcomes_by heard (SentAu1 octets) = Frame octets ∷ []
+outcomes_by heard (SentAu2 session sealed octets) = OfSafety (Sealed session sealed) ∷ Frame octets ∷ []
+outcomes_by heard (SentAu3 session verified sealed octets) =
+    OfSafety (Verified heard session verified) ∷ OfSafety (Sealed session sealed) ∷ Frame octets ∷ []
+outcomes_by heard (SentAr connection verified sealed octets) =
+    OfSafety (Connected heard connection verified) ∷ OfSafety (Sealed connection.session sealed) ∷ Frame octets ∷ []
+outcomes_by heard (ReceivedAr connection verified) = OfSafety (Connected heard connection verified) ∷ []
+outcomes_by heard (AcceptedDt session user verified) = OfSafety (Accepted heard user session verified) ∷ []
+outcomes_by heard (SentDt session user sealed octets) = OfSafety (Sent user session sealed) ∷ Frame octets ∷ []
+outcomes_by heard (safety.Refused refusal) = Refused (refusal_of refusal) ∷ []
+outcomes_by heard (ReleasedLocally release octets) = Released release ∷ Frame octets ∷ []
+outcomes_by heard (ReleasedByPeer release) = Released release ∷ []
+outcomes_by heard NothingDone = []
+
+abbrev pub safe_end_step : (ℕ → ℕ → Option TripleKey) → Safety → Option SafetyEvent → End × List Outcome
+safe_end_step key_of s None = (OfSafe s, [])
+safe_end_step key_of s (Some event) =
+    let a = safety.step key_of s event in
+    (OfSafe a.0, outcomes_by (heard_in event) a.1)
+
+-- ---- any level
+
+-- an end that looks KMACs up so is given an event at a moment: the end after it, and its outcomes in their order
+abbrev pub end_step : (ℕ → ℕ → Option TripleKey) → (moment : ℕ) → End → EndEvent → End × List Outcome
+end_step key_of moment (OfSafe s) event = safe_end_step key_of s (safety_event event)

@@ -1,0 +1,145 @@
+-- What is claimed of every list of steps, of each link of their world, by its level.
+use Rattle.std.specs.Prelude.{ℕ, ◌≡◌, ◌≤◌, ◌==◌, ◌&&◌, false, if◌then◌else◌, List, [], ◌∷◌, ◌++◌, Option, Some, None, option_map}
+use Rattle.std.specs.List.{list_any, flat_map}
+use Rattle.er_base.specs.declared.side.Side.TheVariants.{E, R}
+use Rattle.er_settings.specs.declared.settings.Settings.{Settings}
+use Rattle.er_scenario.specs.declared.step.Step.{Step}
+use Rattle.er_scenario.specs.declared.step.Step.TheVariants as does
+use Rattle.des_block.specs.declared.triple_key.TripleKey.{TripleKey}
+use Rattle.safe_pair.specs.Facts.{marked}
+use Rattle.safe_pair.specs.Authentic.{Authentic}
+use Rattle.safe_pair.specs.Deliveries.{IsConnectedPhase}
+use Rattle.drill_model.specs.Outcomes.{Occurrence, facts_in}
+use Rattle.drill_model.specs.Ends.{End, OfSafe, EndEvent, end_step}
+use Rattle.drill_model.specs.Links.{LinkOpening, OfPair, Link}
+use Rattle.drill_model.specs.Steps.{AllFit}
+use Rattle.drill_model.specs.Worlds.{Plan, Came, is_link, link_at, history_on, fixed_opening, link_opening, wire_opening, overfull_side, drain, world_run}
+use Rattle.drill_model.specs.Faults.{fault_behind}
+use Rattle.drill_model.specs.Marks.{MarkedOccurrence, MarkedCame, MarkedOn, MarkedDrain, marks_behind, marks_from}
+use Rattle.drill_model.specs.Texts.{place_of}
+use Rattle.drill_model.specs.Kinds.{sent_by, accepted_by, deliveries, IsLossFree, bound}
+
+-- ---- authentic messages and peers
+
+-- what came at a link is lawful: at level safe, authentic
+abbrev pub IsLawful : LinkOpening → List Occurrence → Type 0
+IsLawful (OfPair opening) history = Authentic opening (facts_in history)
+
+-- and nothing came at a number that wasn't opened
+abbrev pub LawfulAt : Option Link → List Occurrence → Type 0
+LawfulAt None history = history ≡ []
+LawfulAt (Some l) history = IsLawful l.opening history
+
+-- for every list of steps, at each number
+abbrev pub LawfulAlways : Type 0
+LawfulAlways =
+    (plan : Plan) (steps : List Step) (n : ℕ) → LawfulAt (link_at (world_run plan steps).0 n) (history_on n (world_run plan steps).1)
+
+-- ---- openings
+
+-- a line that opens link m opens link n, where they are one, and the number of a link
+abbrev pub named : (n m : ℕ) → Option LinkOpening → Option LinkOpening
+named n m opening = if (m == n) && is_link m then opening else None
+
+-- how a step opens link n, if it does
+abbrev pub opening_by : Plan → ℕ → Step → Option LinkOpening
+opening_by plan n (does.Fixed m engine rbc ke kr) = named n m (fixed_opening plan.level engine rbc ke kr)
+opening_by plan n (does.Link m engine rbc ke kr ra rb) = named n m (link_opening plan.level engine rbc ke kr ra rb)
+opening_by plan n (does.Wire m) = named n m (wire_opening plan.level)
+opening_by plan n (does.Send m s text) = None
+opening_by plan n (does.Pass m s) = None
+opening_by plan n (does.Lose m s) = None
+opening_by plan n (does.Repeat m s) = None
+opening_by plan n (does.Alter m s place mask) = None
+opening_by plan n (does.Put m s text) = None
+opening_by plan n (does.Copy m s i t) = None
+opening_by plan n (does.Take m s) = None
+opening_by plan n (does.Release m s sub) = None
+opening_by plan n (does.Tick moment) = None
+opening_by plan n (does.Drain m most) = None
+
+abbrev pub or_opening : Option LinkOpening → Option LinkOpening → Option LinkOpening
+or_opening None later = later
+or_opening (Some opening) later = Some opening
+
+-- the first step that opens link n counts: a second is refused
+abbrev pub opening_of : Plan → ℕ → List Step → Option LinkOpening
+opening_of plan n [] = None
+opening_of plan n (s ∷ rest) = or_opening (opening_by plan n s) (opening_of plan n rest)
+
+-- a link has the opening of the step that opened it, and where no step did there is none
+abbrev pub OpensAlways : Type 0
+OpensAlways =
+    (plan : Plan) (steps : List Step) (n : ℕ)
+    → option_map (λ l. l.opening) (link_at (world_run plan steps).0 n) ≡ opening_of plan n steps
+
+-- ---- room
+
+-- behind a step that is done not too many frames wait on any link
+abbrev pub RoomAlways : Type 0
+RoomAlways =
+    (plan : Plan) (before : List Step) (s : Step) → fault_behind plan before s ≡ None
+    → (n : ℕ) (l : Link) → link_at (world_run plan (before ++ s ∷ [])).0 n ≡ Some l → overfull_side l ≡ None
+
+-- ---- delivery
+
+-- an end is connected
+abbrev pub IsConnectedEnd : End → Type 0
+IsConnectedEnd (OfSafe s) = IsConnectedPhase s.phase
+
+-- both ends are connected, and each accepted all that the other sent, in order
+pub record HasAll (history : List Occurrence) (l : Link) : Type 0 where
+  pub e_connected : IsConnectedEnd l.e
+  pub r_connected : IsConnectedEnd l.r
+  pub at_r : accepted_by R history ≡ sent_by E history
+  pub at_e : accepted_by E history ≡ sent_by R history
+
+-- an empty link: at level safe no frame waits
+abbrev pub IsEmpty : LinkOpening → Link → Type 0
+IsEmpty (OfPair opening) l = (l.from_e ≡ []) × (l.from_r ≡ [])
+
+-- what is delivered on an empty link
+abbrev pub IsDelivered : LinkOpening → List Occurrence → Link → Type 0
+IsDelivered (OfPair opening) history l = HasAll history l
+
+-- a loss-free link: nothing is forged; no more deliveries than the bound, ever; once it is empty, all is delivered; and where not too many
+-- frames wait, a drain of at least as many passes as the bound leaves none waiting
+pub record Delivers (settings : Settings) (history : List Occurrence) (l : Link) : Type 0 where
+  pub unforged : list_any (λ f. f.forged) (marked (facts_in history)) ≡ false
+  pub bounded : deliveries history ≤ bound settings l.opening history
+  pub done : IsEmpty l.opening l → IsDelivered l.opening history l
+  pub drains : overfull_side l ≡ None → (most : ℕ) → bound settings l.opening history ≤ most
+      → ((drain most l).link.from_e ≡ []) × ((drain most l).link.from_r ≡ [])
+
+-- for every list of steps whose numbers fit, of each link that is loss-free so far
+abbrev pub DeliversAlways : Type 0
+DeliversAlways =
+    (plan : Plan) (steps : List Step) → AllFit steps → (n : ℕ) (l : Link) → link_at (world_run plan steps).0 n ≡ Some l
+    → IsLossFree l.opening (history_on n (world_run plan steps).1)
+    → Delivers plan.settings (history_on n (world_run plan steps).1) l
+
+-- ---- what is printed
+
+-- the marks at link n among those of a world
+abbrev pub marks_at : ℕ → MarkedCame → List MarkedOccurrence
+marks_at n (MarkedOn link m) = if link == n then m ∷ [] else []
+marks_at n (MarkedDrain link passes) = []
+
+abbrev pub marks_on : ℕ → List MarkedCame → List MarkedOccurrence
+marks_on n marks = flat_map (marks_at n) marks
+
+-- each link's occurrences are printed with the marks by which they are judged, those of its own facts
+abbrev pub PrintedAsMarked : Type 0
+PrintedAsMarked = (n : ℕ) (came : List Came) → marks_on n (marks_from [] came) ≡ marks_behind [] (history_on n came)
+
+-- numbers that don't fall
+abbrev pub IsRising : List ℕ → Type 0
+IsRising [] = Unit {0}
+IsRising (n ∷ []) = Unit {0}
+IsRising (n ∷ m ∷ more) = (n ≤ m) × IsRising (m ∷ more)
+
+-- the lines of one event of an end come in the order of the table of lines
+abbrev pub LinesInOrder : Type 0
+LinesInOrder =
+    (key_of : ℕ → ℕ → Option TripleKey) (moment : ℕ) (end : End) (event : EndEvent)
+    → IsRising (flat_map place_of (end_step key_of moment end event).1)

@@ -1,0 +1,131 @@
+-- What a link is and had so far, told by the one list of what came at it: its kind, the messages that were sent and accepted, counts and
+-- bounds (this profile).
+use Rattle.std.specs.Prelude.{ℕ, ◌+◌, ◌≡◌, Bool, true, false, if◌then◌else◌, List, [], ◌∷◌, length}
+use Rattle.std.specs.List.{flat_map, list_any}
+use Rattle.er_base.specs.declared.side.Side.{Side}
+use Rattle.er_base.specs.declared.side.Side.TheVariants.{E, R}
+use Rattle.er_settings.specs.declared.settings.Settings.{Settings}
+use Rattle.safe_pair.specs.Facts.{is_side}
+use Rattle.safe_pair.specs.Openings.{Agrees}
+use Rattle.safe_pair.specs.Deliveries as pair
+use Rattle.drill_model.specs.Outcomes.{Outcome, OfSafety, Handed, Arrived, Up, Took, NothingToTake, Refused, Released, Frame, Expired, UserReleased, Passed, Lost, Repeated, Altered, Inserted, NothingWaits, IsShort, Occurrence}
+use Rattle.drill_model.specs.Links.{LinkOpening, OfPair}
+
+-- ---- messages
+
+-- the octets of a send that was Ok
+abbrev pub sent_in : Outcome → List (List ℕ)
+sent_in (OfSafety fact) = pair.sent_in fact
+sent_in (Handed payload) = payload ∷ []
+sent_in (Arrived payload) = []
+sent_in Up = []
+sent_in (Took message) = []
+sent_in NothingToTake = []
+sent_in (Refused refusal) = []
+sent_in (Released release) = []
+sent_in (Frame octets) = []
+sent_in Expired = []
+sent_in (UserReleased sub) = []
+sent_in (Passed octets) = []
+sent_in Lost = []
+sent_in Repeated = []
+sent_in Altered = []
+sent_in Inserted = []
+sent_in NothingWaits = []
+sent_in (IsShort found) = []
+
+-- the octets that were accepted
+abbrev pub accepted_in : Outcome → List (List ℕ)
+accepted_in (OfSafety fact) = pair.accepted_in fact
+accepted_in (Handed payload) = []
+accepted_in (Arrived payload) = payload ∷ []
+accepted_in Up = []
+accepted_in (Took message) = []
+accepted_in NothingToTake = []
+accepted_in (Refused refusal) = []
+accepted_in (Released release) = []
+accepted_in (Frame octets) = []
+accepted_in Expired = []
+accepted_in (UserReleased sub) = []
+accepted_in (Passed octets) = []
+accepted_in Lost = []
+accepted_in Repeated = []
+accepted_in Altered = []
+accepted_in Inserted = []
+accepted_in NothingWaits = []
+accepted_in (IsShort found) = []
+
+-- `sent` and `accepted` of an end, in their order
+abbrev pub sent_by : Side → List Occurrence → List (List ℕ)
+sent_by side history = flat_map (λ o. if is_side side o.side then sent_in o.outcome else []) history
+
+abbrev pub accepted_by : Side → List Occurrence → List (List ℕ)
+accepted_by side history = flat_map (λ o. if is_side side o.side then accepted_in o.outcome else []) history
+
+-- ---- passes
+
+-- the octets of a delivery
+abbrev pub passed_in : Outcome → List (List ℕ)
+passed_in (OfSafety fact) = []
+passed_in (Handed payload) = []
+passed_in (Arrived payload) = []
+passed_in Up = []
+passed_in (Took message) = []
+passed_in NothingToTake = []
+passed_in (Refused refusal) = []
+passed_in (Released release) = []
+passed_in (Frame octets) = []
+passed_in Expired = []
+passed_in (UserReleased sub) = []
+passed_in (Passed octets) = octets ∷ []
+passed_in Lost = []
+passed_in Repeated = []
+passed_in Altered = []
+passed_in Inserted = []
+passed_in NothingWaits = []
+passed_in (IsShort found) = []
+
+-- the number of deliveries
+abbrev pub deliveries : List Occurrence → ℕ
+deliveries history = length (flat_map (λ o. passed_in o.outcome) history)
+
+-- ---- kinds of link
+
+-- a frame was lost, repeated, altered or inserted, a user was told to release, or a tick found an expired timer
+abbrev pub is_disturbance : Outcome → Bool
+is_disturbance (OfSafety fact) = false
+is_disturbance (Handed payload) = false
+is_disturbance (Arrived payload) = false
+is_disturbance Up = false
+is_disturbance (Took message) = false
+is_disturbance NothingToTake = false
+is_disturbance (Refused refusal) = false
+is_disturbance (Released release) = false
+is_disturbance (Frame octets) = false
+is_disturbance Expired = true
+is_disturbance (UserReleased sub) = true
+is_disturbance (Passed octets) = false
+is_disturbance Lost = true
+is_disturbance Repeated = true
+is_disturbance Altered = true
+is_disturbance Inserted = true
+is_disturbance NothingWaits = false
+is_disturbance (IsShort found) = false
+
+abbrev pub is_disturbed : List Occurrence → Bool
+is_disturbed history = list_any (λ o. is_disturbance o.outcome) history
+
+-- the ends of a link agree
+abbrev pub EndsAgree : LinkOpening → Type 0
+EndsAgree (OfPair opening) = Agrees opening
+
+-- loss-free so far
+pub record IsLossFree (opening : LinkOpening) (history : List Occurrence) : Type 0 where
+  pub undisturbed : is_disturbed history ≡ false
+  pub agree : EndsAgree opening
+
+-- ---- bounds
+
+-- Bound: at level safe one delivery for each message that was sent, and four for a set-up
+abbrev pub bound : Settings → LinkOpening → List Occurrence → ℕ
+bound settings (OfPair opening) history = pair.set_up_sapdus opening + (length (sent_by E history) + length (sent_by R history))

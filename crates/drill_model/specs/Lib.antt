@@ -1,0 +1,13 @@
+pub mod Outcomes
+pub mod Ends
+pub mod Waiting
+pub mod Links
+pub mod Steps
+pub mod Worlds
+pub mod Faults
+pub mod Marks
+pub mod Kinds
+pub mod Texts
+pub mod Headline
+pub mod KnownAnswers
+pub mod Growth

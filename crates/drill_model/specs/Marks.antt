@@ -1,0 +1,56 @@
+-- Which occurrences are forged: one scan over all that came, by the facts of each link (this profile).
+use Rattle.std.specs.Prelude.{ℕ, Bool, false, List, [], ◌∷◌, ◌++◌}
+use Rattle.er_base.specs.declared.side.Side.{Side}
+use Rattle.safe_pair.specs.Facts.{MarkedFact, marked, marked_from, is_forged}
+use Rattle.drill_model.specs.Outcomes.{Outcome, OfSafety, Handed, Arrived, Up, Took, NothingToTake, Refused, Released, Frame, Expired, UserReleased, Passed, Lost, Repeated, Altered, Inserted, NothingWaits, IsShort, Occurrence, facts_at}
+use Rattle.drill_model.specs.Worlds.{Came, On, Drained, facts_on}
+
+-- whether an outcome is forged, behind these facts of its link
+abbrev pub outcome_forged : (before : List MarkedFact) → Side → Outcome → Bool
+outcome_forged before side (OfSafety fact) = is_forged before side fact
+outcome_forged before side (Handed payload) = false
+outcome_forged before side (Arrived payload) = false
+outcome_forged before side Up = false
+outcome_forged before side (Took message) = false
+outcome_forged before side NothingToTake = false
+outcome_forged before side (Refused refusal) = false
+outcome_forged before side (Released release) = false
+outcome_forged before side (Frame octets) = false
+outcome_forged before side Expired = false
+outcome_forged before side (UserReleased sub) = false
+outcome_forged before side (Passed octets) = false
+outcome_forged before side Lost = false
+outcome_forged before side Repeated = false
+outcome_forged before side Altered = false
+outcome_forged before side Inserted = false
+outcome_forged before side NothingWaits = false
+outcome_forged before side (IsShort found) = false
+
+-- an occurrence with its mark
+pub record MarkedOccurrence : Type 0 where
+  pub side : Side
+  pub outcome : Outcome
+  pub forged : Bool
+
+abbrev pub mark_of : (before : List MarkedFact) → Occurrence → MarkedOccurrence
+mark_of before o = record { side = o.side; outcome = o.outcome; forged = outcome_forged before o.side o.outcome }
+
+-- the occurrences of one link, each behind the facts before it
+abbrev pub marks_behind : (before : List MarkedFact) → List Occurrence → List MarkedOccurrence
+marks_behind before [] = []
+marks_behind before (o ∷ history) =
+    mark_of before o ∷ marks_behind (before ++ marked_from before (facts_at o.side o.outcome)) history
+
+-- what came in a world, with marks
+pub data MarkedCame : Type 0 where
+  MarkedOn : (link : ℕ) (m : MarkedOccurrence) → MarkedCame
+  MarkedDrain : (link passes : ℕ) → MarkedCame
+
+-- behind all that came before
+abbrev pub mark_came : (seen : List Came) → Came → MarkedCame
+mark_came seen (On link o) = MarkedOn link (mark_of (marked (facts_on link seen)) o)
+mark_came seen (Drained link passes) = MarkedDrain link passes
+
+abbrev pub marks_from : (seen : List Came) → List Came → List MarkedCame
+marks_from seen [] = []
+marks_from seen (c ∷ came) = mark_came seen c ∷ marks_from (seen ++ c ∷ []) came

@@ -1,0 +1,105 @@
+-- What comes of an event at an end of a link, or of a step at what it sent: of these outcomes a run is one list, which is printed and
+-- which is judged (this profile).
+use Rattle.std.specs.Prelude.{ℕ, List, [], ◌∷◌}
+use Rattle.std.specs.List.{flat_map}
+use Rattle.er_base.specs.declared.release.Release.{Release}
+use Rattle.er_base.specs.declared.side.Side.{Side}
+use Rattle.safe_pair.specs.Facts.{Fact, SideFact, at_side}
+
+-- why a send is refused: the end is released; the safety layer isn't connected; the octets, so many, aren't those of a message or payload;
+-- so many wait to be sent
+pub data SendRefusal : Type 0 where
+  RefusedReleased : (release : Release) → SendRefusal
+  RefusedNotConnected : SendRefusal
+  RefusedLength : (found : ℕ) → SendRefusal
+  RefusedFull : (waiting : ℕ) → SendRefusal
+
+pub data Outcome : Type 0 where
+  -- a fact of the safety layer: a send that was Ok, a sealed or verified text, a connection, an accepted message
+  OfSafety : (fact : Fact) → Outcome
+  -- level link: a send that was Ok
+  Handed : (payload : List ℕ) → Outcome
+  -- level link: a payload was accepted
+  Arrived : (payload : List ℕ) → Outcome
+  -- level link: the station went up
+  Up : Outcome
+  -- a message was taken; none was there
+  Took : (message : List ℕ) → Outcome
+  NothingToTake : Outcome
+  -- a send was refused
+  Refused : (refusal : SendRefusal) → Outcome
+  -- a release, by this end or by its peer
+  Released : (release : Release) → Outcome
+  -- a frame for the peer
+  Frame : (octets : List ℕ) → Outcome
+  -- a tick found an expired timer
+  Expired : Outcome
+  -- the user of this end was told to release, with this sub-reason
+  UserReleased : (sub : ℕ) → Outcome
+  -- the first waiting frame of this end was given to the other
+  Passed : (octets : List ℕ) → Outcome
+  -- it was removed; a copy was put behind it; it was changed; octets were put before it
+  Lost : Outcome
+  Repeated : Outcome
+  Altered : Outcome
+  Inserted : Outcome
+  -- no frame of this end waits for the step
+  NothingWaits : Outcome
+  -- the first waiting frame of this end has so many octets, too few for the step
+  IsShort : (length : ℕ) → Outcome
+
+-- an outcome at an end, or at what it sent
+pub record Occurrence : Type 0 where
+  pub side : Side
+  pub outcome : Outcome
+
+abbrev pub at_end : Side → Outcome → Occurrence
+at_end side outcome = record { side = side; outcome = outcome }
+
+-- the facts of the safety layer among outcomes
+abbrev pub facts_at : Side → Outcome → List SideFact
+facts_at side (OfSafety fact) = at_side side fact ∷ []
+facts_at side (Handed payload) = []
+facts_at side (Arrived payload) = []
+facts_at side Up = []
+facts_at side (Took message) = []
+facts_at side NothingToTake = []
+facts_at side (Refused refusal) = []
+facts_at side (Released release) = []
+facts_at side (Frame octets) = []
+facts_at side Expired = []
+facts_at side (UserReleased sub) = []
+facts_at side (Passed octets) = []
+facts_at side Lost = []
+facts_at side Repeated = []
+facts_at side Altered = []
+facts_at side Inserted = []
+facts_at side NothingWaits = []
+facts_at side (IsShort found) = []
+
+abbrev pub facts_in : List Occurrence → List SideFact
+facts_in history = flat_map (λ o. facts_at o.side o.outcome) history
+
+-- the frames among outcomes
+abbrev pub frames_of : Outcome → List (List ℕ)
+frames_of (OfSafety fact) = []
+frames_of (Handed payload) = []
+frames_of (Arrived payload) = []
+frames_of Up = []
+frames_of (Took message) = []
+frames_of NothingToTake = []
+frames_of (Refused refusal) = []
+frames_of (Released release) = []
+frames_of (Frame octets) = octets ∷ []
+frames_of Expired = []
+frames_of (UserReleased sub) = []
+frames_of (Passed octets) = []
+frames_of Lost = []
+frames_of Repeated = []
+frames_of Altered = []
+frames_of Inserted = []
+frames_of NothingWaits = []
+frames_of (IsShort found) = []
+
+abbrev pub frames_in : List Outcome → List (List ℕ)
+frames_in outcomes = flat_map frames_of outcomes

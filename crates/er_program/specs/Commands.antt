@@ -1,0 +1,29 @@
+-- The words of the program and the commands that they fit (this profile).
+use Rattle.std.specs.Prelude.{ℕ, if◌then◌else◌, List, [], ◌∷◌, map, String, string_bytes, codes}
+use Rattle.std.specs.Global.{Global}
+use Rattle.std.specs.Str.{bytes_eq}
+
+pub data Command : Type 0 where
+  -- the words fit no command
+  Misused : Command
+  -- `drill SCENARIO`: the file word
+  Drill : (name : List ℕ) → Command
+
+-- words as octets
+abbrev pub texts : List (String Global) → List (List ℕ)
+texts words = map string_bytes words
+
+-- the command that two words fit
+abbrev pub command_of_two : List ℕ → List ℕ → Command
+command_of_two command name = if bytes_eq command (codes "drill") then Drill name else Misused
+
+abbrev pub command_of : List (List ℕ) → Command
+command_of [] = Misused
+command_of (command ∷ []) = Misused
+command_of (command ∷ name ∷ []) = command_of_two command name
+command_of (command ∷ name ∷ more ∷ rest) = Misused
+
+-- the file words of a command, in their order
+abbrev pub names_of : Command → List (List ℕ)
+names_of Misused = []
+names_of (Drill name) = name ∷ []

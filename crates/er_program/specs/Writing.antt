@@ -1,0 +1,204 @@
+-- Representation: what the parts of a run write to the sink, and how they end; no claim rests on it.
+use Rattle.std.specs.Prelude.{◌≡◌, ◌⊎◌, ℕ, ◌≤◌, false, List, [], ◌∷◌, ◌++◌, Option, Some, None, Result, Ok, Err}
+use Rattle.er_base.specs.declared.text_fault.TextFault.{TextFault}
+use Rattle.er_scenario.specs.declared.step.Step.{Step}
+use Rattle.er_scenario.specs.declared.scenario.Scenario.{Scenario}
+use Rattle.er_scenario.specs.Files.{scenario_of}
+use Rattle.er_scenario.specs.Texts.{CanBeRead}
+use Rattle.drill_model.specs.declared.world_fault.WorldFault.{WorldFault}
+use Rattle.drill_model.specs.declared.world_fault.WorldFault.TheVariants.{NoLink, LinkTwice, MomentBack, Overfull, NoMemory}
+use Rattle.drill_model.specs.Worlds.{Plan, plan_of}
+use Rattle.drill_model.specs.Texts.{step_lines}
+use Rattle.er_world.specs.Standing.{KeptWorld, Ran, IsFaultBehind}
+use Rattle.drill_model.specs.Faults.{fault_behind}
+use Rattle.link_trait.specs.Outside.{Grew, GrewPart, Rose}
+use Rattle.link_trait.specs.declared.sink.Failed.{Failed}
+use Rattle.er_program.specs.Commands.{Command, Misused, Drill}
+use Rattle.er_program.specs.LastLines.{usage_line, memory_line}
+use Rattle.er_program.specs.Answers.{Answer, IsAnswer, IsDrillAnswer, IsScenarioAnswer, IsFileAnswer, Files, AreDone, first_steps, lines_of_first, fault_answer}
+use Rattle.er_program.specs.Runs.{Spells}
+use Rattle.er_program.specs.declared.status.Status.{Status}
+use Rattle.er_program.specs.declared.halt.Halt.{Halt}
+use Rattle.er_program.specs.declared.halt.Halt.TheVariants as halt
+use Rattle.er_program.specs.declared.stop.Stop.{Stop}
+use Rattle.er_program.specs.declared.stop.Stop.TheVariants as stop
+
+-- ---- a text, an answer
+
+-- a text was written, or a beginning of it where the sink failed
+abbrev pub Writes : List ℕ → Option (List ℕ) → Option (List ℕ) → ℕ → ℕ → Result (Unit {0}) Failed → Type 0
+Writes text before now f g (Ok done) = Grew before now text × (f ≤ g)
+Writes text before now f g (Err failed) = GrewPart before now text × Rose f g
+
+-- an answer was given: its text was written, or a beginning of it where the sink failed, or nothing where memory ran out
+abbrev pub Gives : Answer → Option (List ℕ) → Option (List ℕ) → ℕ → ℕ → Result Status Stop → Type 0
+Gives a before now f g (Ok s) = (s.0 ≡ a.status) × Grew before now a.text × (f ≤ g)
+Gives a before now f g (Err stop.Sink) = GrewPart before now a.text × Rose f g
+Gives a before now f g (Err (stop.NoMemory want)) = Grew before now [] × (f ≤ g)
+
+-- the fault of a step that isn't done was told; where it is want of memory, nothing was written
+abbrev pub TellsFault : ℕ → WorldFault → Option (List ℕ) → Option (List ℕ) → ℕ → ℕ → Result Status Stop → Type 0
+TellsFault line (NoMemory want) before now f g r = (r ≡ Err (stop.NoMemory want)) × Grew before now [] × (f ≤ g)
+TellsFault line (NoLink n) before now f g r = Gives (fault_answer line (NoLink n)) before now f g r
+TellsFault line (LinkTwice n) before now f g r = Gives (fault_answer line (LinkTwice n)) before now f g r
+TellsFault line (MomentBack was moment) before now f g r = Gives (fault_answer line (MomentBack was moment)) before now f g r
+TellsFault line (Overfull n side most) before now f g r = Gives (fault_answer line (Overfull n side most)) before now f g r
+
+-- ---- one step
+
+-- it was done, behind these steps, and its lines were written
+pub record WentOne (plan : Plan) (done : List Step) (old : KeptWorld) (s : Step) (new : KeptWorld) (before now : Option (List ℕ)) (f g : ℕ) : Type 0 where
+  pub ran : Ran new plan (done ++ s ∷ [])
+  pub none : fault_behind plan done s ≡ None
+  pub plan_is : new.plan ≡ old.plan
+  pub unspent : new.spent ≡ false
+  pub printed : Grew before now (step_lines plan done s)
+  pub later : f ≤ g
+
+-- it was done, and the sink failed in its lines
+pub record FailedOne (plan : Plan) (done : List Step) (s : Step) (before now : Option (List ℕ)) (f g : ℕ) : Type 0 where
+  pub none : fault_behind plan done s ≡ None
+  pub part : GrewPart before now (step_lines plan done s)
+  pub rose : Rose f g
+
+-- it wasn't done, for this fault
+pub record HaltsOne (plan : Plan) (done : List Step) (s : Step) (before now : Option (List ℕ)) (f g : ℕ) (fault : WorldFault) : Type 0 where
+  pub is : IsFaultBehind plan done s fault
+  pub printed : Grew before now []
+  pub later : f ≤ g
+
+abbrev pub StepsOne : Plan → List Step → KeptWorld → Step → KeptWorld → Option (List ℕ) → Option (List ℕ) → ℕ → ℕ → Result (Unit {0}) Halt → Type 0
+StepsOne plan done old s new before now f g (Ok none) = WentOne plan done old s new before now f g
+StepsOne plan done old s new before now f g (Err halt.Sink) = FailedOne plan done s before now f g
+StepsOne plan done old s new before now f g (Err (halt.Fault fault)) = HaltsOne plan done s before now f g fault
+
+-- ---- a drill
+
+-- some first steps were done, their lines were written, and nothing else
+pub record FirstSteps (s : Scenario) (before now : Option (List ℕ)) : Type 0 where
+  pub count : ℕ
+  pub are_done : AreDone s count
+  pub grew : Grew before now (lines_of_first s count)
+
+-- so many steps of a drill were done: where the world stands, and the lines that were written
+pub record Went (s : Scenario) (count : ℕ) (kept : KeptWorld) (before now : Option (List ℕ)) (f g : ℕ) : Type 0 where
+  pub are_done : AreDone s count
+  pub ran : Ran kept (plan_of s) (first_steps s count)
+  pub plan_is : kept.plan ≡ plan_of s
+  pub unspent : kept.spent ≡ false
+  pub printed : Grew before now (lines_of_first s count)
+  pub later : f ≤ g
+
+-- a drill wrote its answer, a beginning of it where the sink failed, or the lines of some first steps where memory ran out
+pub record GaveDrill (s : Scenario) (before now : Option (List ℕ)) (f g status : ℕ) : Type 0 where
+  pub answer : Answer
+  pub is : IsDrillAnswer s answer
+  pub stated : status ≡ answer.status
+  pub printed : Grew before now answer.text
+  pub later : f ≤ g
+
+pub record BrokeDrill (s : Scenario) (before now : Option (List ℕ)) (f g : ℕ) : Type 0 where
+  pub answer : Answer
+  pub is : IsDrillAnswer s answer
+  pub part : GrewPart before now answer.text
+  pub rose : Rose f g
+
+abbrev pub Drills : Scenario → Option (List ℕ) → Option (List ℕ) → ℕ → ℕ → Result Status Stop → Type 0
+Drills s before now f g (Ok status) = GaveDrill s before now f g status.0
+Drills s before now f g (Err stop.Sink) = BrokeDrill s before now f g
+Drills s before now f g (Err (stop.NoMemory want)) = FirstSteps s before now × (f ≤ g)
+
+-- ---- a file
+
+-- what a file spells is in its ranges
+abbrev pub IsReadable : Result Scenario TextFault → Type 0
+IsReadable (Ok s) = CanBeRead s
+IsReadable (Err fault) = Unit {0}
+
+-- lines of first steps, where the file spells a scenario
+abbrev pub WritesFirst : Result Scenario TextFault → Option (List ℕ) → Option (List ℕ) → Type 0
+WritesFirst (Ok s) before now = FirstSteps s before now
+WritesFirst (Err fault) before now = ⊥
+
+-- a file was read and its answer was given; where memory ran out, nothing was written before the first step
+pub record GaveFile (read : Result Scenario TextFault) (before now : Option (List ℕ)) (f g status : ℕ) : Type 0 where
+  pub readable : IsReadable read
+  pub answer : Answer
+  pub is : IsScenarioAnswer read answer
+  pub stated : status ≡ answer.status
+  pub printed : Grew before now answer.text
+  pub later : f ≤ g
+
+pub record BrokeFile (read : Result Scenario TextFault) (before now : Option (List ℕ)) (f g : ℕ) : Type 0 where
+  pub answer : Answer
+  pub is : IsScenarioAnswer read answer
+  pub part : GrewPart before now answer.text
+  pub rose : Rose f g
+
+pub record SpentFile (read : Result Scenario TextFault) (before now : Option (List ℕ)) (f g : ℕ) : Type 0 where
+  pub first : Grew before now [] ⊎ (IsReadable read × WritesFirst read before now)
+  pub later : f ≤ g
+
+abbrev pub EndsFile : Result Scenario TextFault → Option (List ℕ) → Option (List ℕ) → ℕ → ℕ → Result Status Stop → Type 0
+EndsFile read before now f g (Ok s) = GaveFile read before now f g s.0
+EndsFile read before now f g (Err stop.Sink) = BrokeFile read before now f g
+EndsFile read before now f g (Err (stop.NoMemory want)) = SpentFile read before now f g
+
+-- ---- the words
+
+abbrev pub HasReadable : Option (List ℕ) → Type 0
+HasReadable None = Unit {0}
+HasReadable (Some file) = IsReadable (scenario_of file)
+
+-- the answer to a file word, and what its file spells is in its ranges
+pub record IsReadAnswer (name : List ℕ) (files : Files) (c d : ℕ) (a : Answer) : Type 0 where
+  pub answer : IsFileAnswer name files c d a
+  pub readable : HasReadable answer.fetched
+
+abbrev pub IsGiven : Command → Files → ℕ → ℕ → Answer → Type 0
+IsGiven Misused files c d a = a ≡ record { status = 1; text = usage_line }
+IsGiven (Drill name) files c d a = IsReadAnswer name files c d a
+
+-- the words were answered
+pub record Finished (command : Command) (files : Files) (c d : ℕ) (before now : Option (List ℕ)) (f g status : ℕ) : Type 0 where
+  pub answer : Answer
+  pub is : IsGiven command files c d answer
+  pub stated : status ≡ answer.status
+  pub printed : Grew before now answer.text
+  pub later : f ≤ g
+
+-- a write failed
+pub record Broken (command : Command) (files : Files) (c d : ℕ) (before now : Option (List ℕ)) (f g : ℕ) : Type 0 where
+  pub answer : Answer
+  pub is : IsAnswer command files c d answer
+  pub part : GrewPart before now answer.text
+  pub rose : Rose f g
+
+-- the lines of some first steps of the drill that the file spells
+pub record StepsBegun (name : List ℕ) (files : Files) (text : List ℕ) : Type 0 where
+  pub scenario : Scenario
+  pub spells : Spells name files scenario
+  pub readable : CanBeRead scenario
+  pub count : ℕ
+  pub are_done : AreDone scenario count
+  pub is : text ≡ lines_of_first scenario count
+
+abbrev pub IsBegun : Command → Files → List ℕ → Type 0
+IsBegun Misused files text = text ≡ []
+IsBegun (Drill name) files text = (text ≡ []) ⊎ StepsBegun name files text
+
+-- memory ran out
+pub record Exhausted (command : Command) (files : Files) (before now : Option (List ℕ)) (f g : ℕ) : Type 0 where
+  pub text : List ℕ
+  pub first : IsBegun command files text
+  pub printed : Grew before now text
+  pub later : f ≤ g
+
+abbrev pub Ends : Command → Files → ℕ → ℕ → Option (List ℕ) → Option (List ℕ) → ℕ → ℕ → Result Status Stop → Type 0
+Ends command files c d before now f g (Ok s) = Finished command files c d before now f g s.0
+Ends command files c d before now f g (Err stop.Sink) = Broken command files c d before now f g
+Ends command files c d before now f g (Err (stop.NoMemory want)) = Exhausted command files before now f g
+
+-- the last line of a run for which memory didn't suffice: written, or a beginning of it where the sink failed
+abbrev pub Exhausts : Option (List ℕ) → Option (List ℕ) → ℕ → ℕ → Status → Type 0
+Exhausts before now f g s = ((s.0 ≡ 7) × Grew before now memory_line × (f ≤ g)) ⊎ ((s.0 ≡ 5) × GrewPart before now memory_line × Rose f g)

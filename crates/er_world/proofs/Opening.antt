@@ -1,0 +1,90 @@
+-- A link of the code that was just opened stands where that of the model does.
+use Rattle.std.proofs.Common.{◌≡◌, ℕ, ◌-◌, ◌<◌, ◌^◌, ◌==◌, ◌&&◌, nat_le, if◌then◌else◌, Bool, true, false, List, [], refl, sym, ap, ◌∙◌, subst, append-nil, Option, Some, None, arith}
+use mathlib.Core.Path.{fun_ext}
+use Rattle.std.proofs.lemmas.Bool.{le-leb}
+use Rattle.er_base.specs.declared.side.Side.TheVariants.{E}
+use Rattle.des_block.specs.declared.triple_key.TripleKey.{TripleKey}
+use Rattle.er_settings.specs.declared.settings.Settings.{Settings}
+use Rattle.safety_automaton.specs.Keys.{Entry, key_at}
+use Rattle.safe_pair.specs.Openings.{PairOpening, OfFixed, OfKeys, key_for, begun}
+use Rattle.drill_model.specs.Ends.{OfSafe}
+use Rattle.drill_model.specs.Ends as model
+use Rattle.drill_model.specs.Links.{OfPair, joined_pair, opened, give}
+use Rattle.er_world.specs.declared.place.Place.{Place}
+use Rattle.er_world.specs.declared.drill_end.DrillEnd.{DrillEnd}
+use Rattle.er_world.specs.declared.link.Link.{Link as KeptLink}
+use Rattle.er_world.specs.Keys.{entries_of}
+use Rattle.er_world.specs.SafeEnds.{StandsEnd}
+use Rattle.er_world.specs.KeptLinks.{new_link, StandsLink, LinkWent, LinkDoes}
+
+no_key : (b : Bool) (x : Option TripleKey) → x ≡ (if b then x else x)
+no_key true x = refl
+no_key false x = refl
+
+its_key : (b c d : Bool) (kmac : TripleKey) → c ≡ true → d ≡ true
+    → (if (b && c) && d then Some kmac else None) ≡ (if b then Some kmac else None)
+its_key true c d kmac is at = rw (is, at) refl
+its_key false c d kmac is at = refl
+
+-- the one key of a link at a moment of 64 bits
+one_key : (own_engine own_rbc : ℕ) (kr : Option TripleKey) (ke : TripleKey) (ra rb now engine rbc : ℕ) → now < 2 ^ 64
+    → key_at (entries_of own_engine own_rbc kr) now engine rbc ≡ key_for (OfKeys own_engine own_rbc ke kr ra rb) engine rbc
+one_key own_engine own_rbc None ke ra rb now engine rbc bound = no_key ((own_engine == engine) && (own_rbc == rbc)) None
+one_key own_engine own_rbc (Some kmac) ke ra rb now engine rbc bound =
+    let first : nat_le 0 now ≡ true = le-leb 0 now (omega arith) in
+    let last : nat_le now (2 ^ 64 - 1) ≡ true = le-leb now (2 ^ 64 - 1) (omega (arith, bound)) in
+    its_key ((own_engine == engine) && (own_rbc == rbc)) (nat_le 0 now) (nat_le now (2 ^ 64 - 1)) kmac first last
+
+-- a link that was just made
+pub stands_new : (opening : PairOpening) (e r : DrillEnd) (keys : List Entry) (moment : ℕ)
+    → StandsEnd e (OfSafe (begun opening).e) → StandsEnd r (OfSafe (begun opening).r)
+    → ((now : ℕ) → now < 2 ^ 64 → key_at keys now ≡ key_for opening)
+    → StandsLink (new_link e r keys moment) (joined_pair opening moment) []
+stands_new opening e r keys moment of_e of_r found = record {
+  of_e = of_e;
+  of_r = of_r;
+  from_e = refl;
+  from_r = refl;
+  keys = found;
+  moment = refl;
+  holds = record { same = λ key text. refl; of_e = refl; of_r = refl };
+  passes = refl;
+}
+
+no_keys_found : (engine rbc : ℕ) (ke kr : TripleKey) (now : ℕ) → now < 2 ^ 64 → key_at (entries_of engine rbc None) now ≡ key_for (OfFixed engine rbc ke kr)
+no_keys_found engine rbc ke kr now bound = fun_ext (λ e. fun_ext (λ r. refl))
+
+key_found : (engine rbc : ℕ) (ke : TripleKey) (kr : Option TripleKey) (ra rb now : ℕ) → now < 2 ^ 64
+    → key_at (entries_of engine rbc kr) now ≡ key_for (OfKeys engine rbc ke kr ra rb)
+key_found engine rbc ke kr ra rb now bound = fun_ext (λ e. fun_ext (λ r. one_key engine rbc kr ke ra rb now e r bound))
+
+-- two connected ends
+pub opens_fixed : (engine rbc : ℕ) (ke kr : TripleKey) (e r : DrillEnd) (keys : List Entry) (own : ℕ) (link : KeptLink) (settings : Settings) (show : Bool) (n : ℕ) (before : List ℕ)
+    → link ≡ new_link e r keys own
+    → StandsEnd e (OfSafe (begun (OfFixed engine rbc ke kr)).e) → StandsEnd r (OfSafe (begun (OfFixed engine rbc ke kr)).r)
+    → keys ≡ entries_of engine rbc None
+    → (moment : ℕ) → own ≡ moment → LinkWent (opened settings moment (OfPair (OfFixed engine rbc ke kr))) show n [] link before before
+opens_fixed engine rbc ke kr e r keys own link settings show n before is of_e of_r keys_are moment at =
+    rw (is, keys_are, at) record {
+      stands = stands_new (OfFixed engine rbc ke kr) e r (entries_of engine rbc None) moment of_e of_r (no_keys_found engine rbc ke kr);
+      printed = sym (append-nil before);
+    }
+
+-- an engine that calls
+pub opens_called : (engine rbc : ℕ) (ke : TripleKey) (kr : Option TripleKey) (ra rb : ℕ) (e r : DrillEnd) (keys : List Entry) (own : ℕ) (link new : KeptLink)
+    (settings : Settings) (place : Place) (show : Bool) (n : ℕ) (before now : List ℕ)
+    → link ≡ new_link e r keys own
+    → StandsEnd e (OfSafe (begun (OfKeys engine rbc ke kr ra rb)).e) → StandsEnd r (OfSafe (begun (OfKeys engine rbc ke kr ra rb)).r)
+    → keys ≡ entries_of engine rbc kr
+    → place ≡ record { number = n; side = E; show = show }
+    → LinkDoes (λ l. give l place.side model.Start) place.show place.number link new before now
+    → (moment : ℕ) → own ≡ moment → LinkWent (opened settings moment (OfPair (OfKeys engine rbc ke kr ra rb))) show n [] new before now
+opens_called engine rbc ke kr ra rb e r keys own link new settings place show n before now is of_e of_r keys_are there does moment at =
+    let opening : PairOpening = OfKeys engine rbc ke kr ra rb in
+    let made : link ≡ new_link e r (entries_of engine rbc kr) moment =
+    is ∙ ap (λ (k : List Entry). new_link e r k own) keys_are ∙ ap (new_link e r (entries_of engine rbc kr)) at in
+    let stands : StandsLink link (joined_pair opening moment) [] =
+    subst (λ (k : KeptLink). StandsLink k (joined_pair opening moment) []) (sym made)
+    (stands_new opening e r (entries_of engine rbc kr) moment of_e of_r (key_found engine rbc ke kr ra rb)) in
+    let Q : Place → Type 0 = λ p. LinkDoes (λ l. give l p.side model.Start) p.show p.number link new before now in
+    (subst Q there does) (joined_pair opening moment) [] stands

@@ -1,0 +1,202 @@
+-- What an end told, one outcome after the other: what is kept, queued and printed of it.
+use Rattle.std.proofs.Common.{◌≡◌, ℕ, Bool, true, false, not, ◌||◌, ◌&&◌, List, [], ◌∷◌, ◌++◌, map, refl, sym, ap, ◌∙◌, subst, append_assoc, append-nil}
+use Rattle.std.specs.List.{list_any}
+use Rattle.std.proofs.lemmas.List.Folds.{list_any-append}
+use Rattle.std.proofs.lemmas.List.Concat.{flat_map-append}
+use Rattle.er_base.specs.declared.side.Side.{Side}
+use Rattle.er_base.specs.declared.side.Side.TheVariants.{E, R}
+use Rattle.des_block.specs.declared.triple_key.TripleKey.{TripleKey}
+use Rattle.safe_pair.specs.Facts.{Fact, Sent, Sealed, Verified, Connected, Accepted, SideFact, MarkedFact, Sealing, is_sealing, sealings_of, sealings, was_sealed, is_side, is_mistrust, mistrusts, marked_from}
+use Rattle.safe_pair.specs.Marks.{MarksGrow}
+use Rattle.drill_model.specs.Outcomes.{Outcome, OfSafety, Refused, Released, Frame, at_end, facts_at, facts_in, frames_of, frames_in}
+use Rattle.drill_model.specs.Marks.{outcome_forged, marks_behind}
+use Rattle.drill_model.specs.Texts.{outcome_line, link_lines}
+use Rattle.er_world.specs.declared.place.Place.{Place}
+use Rattle.er_world.specs.declared.ledger.Ledger.{Ledger}
+use Rattle.er_world.specs.declared.told.Told.{Told}
+use Rattle.er_world.specs.Tellings.{IsTold, AreTold, told_line, told_frames}
+use Rattle.er_world.specs.Ledgers.{HoldsLedger, mistrusts_of, forged_by, told_pairs, told_mark, Keeps, TellsOne, TellsAll, Telling}
+
+or_false : (a : Bool) → (a || false) ≡ a
+or_false true = refl
+or_false false = refl
+
+and_false : (a : Bool) → (a && false) ≡ false
+and_false true = refl
+and_false false = refl
+
+mistrusts_held : (kept : Ledger) (facts : List MarkedFact) (side : Side) → HoldsLedger kept facts → mistrusts_of kept side ≡ mistrusts side facts
+mistrusts_held kept facts E h = h.of_e
+mistrusts_held kept facts R h = h.of_r
+
+-- what is told of an outcome, and what it is, are kept, queued and printed alike
+record IsRow (kept : Ledger) (before : List MarkedFact) (side : Side) (o : Outcome) (t : Told) : Type 0 where
+  pub pairs : sealings (marked_from before (facts_at side o)) ≡ told_pairs t
+  pub marks : (mine : Side) → list_any (is_mistrust mine) (marked_from before (facts_at side o)) ≡ (is_side mine side && told_mark t (forged_by kept side t))
+  pub frames : frames_of o ≡ told_frames t
+  pub line : (show : Bool) (number : ℕ)
+      → outcome_line show number side o (outcome_forged before side o) ≡ told_line (record { number = number; side = side; show = show }) t (forged_by kept side t)
+
+no_mark : (a b : Bool) → ((a && false) || false) ≡ (b && false)
+no_mark a b = rw (and_false a, and_false b) refl
+
+row_of_fact : (kept : Ledger) (before : List MarkedFact) (side : Side) (fact : Fact) (t : Told) → HoldsLedger kept before → IsTold (OfSafety fact) t
+    → IsRow kept before side (OfSafety fact) t
+row_of_fact kept before side (Sent user key text) t h is = rw is record {
+  pairs = refl;
+  marks = λ mine. no_mark (is_side mine side) (is_side mine side);
+  frames = refl;
+  line = λ show number. refl;
+}
+row_of_fact kept before side (Sealed key text) t h is = rw is record {
+  pairs = refl;
+  marks = λ mine. no_mark (is_side mine side) (is_side mine side);
+  frames = refl;
+  line = λ show number. refl;
+}
+row_of_fact kept before side (Verified heard key text) t h is = rw is record {
+  pairs = refl;
+  marks = λ mine.
+      or_false (is_side mine side && not (was_sealed key text before))
+      ∙ ap (λ (b : Bool). is_side mine side && not b) (sym (h.same key text));
+  frames = refl;
+  line = λ show number. refl;
+}
+row_of_fact kept before side (Connected heard connection text) t h is = rw is record {
+  pairs = refl;
+  marks = λ mine. no_mark (is_side mine side) (is_side mine side);
+  frames = refl;
+  line = λ show number. rw (h.same connection.session text, mistrusts_held kept before side h) refl;
+}
+row_of_fact kept before side (Accepted heard user key text) t h is = rw is record {
+  pairs = refl;
+  marks = λ mine. no_mark (is_side mine side) (is_side mine side);
+  frames = refl;
+  line = λ show number. rw (h.same key text) refl;
+}
+
+row_of : (kept : Ledger) (before : List MarkedFact) (side : Side) (o : Outcome) (t : Told) → HoldsLedger kept before → IsTold o t → IsRow kept before side o t
+row_of kept before side (OfSafety fact) t h is = row_of_fact kept before side fact t h is
+row_of kept before side (Refused refusal) t h is = rw (is.told_is, is.is) record {
+  pairs = refl;
+  marks = λ mine. sym (and_false (is_side mine side));
+  frames = refl;
+  line = λ show number. refl;
+}
+row_of kept before side (Released release) t h is = rw is record {
+  pairs = refl;
+  marks = λ mine. sym (and_false (is_side mine side));
+  frames = refl;
+  line = λ show number. refl;
+}
+row_of kept before side (Frame octets) t h is = rw is record {
+  pairs = refl;
+  marks = λ mine. sym (and_false (is_side mine side));
+  frames = refl;
+  line = λ show number. refl;
+}
+row_of kept before side o t h is = absurd is
+
+-- the pairs that were sealed before, and then
+was_sealed_more : (key : TripleKey) (text : List ℕ) (before more : List MarkedFact)
+    → was_sealed key text (before ++ more) ≡ (was_sealed key text before || list_any (is_sealing key text) (sealings more))
+was_sealed_more key text before more =
+    ap (list_any (is_sealing key text)) (flat_map-append (λ (f : MarkedFact). sealings_of f.fact) before more)
+    ∙ list_any-append (is_sealing key text) (sealings before) (sealings more)
+
+-- what is kept behind one outcome
+holds_more : (kept new : Ledger) (before : List MarkedFact) (side : Side) (o : Outcome) (t : Told) → HoldsLedger kept before
+    → IsRow kept before side o t → Keeps side t (forged_by kept side t) kept new
+    → HoldsLedger new (before ++ marked_from before (facts_at side o))
+holds_more kept new before side o t h row keeps =
+    let more : List MarkedFact = marked_from before (facts_at side o) in
+    record {
+      same = λ key text.
+          keeps.gains.same key text
+          ∙ ap (λ (b : Bool). b || list_any (is_sealing key text) (told_pairs t)) (h.same key text)
+          ∙ ap (λ (xs : List Sealing). was_sealed key text before || list_any (is_sealing key text) xs) (sym row.pairs)
+          ∙ sym (was_sealed_more key text before more);
+      of_e = keeps.of_e
+          ∙ ap (λ (b : Bool). b || (is_side E side && told_mark t (forged_by kept side t))) h.of_e
+          ∙ ap (λ (b : Bool). mistrusts E before || b) (sym (row.marks E))
+          ∙ sym (list_any-append (is_mistrust E) before more);
+      of_r = keeps.of_r
+          ∙ ap (λ (b : Bool). b || (is_side R side && told_mark t (forged_by kept side t))) h.of_r
+          ∙ ap (λ (b : Bool). mistrusts R before || b) (sym (row.marks R))
+          ∙ sym (list_any-append (is_mistrust R) before more);
+    }
+
+-- at the beginning
+pub telling_begins : (place : Place) (facts : List MarkedFact) (outcomes : List Outcome) (list : List Told) (kept : Ledger) (waited : List (List ℕ)) (before : List ℕ)
+    → AreTold outcomes list → HoldsLedger kept facts → Telling place facts outcomes list kept waited waited before before
+telling_begins place facts outcomes list kept waited before are h = record {
+  seen = facts;
+  left = outcomes;
+  told = are;
+  holds = h;
+  marks = refl;
+  queued = refl;
+  printed = refl;
+}
+
+goes_on : MarksGrow → (place : Place) (facts : List MarkedFact) (outcomes : List Outcome) (t : Told) (list : List Told) (kept new : Ledger)
+    (waited waits more : List (List ℕ)) (before between now : List ℕ) (seen : List MarkedFact) (left : List Outcome)
+    → AreTold left (t ∷ list) → HoldsLedger kept seen
+    → seen ++ marked_from seen (facts_in (map (at_end place.side) left)) ≡ facts ++ marked_from facts (facts_in (map (at_end place.side) outcomes))
+    → waits ++ frames_in left ≡ waited ++ frames_in outcomes
+    → between ++ link_lines place.show place.number (marks_behind seen (map (at_end place.side) left))
+    ≡ before ++ link_lines place.show place.number (marks_behind facts (map (at_end place.side) outcomes))
+    → TellsOne place t kept new waits more between now
+    → Telling place facts outcomes list new waited more before now
+goes_on grow place facts outcomes t list kept new waited waits more before between now seen [] are h marks queued printed tells = absurd are
+goes_on grow place facts outcomes t list kept new waited waits more before between now seen (o ∷ left) are h marks queued printed tells =
+    let row : IsRow kept seen place.side o t = row_of kept seen place.side o t h are.0 in
+    let first : List MarkedFact = marked_from seen (facts_at place.side o) in
+    let rest : List SideFact = facts_in (map (at_end place.side) left) in
+    let lines : List ℕ = link_lines place.show place.number (marks_behind (seen ++ first) (map (at_end place.side) left)) in
+    record {
+      seen = seen ++ first;
+      left = left;
+      told = are.1;
+      holds = holds_more kept new seen place.side o t h row tells.keeps;
+      marks = append_assoc seen first (marked_from (seen ++ first) rest)
+          ∙ ap (λ (xs : List MarkedFact). seen ++ xs) (sym (grow seen (facts_at place.side o) rest))
+          ∙ marks;
+      queued = ap (λ (xs : List (List ℕ)). xs ++ frames_in left) (tells.queued ∙ ap (λ (xs : List (List ℕ)). waits ++ xs) (sym row.frames))
+          ∙ append_assoc waits (frames_of o) (frames_in left)
+          ∙ queued;
+      printed = ap (λ (xs : List ℕ). xs ++ lines) (tells.printed ∙ ap (λ (xs : List ℕ). between ++ xs) (sym (row.line place.show place.number)))
+          ∙ append_assoc between (outcome_line place.show place.number place.side o (outcome_forged seen place.side o)) lines
+          ∙ printed;
+    }
+
+-- one thing more
+pub telling_goes_on : MarksGrow → (place : Place) (facts : List MarkedFact) (outcomes : List Outcome) (t : Told) (all list : List Told) (kept new : Ledger)
+    (waited waits more : List (List ℕ)) (before between now : List ℕ)
+    → all ≡ t ∷ list → Telling place facts outcomes all kept waited waits before between
+    → TellsOne place t kept new waits more between now
+    → Telling place facts outcomes list new waited more before now
+telling_goes_on grow place facts outcomes t all list kept new waited waits more before between now is d tells =
+    let are : AreTold d.left (t ∷ list) = subst (AreTold d.left) is d.told in
+    goes_on grow place facts outcomes t list kept new waited waits more before between now d.seen d.left are d.holds d.marks d.queued d.printed tells
+
+none_left : (left : List Outcome) → AreTold left [] → left ≡ []
+none_left [] are = refl
+none_left (o ∷ left) are = absurd are
+
+-- the end
+pub telling_ends : (place : Place) (facts : List MarkedFact) (outcomes : List Outcome) (all : List Told) (kept : Ledger)
+    (waited waits : List (List ℕ)) (before now : List ℕ)
+    → all ≡ [] → Telling place facts outcomes all kept waited waits before now
+    → TellsAll place facts outcomes kept waited waits before now
+telling_ends place facts outcomes all kept waited waits before now is d =
+    let none : d.left ≡ [] = none_left d.left (subst (AreTold d.left) is d.told) in
+    let marks : d.seen ≡ facts ++ marked_from facts (facts_in (map (at_end place.side) outcomes)) =
+    sym (append-nil d.seen) ∙ ap (λ (os : List Outcome). d.seen ++ marked_from d.seen (facts_in (map (at_end place.side) os))) (sym none) ∙ d.marks in
+    record {
+      holds = subst (HoldsLedger kept) marks d.holds;
+      queued = sym (append-nil waits) ∙ ap (λ (os : List Outcome). waits ++ frames_in os) (sym none) ∙ d.queued;
+      printed = sym (append-nil now)
+          ∙ ap (λ (os : List Outcome). now ++ link_lines place.show place.number (marks_behind d.seen (map (at_end place.side) os))) (sym none)
+          ∙ d.printed;
+    }

@@ -1,0 +1,67 @@
+-- Representation: what the code does to the frames that wait in one direction, and what comes of it; no claim rests on it.
+use Rattle.std.specs.Prelude.{ℕ, ◌≡◌, List, [], ◌∷◌, Option, Some, None}
+use Rattle.er_base.specs.declared.side.Side.{Side}
+use Rattle.drill_model.specs.Outcomes.{Outcome, Lost, Repeated, Altered, Inserted, NothingWaits, IsShort}
+use Rattle.drill_model.specs.Waiting.{LineChange, Lose, Repeat, Alter, Put}
+use Rattle.drill_model.specs.Links.{LinkStep, Send, Pass, Change, Take, Release}
+use Rattle.drill_model.specs.Ends.{EndEvent}
+use Rattle.drill_model.specs.Ends as model
+use Rattle.drill_model.specs.Texts.{empty_line, short_line}
+use Rattle.er_world.specs.declared.waiting.Change.{Change as CodeResult}
+use Rattle.er_world.specs.declared.waiting.Change.TheVariants as result
+use Rattle.er_world.specs.declared.action.LineChange.{LineChange as CodeChange}
+use Rattle.er_world.specs.declared.action.LineChange.TheVariants as how
+use Rattle.er_world.specs.declared.action.Action.{Action}
+use Rattle.er_world.specs.declared.action.Action.TheVariants as does
+use Rattle.er_world.specs.declared.end_event.EndEvent.{EndEvent as CodeEvent}
+use Rattle.er_world.specs.declared.end_event.EndEvent.TheVariants as event
+use Rattle.er_world.specs.declared.place.Place.{Place}
+
+-- what came of it
+abbrev pub outcomes_of : CodeResult → List Outcome
+outcomes_of result.Empty = NothingWaits ∷ []
+outcomes_of (result.Short found) = IsShort found ∷ []
+outcomes_of result.Lost = Lost ∷ []
+outcomes_of result.Repeated = Repeated ∷ []
+outcomes_of result.Altered = Altered ∷ []
+outcomes_of result.Inserted = Inserted ∷ []
+outcomes_of result.Unchanged = []
+
+-- its line
+abbrev pub change_line : Place → CodeResult → List ℕ
+change_line place result.Empty = empty_line place.number place.side
+change_line place (result.Short found) = short_line place.number place.side found
+change_line place result.Lost = []
+change_line place result.Repeated = []
+change_line place result.Altered = []
+change_line place result.Inserted = []
+change_line place result.Unchanged = []
+
+-- the first frame and the others
+abbrev pub IsFirst : List (List ℕ) → Option (List ℕ) → List (List ℕ) → Type 0
+IsFirst old None new = (old ≡ []) × (new ≡ [])
+IsFirst old (Some frame) new = old ≡ frame ∷ new
+
+-- a change, as the model has it
+abbrev pub change_of : CodeChange → LineChange
+change_of how.Lose = Lose
+change_of how.Repeat = Repeat
+change_of (how.Alter place mask) = Alter place mask
+change_of (how.Put frame) = Put frame.now
+
+-- what is done at an end, as a step of its link
+abbrev pub action_step : Side → Action → LinkStep
+action_step side (does.Send user) = Send side user.now
+action_step side does.Pass = Pass side
+action_step side (does.Change change) = Change side (change_of change)
+action_step side does.Take = Take side
+action_step side (does.Release sub) = Release side sub
+
+-- what is given to an end
+abbrev pub event_of : CodeEvent → EndEvent
+event_of event.Start = model.Start
+event_of (event.Receive octets) = model.Receive octets.now
+event_of (event.Send octets) = model.Send octets.now
+event_of event.Take = model.Take
+event_of (event.Release sub) = model.Release sub
+event_of event.Tick = model.Tick

@@ -1,0 +1,10 @@
+-- Representation: the one key that the ends of a link of the code can find; no claim rests on it.
+use Rattle.std.specs.Prelude.{ℕ, ◌-◌, ◌^◌, List, [], ◌∷◌, Option, Some, None}
+use Rattle.des_block.specs.declared.triple_key.TripleKey.{TripleKey}
+use Rattle.safety_automaton.specs.Keys.{Entry}
+
+-- the KMAC of an engine and a radio block centre, if there is one, at every moment of 64 bits
+abbrev pub entries_of : (engine rbc : ℕ) → Option TripleKey → List Entry
+entries_of engine rbc None = []
+entries_of engine rbc (Some kmac) =
+    record { engine = engine; rbc = rbc; kmac = kmac; first = 0; last = 2 ^ 64 - 1 } ∷ []

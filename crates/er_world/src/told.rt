@@ -1,0 +1,99 @@
+//! What an end did, as it is marked, printed and queued.
+
+ghost use Rattle.std.specs.Prelude.{◌≡◌, ◌++◌, OnOk};
+ghost use Rattle.er_world.specs.Tellings.{IsNext, told_line, told_frames};
+
+use crate::lines::{print_accepted, print_connected, print_frame, print_refused, print_released};
+use crate::place::Place;
+use crate::waiting::Waiting;
+use des_block::TripleKey;
+use er_base::{NoMemory, Octets, Release};
+use safety_automaton::SealRefused;
+use std::alloc::Global;
+use std::collections::VecDeque;
+
+/// What an end did: one thing that is marked, printed or queued.
+#[derive(Drop)]
+pub enum Told {
+    /// A text was sealed for sending.
+    Sealed {
+        /// The session keys.
+        key: TripleKey,
+        /// The text.
+        text: Octets,
+    },
+    /// A text of the set-up was verified, and the end isn't connected yet.
+    Verified {
+        /// The session keys.
+        key: TripleKey,
+        /// The text.
+        text: Octets,
+    },
+    /// A text of the set-up was verified, and by it the end is connected.
+    Connected {
+        /// The peer's ETCS number.
+        peer: u32,
+        /// The session keys.
+        key: TripleKey,
+        /// The text.
+        text: Octets,
+    },
+    /// A message was accepted.
+    Accepted {
+        /// Its user octets.
+        user: Octets,
+        /// The session keys.
+        key: TripleKey,
+        /// The text that was verified.
+        text: Octets,
+    },
+    /// A send was refused.
+    Refused(SealRefused),
+    /// The connection ended.
+    Released(Release),
+    /// A frame for the peer.
+    Frame(Octets),
+}
+
+/// Takes the first thing that was told.
+pub fn next_told(list: &mut VecDeque<Told>) -> Option<Told>
+    ensures { IsNext list.old.items result list.new.items }
+{
+    list.pop_front()
+}
+
+/// Prints what an end did, where it has a line.
+pub fn print_told(
+    alloc: Global,
+    place: Place,
+    told: &Told,
+    forged: bool,
+    out: &mut Vec<u8>,
+) -> Result<(), NoMemory>
+    ensures { OnOk result (out.new.items ≡ out.old.items ++ told_line place told.now forged) }
+{
+    match told {
+        Told::Sealed { .. } => Ok(()),
+        Told::Verified { .. } => Ok(()),
+        Told::Connected { peer, .. } => print_connected(alloc, place, *peer, forged, out),
+        Told::Accepted { user, .. } => print_accepted(alloc, place, user.as_slice(), forged, out),
+        Told::Refused(refused) => print_refused(alloc, place, refused, out),
+        Told::Released(release) => print_released(alloc, place, release, out),
+        Told::Frame(octets) => print_frame(alloc, place, octets.as_slice(), out),
+    }
+}
+
+/// A frame joins those of its end that wait.
+pub fn queue(told: Told, waiting: &mut Waiting) -> Result<(), NoMemory>
+    ensures { OnOk result (waiting.new ≡ waiting.old ++ told_frames told) }
+{
+    match told {
+        Told::Sealed { .. } => Ok(()),
+        Told::Verified { .. } => Ok(()),
+        Told::Connected { .. } => Ok(()),
+        Told::Accepted { .. } => Ok(()),
+        Told::Refused(_) => Ok(()),
+        Told::Released(_) => Ok(()),
+        Told::Frame(octets) => waiting.push(octets),
+    }
+}

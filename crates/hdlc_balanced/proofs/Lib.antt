@@ -1,0 +1,4 @@
+pub mod Windowed
+pub mod Sends
+pub mod Follow
+pub mod Alikes

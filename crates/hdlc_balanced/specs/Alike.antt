@@ -1,0 +1,77 @@
+-- Representation: the calls as functions of what the code keeps; no claim rests on it. A call is done to the one station of the model that
+-- `model_of` makes of what is kept; that it is the same for every station of the model that the code may keep is a law.
+use Rattle.std.specs.Prelude.{◌≡◌, ℕ, ◌+◌, ◌<◌, ◌≤◌, ◌==◌, false, if◌then◌else◌, List, [], ◌++◌, length, replicate, None}
+use Rattle.er_base.specs.Stored.{Stored}
+use Rattle.hdlc_frames.specs.Framing.{Verdict}
+use Rattle.station_model.specs.Frames.{modulo}
+use Rattle.station_model.specs.Stations.{Station, Deed, no_deed}
+use Rattle.station_model.specs.Calls.{starts, receives, hands, finishes, ticks, closes}
+use Rattle.hdlc_balanced.specs.Kept.{Kept, kept_of, texts}
+
+-- a number of payloads taken that shows V(R)
+abbrev pub taken_number : Kept → ℕ
+taken_number k = if k.begun then (if k.got == 0 then modulo k.extended else k.got) else 0
+
+-- a station of the model that the code keeps so, between two calls: the payloads that are gone are empty ones
+abbrev pub model_of : Kept → Station
+model_of k = record {
+  calling = k.calling;
+  extended = k.extended;
+  window = k.window;
+  n2 = k.n2;
+  t1 = k.t1;
+  phase = k.phase;
+  handed = replicate k.acked [] ++ k.ring;
+  acked = k.acked;
+  sent = k.acked + k.ahead;
+  taken = replicate (taken_number k) [];
+  gap = k.gap;
+  busy = k.busy;
+  owed = k.owed;
+  expiries = k.expiries;
+  timer = k.timer;
+  moment = k.moment;
+  counts = k.counts;
+  released = None;
+  said = [];
+  deed = no_deed;
+}
+
+-- the numbers of a station
+abbrev pub Sound : Station → Type 0
+Sound s = (s.acked ≤ s.sent) × (s.sent ≤ length s.handed)
+
+-- two stations of which the code keeps the same, which sent the same octets in this call and told the same
+abbrev pub Alike : Station → Station → Type 0
+Alike s t =
+    (kept_of s ≡ kept_of t)
+    × Sound s
+    × Sound t
+    × (s.deed ≡ t.deed)
+    × (texts s.calling s.extended s.said ≡ texts t.calling t.extended t.said)
+
+-- each call keeps that
+pub record StepsAlike : Type 0 where
+  pub starts : (now : ℕ) (s t : Station) → Alike s t → Alike (starts now s) (starts now t)
+  pub receives : (now : ℕ) (verdict : Verdict) (s t : Station) → Alike s t → Alike (receives now verdict s) (receives now verdict t)
+  pub hands : (now : ℕ) (payload : List ℕ) (s t : Station) → Alike s t → Alike (hands now payload s) (hands now payload t)
+  pub finishes : (s t : Station) → Alike s t → Alike (finishes s) (finishes t)
+  pub ticks : (now : ℕ) (s t : Station) → Alike s t → Alike (ticks now s) (ticks now t)
+  pub closes : (s t : Station) → Alike s t → Alike (closes s) (closes t)
+
+-- what is kept between two calls is kept of the station that `model_of` makes, and as it is kept of any other
+abbrev pub KeptIsModelled : Type 0
+KeptIsModelled = (s : Station) → Sound s → s.said ≡ [] → s.deed ≡ no_deed → Alike (model_of (kept_of s)) s
+
+-- the ranges of what is kept
+pub record Ranged (k : Kept) : Type 0 where
+  pub small_acked : k.acked < modulo k.extended
+  pub small_got : k.got < modulo k.extended
+  pub none_got : k.begun ≡ false → k.got ≡ 0
+  pub all_sent : k.ahead ≤ length k.ring
+
+-- a call did this to the station that `model_of` makes, and told this
+pub record Does (new : Kept) (out out' : Stored) (told : Deed) (t : Station) : Type 0 where
+  pub kept : new ≡ kept_of t
+  pub text : out'.items ≡ out.items ++ texts new.calling new.extended t.said
+  pub tells : told ≡ t.deed

@@ -1,0 +1,10 @@
+mod Along
+mod Sealings
+mod Honest
+mod Keeping
+mod Talking
+mod Marking
+mod Tallies
+mod Flowing
+mod Stages
+mod SetUp

@@ -1,0 +1,6 @@
+pub mod Facts
+pub mod Openings
+pub mod Talks
+pub mod Authentic
+pub mod Marks
+pub mod Deliveries

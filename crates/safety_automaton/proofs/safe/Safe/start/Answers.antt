@@ -1,0 +1,8 @@
+use Rattle.safety_automaton.specs.Keys.{no_keys}
+use Rattle.safety_automaton.specs.Safety.{ConnectRequest}
+use Rattle.safety_automaton.proofs.Lengths.{few_appended}
+use Rattle.safety_automaton.proofs.safe.Safe.start.Goals as goal
+
+pub returns-clause-sent : goal.returns-clause-sent
+returns-clause-sent c =
+    few_appended _ _ _ 13 c.send_au1.ensures.out (c.lengths.ensures.most no_keys c.args.self.now.safety ConnectRequest)

@@ -1,0 +1,13 @@
+-- Representation: how the code takes the fields behind a header octet; no claim rests on it.
+use Rattle.std.specs.Prelude.{ℕ, ◌≡◌, ◌≤◌, List}
+use Rattle.sapdu.specs.declared.kind.SaKind.{SaKind}
+use Rattle.sapdu.specs.Kinds.{Row}
+use Rattle.sapdu.specs.Spelling.{Pdu, Fits, kind_of, body}
+
+-- these are the octets behind the header of an SaPDU of this kind
+abbrev pub IsBody : SaKind → List ℕ → Pdu → Type 0
+IsBody kind fields pdu = (kind_of pdu ≡ kind) × Fits pdu × (fields ≡ body pdu)
+
+-- a length that a row allows
+abbrev pub IsLong : Row → ℕ → Type 0
+IsLong of found = (of.least ≤ found) × (found ≤ of.greatest)

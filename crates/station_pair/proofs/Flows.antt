@@ -1,0 +1,276 @@
+-- A loss-free line whose stations are both up: one station acts, and what flows keeps its shape.
+use Rattle.std.proofs.Common.{if◌then◌else◌, ◌≡◌, ℕ, zero, suc, ◌+◌, ◌%◌, ◌≤◌, ◌⊎◌, inl, inr, Bool, true, false, not, List, [], ◌∷◌, ◌++◌, length, Option, refl, sym, ◌∙◌, ap, subst, arith, length-append, append_assoc, append-nil, eq-eqb, true≢false}
+use Rattle.std.specs.Prelude.{slice_index_or}
+use Rattle.std.proofs.lemmas.Bool.{cases_Bool, cond_both}
+use Rattle.hdlc_frames.specs.Framing.{Frame as Frame_found}
+use Rattle.hdlc_frames.specs.Laws.{ControlReadsBack}
+use Rattle.station_model.specs.declared.phase.Phase.{Phase}
+use Rattle.station_model.specs.declared.phase.Phase.TheVariants.{Up}
+use Rattle.station_model.specs.Frames.{Frame, Info, Rr, Rej, SetUp, Disc, Dm, Ua, modulo, shown, information, sent_address, sent_body}
+use Rattle.station_model.specs.Stations.{Station, is_down, sees, puts}
+use Rattle.station_model.specs.Sending.{info_at, can_send, waiting, sends_next, sends_up_to, sends_waiting, settles, expires, expires_if_due}
+use Rattle.station_model.specs.Receiving.{acknowledges, acknowledging, accepts, rejects, takes, marks_busy, row, hears}
+use Rattle.station_model.specs.Calls.{hands, finishes, ticks}
+use Rattle.station_pair.specs.Steps.{is_late}
+use Rattle.station_pair.specs.Invariant.{Pair, infos, numbers, marks, info_of, number_of}
+use Rattle.station_pair.proofs.Keeps.{more}
+use Rattle.station_pair.proofs.Rows.{named_is, may_come}
+use Rattle.station_pair.proofs.Hearing.{frame_heard}
+use Rattle.station_pair.proofs.Events.{not_not}
+use Rattle.station_pair.proofs.Lines.{answered}
+
+-- ---- the shape
+
+-- the I frames that wait are low, low + 1, .. up to high - 1
+abbrev pub Consecutive : ℕ → List (ℕ × List ℕ) → ℕ → Type 0
+Consecutive low [] high = low ≡ high
+Consecutive low (f ∷ fs) high = (f.0 ≡ low) × Consecutive (low + 1) fs high
+
+-- the last of these numbers, or low where there is none, is high
+abbrev pub Ends : ℕ → List ℕ → ℕ → Type 0
+Ends low [] high = low ≡ high
+Ends low (x ∷ xs) high = Ends x xs high
+
+-- I frames and RR alone wait
+abbrev pub IsData : Frame → Type 0
+IsData (Info ns nr payload) = Unit {0}
+IsData (Rr nr) = Unit {0}
+IsData (Rej nr) = ⊥
+IsData SetUp = ⊥
+IsData Disc = ⊥
+IsData Dm = ⊥
+IsData (Ua final) = ⊥
+
+abbrev pub AllData : List Frame → Type 0
+AllData [] = Unit {0}
+AllData (f ∷ fs) = IsData f × AllData fs
+
+abbrev pub one_if : Bool → ℕ
+one_if true = 1
+one_if false = 0
+
+-- of what x sends to y: its I frames that wait, and the numbers N(R) that wait from y
+abbrev pub Flow : Bool → List (ℕ × List ℕ) → List ℕ → Station → Station → Type 0
+Flow c waits shows x y =
+    (x.phase ≡ Up)
+    × (x.busy ≡ false)
+    × Consecutive (length y.taken) waits x.sent
+    × (y.owed ≡ false → Ends x.acked shows (length y.taken))
+    × (x.calling ≡ c)
+    × (1 ≤ x.window)
+
+-- every frame that was sent waits or was delivered, once, and an answer that is owed counts as a frame; n is the number of deliveries
+abbrev pub Count : ℕ → List Frame → Station → List Frame → Station → Type 0
+Count n lx x ly y =
+    n + length lx + one_if x.owed + length ly + one_if y.owed ≤ 2 + x.sent + length x.taken + y.sent + length y.taken
+
+abbrev pub Still : Bool → ℕ → List Frame → Station → List Frame → Station → Type 0
+Still c n lx x ly y = Flow c (infos lx) (numbers ly) x y × Flow (not c) (infos ly) (numbers lx) y x × AllData lx × AllData ly × Count n lx x ly y
+
+-- no payload may be sent, or none is left
+abbrev pub Rests : Station → Type 0
+Rests x = (can_send x ≡ false) ⊎ (x.sent ≡ length x.handed)
+
+-- and no answer is owed
+abbrev pub AtRest : Station → Type 0
+AtRest x = (x.owed ≡ false) × Rests x
+
+pub still_swap : (n : ℕ) (lx : List Frame) (x : Station) (ly : List Frame) (y : Station) → Still true n lx x ly y → Still false n ly y lx x
+still_swap n lx x ly y h = (h.1, h.0, h.3, h.2, omega (arith, h.4))
+
+pub still_back : (n : ℕ) (lx : List Frame) (x : Station) (ly : List Frame) (y : Station) → Still false n lx x ly y → Still true n ly y lx x
+still_back n lx x ly y h = (h.1, h.0, h.3, h.2, omega (arith, h.4))
+
+-- ---- one frame more
+
+consecutive_push : (low high : ℕ) (p : List ℕ) (fs : List (ℕ × List ℕ)) → Consecutive low fs high → Consecutive low (fs ++ (high, p) ∷ []) (high + 1)
+consecutive_push low high p [] h = (sym h, ap (λ t. t + 1) h)
+consecutive_push low high p (f ∷ fs) h = (h.0, consecutive_push (low + 1) high p fs h.1)
+
+ends_push : (low high : ℕ) (xs : List ℕ) → Ends low (xs ++ high ∷ []) high
+ends_push low high [] = refl
+ends_push low high (x ∷ xs) = ends_push x high xs
+
+data_push : (l : List Frame) (f : Frame) → AllData l → IsData f → AllData (l ++ f ∷ [])
+data_push [] f h d = (d, tt)
+data_push (g ∷ gs) f h d = (h.0, data_push gs f h.1 d)
+
+length_push : (l : List Frame) (f : Frame) → length (l ++ f ∷ []) ≡ length l + 1
+length_push l f = length-append l (f ∷ [])
+
+-- RR shows V(R), and nothing is owed
+rr_flows : (c : Bool) (n : ℕ) (lx : List Frame) (x : Station) (ly : List Frame) (y : Station) → x.owed ≡ true
+    → Still c n lx x ly y → Still c n (lx ++ Rr (length x.taken) ∷ []) (record x { owed = false }) ly y
+rr_flows c n lx x ly y owed h =
+    let f : Frame = Rr (length x.taken) in
+    let len = length_push lx f in
+    let one : one_if x.owed ≡ 1 = ap one_if owed in (
+      subst (λ i. Flow c i (numbers ly) x y) (sym (more info_of lx f ∙ append-nil (infos lx))) h.0,
+      (h.1.0, h.1.1, h.1.2, λ e. subst (λ ns. Ends y.acked ns (length x.taken)) (sym (more number_of lx f)) (ends_push y.acked (length x.taken) (numbers lx)), h.1.4, h.1.5),
+      data_push lx f h.2 tt,
+      h.3,
+      omega (arith, h.4),
+    )
+
+-- the next I frame
+next_flows : (c : Bool) (n : ℕ) (lx : List Frame) (x : Station) (ly : List Frame) (y : Station)
+    → Still c n lx x ly y → Still c n (lx ++ info_at x x.sent ∷ []) (record x { sent = x.sent + 1; owed = false }) ly y
+next_flows c n lx x ly y h =
+    let f : Frame = info_at x x.sent in
+    let len = length_push lx f in (
+      (
+        h.0.0,
+        h.0.1,
+        subst (λ i. Consecutive (length y.taken) i (x.sent + 1)) (sym (more info_of lx f)) (consecutive_push (length y.taken) x.sent (slice_index_or x.handed x.sent []) (infos lx) h.0.2),
+        h.0.3,
+        h.0.4,
+        h.0.5,
+      ),
+      (h.1.0, h.1.1, h.1.2, λ e. subst (λ ns. Ends y.acked ns (length x.taken)) (sym (more number_of lx f)) (ends_push y.acked (length x.taken) (numbers lx)), h.1.4, h.1.5),
+      data_push lx f h.2 tt,
+      h.3,
+      omega (arith, h.4),
+    )
+
+-- ---- payloads that may be sent are sent, and the owed answer
+
+-- w waited from x before the call
+abbrev pub Within : Bool → ℕ → List Frame → Station → List Frame → Station → Type 0
+Within c n w x l y = Still c n (w ++ x.said) x l y
+
+up_to_flows : (c : Bool) (n : ℕ) (w : List Frame) (m : ℕ) (x : Station) (l : List Frame) (y : Station) → Within c n w x l y → Within c n w (sends_up_to m x) l y
+up_to_flows c n w zero x l y h = h
+up_to_flows c n w (suc m) x l y h =
+    elim (cases_Bool (can_send x)) [
+      | inl can ↦ rw can (up_to_flows c n w m (sends_next x) l y
+          (subst (λ (lx : List Frame). Still c n lx (record x { sent = x.sent + 1; owed = false }) l y) (append_assoc w x.said (info_at x x.sent ∷ [])) (next_flows c n (w ++ x.said) x l y h)))
+      | inr cannot ↦ rw cannot h
+    ]
+
+up_to_rests : (m : ℕ) (x : Station) → x.sent + m ≡ length x.handed → Rests (sends_up_to m x)
+up_to_rests zero x h = inr (omega arith)
+up_to_rests (suc m) x h =
+    elim (cases_Bool (can_send x)) [
+      | inl can ↦ rw can (up_to_rests m (sends_next x) (omega arith))
+      | inr cannot ↦ subst (λ (b : Bool). Rests (if b then sends_up_to m (sends_next x) else x)) (sym cannot) (inl cannot)
+    ]
+
+up_to_handed : (m : ℕ) (x : Station) → (sends_up_to m x).handed ≡ x.handed
+up_to_handed zero x = refl
+up_to_handed (suc m) x = cond_both (can_send x) (sends_up_to m (sends_next x)) x (λ t. t.handed ≡ x.handed) (λ e. up_to_handed m (sends_next x)) (λ e. refl)
+
+-- what the call leaves
+abbrev pub Done : Bool → ℕ → List Frame → List Frame → Station → List (List ℕ) → Station → Type 0
+Done c n w l y handed x = Within c n w x l y × AtRest x × (x.handed ≡ handed)
+
+up_not_down : (p : Phase) → p ≡ Up → is_down p ≡ false
+up_not_down p h = ap is_down h
+
+settles_done : (c : Bool) (n : ℕ) (w : List Frame) (x : Station) (l : List Frame) (y : Station) → Rests x → Within c n w x l y → Done c n w l y x.handed (settles x)
+settles_done c n w x l y rests h =
+    cond_both x.owed (record (puts (Rr (length x.taken)) x) { owed = false }) x (Done c n w l y x.handed)
+    (λ owed. (
+      subst (λ (lx : List Frame). Still c n lx (record x { owed = false }) l y) (append_assoc w x.said (Rr (length x.taken) ∷ [])) (rr_flows c n (w ++ x.said) x l y owed h),
+      (refl, rests),
+      refl,
+    ))
+    (λ owes. (h, (owes, rests), refl))
+
+pub ends_well : (c : Bool) (n : ℕ) (w : List Frame) (x : Station) (l : List Frame) (y : Station) → x.sent ≤ length x.handed
+    → Within c n w x l y → Done c n w l y x.handed (finishes (sends_waiting x))
+ends_well c n w x l y given h =
+    let g = up_to_flows c n w (waiting x) x l y h in
+    let r = up_to_rests (waiting x) x (omega arith) in
+    let e = up_to_handed (waiting x) x in
+    let d = settles_done c n w (sends_waiting x) l y r g in
+    cond_both (is_down (sends_waiting x).phase) (sends_waiting x) (settles (sends_waiting x)) (Done c n w l y x.handed)
+    (λ down. absurd (true≢false (sym down ∙ up_not_down (sends_waiting x).phase g.0.0)))
+    (λ live. (d.0, d.1, d.2 ∙ e))
+
+-- ---- what is heard
+
+-- a frame at a station that isn't released
+pub heard_live : (now : ℕ) (y : Station) (f : Frame) (x : Station) → is_down x.phase ≡ false
+    → answered now y f x ≡ finishes (sends_waiting (hears (Frame_found (sent_address y.calling f) (sent_body y.extended f)) (sees now x)))
+heard_live now y f x live =
+    ap (λ (b : Bool). finishes (if b then x else sends_waiting (hears (Frame_found (sent_address y.calling f) (sent_body y.extended f)) (sees now x)))) live
+
+-- it comes to its row
+pub heard_row : ControlReadsBack → (k : ℕ) (lx : List Frame) (x : Station) (f : Frame) (fs : List Frame) (y : Station) → Pair k lx x (f ∷ fs) y
+    → hears (Frame_found (sent_address y.calling f) (sent_body y.extended f)) x ≡ row x.phase x (shown x.extended f) (information f)
+heard_row law k lx x f fs y h =
+    ap (λ (c : Bool). hears (Frame_found (sent_address c f) (sent_body y.extended f)) x) (not_not x.calling y.calling h.2)
+    ∙ ap (λ (e : Bool). hears (Frame_found (sent_address (not x.calling) f) (sent_body e f)) x) (sym h.3)
+    ∙ frame_heard law x f (may_come k lx x f fs y h)
+
+info_is : ControlReadsBack → (k : ℕ) (lx : List Frame) (x : Station) (m r : ℕ) (p : List ℕ) (fs : List Frame) (y : Station) → x.phase ≡ Up → length x.taken ≡ m
+    → Pair k lx x (Info m r p ∷ fs) y → hears (Frame_found (sent_address y.calling (Info m r p)) (sent_body y.extended (Info m r p))) x ≡ accepts p (acknowledges r x)
+info_is law k lx x m r p fs y up same h =
+    heard_row law k lx x (Info m r p) fs y h
+    ∙ ap (λ (q : Phase). row q x (shown x.extended (Info m r p)) p) up
+    ∙ ap (λ (o : Option ℕ). acknowledging o (takes (m % modulo x.extended) p) x) (named_is k r (infos lx) (marks lx) (numbers fs) x y h.4 h.0)
+    ∙ ap (λ (b : Bool). if b then accepts p (acknowledges r x) else rejects (acknowledges r x))
+    (eq-eqb (length x.taken % modulo x.extended) (m % modulo x.extended) (ap (λ t. t % modulo x.extended) same))
+
+rr_is : ControlReadsBack → (k : ℕ) (lx : List Frame) (x : Station) (r : ℕ) (fs : List Frame) (y : Station) → x.phase ≡ Up
+    → Pair k lx x (Rr r ∷ fs) y → hears (Frame_found (sent_address y.calling (Rr r)) (sent_body y.extended (Rr r))) x ≡ marks_busy false (acknowledges r x)
+rr_is law k lx x r fs y up h =
+    heard_row law k lx x (Rr r) fs y h
+    ∙ ap (λ (q : Phase). row q x (shown x.extended (Rr r)) []) up
+    ∙ ap (λ (o : Option ℕ). acknowledging o (marks_busy false) x) (named_is k r (infos lx) (marks lx) (numbers fs) x y h.4 h.0)
+
+info_flows : (c : Bool) (n : ℕ) (lx : List Frame) (x : Station) (m r : ℕ) (p : List ℕ) (fs : List Frame) (y : Station)
+    → Still c n lx x (Info m r p ∷ fs) y → Still c (n + 1) lx (accepts p (acknowledges r x)) fs y
+info_flows c n lx x m r p fs y h =
+    let len : length (x.taken ++ p ∷ []) ≡ length x.taken + 1 = length-append x.taken (p ∷ []) in (
+      (h.0.0, h.0.1, h.0.2, h.0.3, h.0.4, h.0.5),
+      (h.1.0, h.1.1, subst (λ (j : ℕ). Consecutive j (infos fs) y.sent) (sym len) h.1.2.1, λ e. absurd (true≢false e), h.1.4, h.1.5),
+      h.2,
+      h.3.1,
+      omega (arith, h.4),
+    )
+
+rr_heard_flows : (c : Bool) (n : ℕ) (lx : List Frame) (x : Station) (r : ℕ) (fs : List Frame) (y : Station)
+    → Still c n lx x (Rr r ∷ fs) y → Still c (n + 1) lx (marks_busy false (acknowledges r x)) fs y
+rr_heard_flows c n lx x r fs y h =
+    ((h.0.0, refl, h.0.2, h.0.3, h.0.4, h.0.5), (h.1.0, h.1.1, h.1.2, h.1.3, h.1.4, h.1.5), h.2, h.3.1, omega (arith, h.4))
+
+-- both are up: the first frame of y comes to x
+pub answered_flows : ControlReadsBack → (c : Bool) (n k : ℕ) (w : List Frame) (now : ℕ) (x : Station) (f : Frame) (fs : List Frame) (y : Station)
+    → x.sent ≤ length x.handed → Pair k (w ++ x.said) x (f ∷ fs) y → Within c n w x (f ∷ fs) y → Done c (n + 1) w fs y x.handed (answered now y f x)
+answered_flows law c n k w now x (Info m r p) fs y given h s =
+    let z : Station = sees now x in
+    subst (λ (t : Station). Done c (n + 1) w fs y x.handed t)
+    (sym (heard_live now y (Info m r p) x (up_not_down x.phase s.0.0)
+    ∙ ap (λ t. finishes (sends_waiting t)) (info_is law k (w ++ x.said) z m r p fs y s.0.0 (sym s.1.2.0) h)))
+    (ends_well c (n + 1) w (accepts p (acknowledges r z)) fs y given (info_flows c n (w ++ x.said) z m r p fs y s))
+answered_flows law c n k w now x (Rr r) fs y given h s =
+    let z : Station = sees now x in
+    subst (λ (t : Station). Done c (n + 1) w fs y x.handed t)
+    (sym (heard_live now y (Rr r) x (up_not_down x.phase s.0.0)
+    ∙ ap (λ t. finishes (sends_waiting t)) (rr_is law k (w ++ x.said) z r fs y s.0.0 h)))
+    (ends_well c (n + 1) w (marks_busy false (acknowledges r z)) fs y given (rr_heard_flows c n (w ++ x.said) z r fs y s))
+answered_flows law c n k w now x (Rej r) fs y given h s = absurd s.3.0
+answered_flows law c n k w now x SetUp fs y given h s = absurd s.3.0
+answered_flows law c n k w now x Disc fs y given h s = absurd s.3.0
+answered_flows law c n k w now x Dm fs y given h s = absurd s.3.0
+answered_flows law c n k w now x (Ua final) fs y given h s = absurd s.3.0
+
+-- a payload is handed down
+pub handed_flows : (c : Bool) (n : ℕ) (w : List Frame) (now : ℕ) (p : List ℕ) (x : Station) (l : List Frame) (y : Station)
+    → x.sent ≤ length x.handed → Within c n w x l y → Done c n w l y (x.handed ++ p ∷ []) (finishes (hands now p x))
+handed_flows c n w now p x l y given h =
+    let z : Station = record (sees now x) { handed = x.handed ++ p ∷ [] } in
+    let len : length (x.handed ++ p ∷ []) ≡ length x.handed + 1 = length-append x.handed (p ∷ []) in
+    subst (λ (b : Bool). Done c n w l y (x.handed ++ p ∷ []) (finishes (if b then x else sends_waiting z))) (sym (up_not_down x.phase h.0.0))
+    (ends_well c n w z l y (omega arith) h)
+
+-- T1 isn't expired
+pub not_due : (now : ℕ) (x : Station) → is_late now x ≡ false → expires_if_due (sees now x) ≡ sees now x
+not_due now x late = ap (λ (b : Bool). if b then expires (sees now x) else sees now x) late
+
+pub ticked_flows : (c : Bool) (n : ℕ) (w : List Frame) (now : ℕ) (x : Station) (l : List Frame) (y : Station)
+    → is_late now x ≡ false → x.sent ≤ length x.handed → Within c n w x l y → Done c n w l y x.handed (finishes (ticks now x))
+ticked_flows c n w now x l y late given h =
+    subst (λ (b : Bool). Done c n w l y x.handed (finishes (if b then x else sends_waiting (expires_if_due (sees now x))))) (sym (up_not_down x.phase h.0.0))
+    (subst (λ (t : Station). Done c n w l y x.handed (finishes (sends_waiting t))) (sym (not_due now x late)) (ends_well c n w (sees now x) l y given h))

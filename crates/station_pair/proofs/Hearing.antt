@@ -1,0 +1,142 @@
+-- A frame that a station sent, read by the other one: it comes to the row of its control, with its numbers modulo the modulo.
+use Rattle.std.proofs.Common.{◌≡◌, ◌<◌, ◌≤◌, Bool, true, false, not, length, Some, refl, arith}
+use Rattle.std.proofs.Math.Nat.{mod-lt}
+use Rattle.hdlc_frames.specs.Controls.{control_octets, IsBelow}
+use Rattle.hdlc_frames.specs.ControlOctets.{control_of}
+use Rattle.hdlc_frames.specs.Framing.{Frame as Frame_found}
+use Rattle.hdlc_frames.specs.Laws.{ControlReadsBack}
+use Rattle.station_model.specs.Frames.{Frame, Info, Rr, Rej, SetUp, Disc, Dm, Ua, modulo, shown, poll_final, information, sent_address, table_octets, sent_body}
+use Rattle.station_model.specs.Stations.{Station}
+use Rattle.station_model.specs.Receiving.{is_known_address, is_addressed, is_error, row, hears}
+
+-- the table has octets for each frame
+has_octets : (e : Bool) (f : Frame) → control_octets (modulo e) (shown e f) (poll_final f) ≡ Some (table_octets (control_octets (modulo e) (shown e f) (poll_final f)))
+has_octets true (Info ns nr payload) = refl
+has_octets true (Rr nr) = refl
+has_octets true (Rej nr) = refl
+has_octets true SetUp = refl
+has_octets true Disc = refl
+has_octets true Dm = refl
+has_octets true (Ua final) = refl
+has_octets false (Info ns nr payload) = refl
+has_octets false (Rr nr) = refl
+has_octets false (Rej nr) = refl
+has_octets false SetUp = refl
+has_octets false Disc = refl
+has_octets false Dm = refl
+has_octets false (Ua final) = refl
+
+some_modulo : (e : Bool) → 0 < modulo e
+some_modulo true = omega arith
+some_modulo false = omega arith
+
+is_below : (e : Bool) (f : Frame) → IsBelow (modulo e) (shown e f)
+is_below e (Info ns nr payload) = (mod-lt ns (some_modulo e), mod-lt nr (some_modulo e))
+is_below e (Rr nr) = mod-lt nr (some_modulo e)
+is_below e (Rej nr) = mod-lt nr (some_modulo e)
+is_below true SetUp = tt
+is_below false SetUp = tt
+is_below e Disc = tt
+is_below e Dm = tt
+is_below e (Ua final) = tt
+
+-- what is read of its body
+pub body_reads : ControlReadsBack → (e : Bool) (f : Frame) → control_of (modulo e) (sent_body e f) ≡ Some (shown e f, information f)
+body_reads law e f = law (modulo e) (shown e f) (poll_final f) _ (information f) (is_below e f) (has_octets e f)
+
+known : (c : Bool) (f : Frame) → is_known_address (sent_address c f) ≡ true
+known true (Info ns nr payload) = refl
+known true (Rr nr) = refl
+known true (Rej nr) = refl
+known true SetUp = refl
+known true Disc = refl
+known true Dm = refl
+known true (Ua final) = refl
+known false (Info ns nr payload) = refl
+known false (Rr nr) = refl
+known false (Rej nr) = refl
+known false SetUp = refl
+known false Disc = refl
+known false Dm = refl
+known false (Ua final) = refl
+
+addressed : (c e : Bool) (f : Frame) → is_addressed c (sent_address (not c) f) (shown e f) ≡ true
+addressed true e (Info ns nr payload) = refl
+addressed true e (Rr nr) = refl
+addressed true e (Rej nr) = refl
+addressed true true SetUp = refl
+addressed true false SetUp = refl
+addressed true e Disc = refl
+addressed true e Dm = refl
+addressed true e (Ua final) = refl
+addressed false e (Info ns nr payload) = refl
+addressed false e (Rr nr) = refl
+addressed false e (Rej nr) = refl
+addressed false true SetUp = refl
+addressed false false SetUp = refl
+addressed false e Disc = refl
+addressed false e Dm = refl
+addressed false e (Ua final) = refl
+
+-- the set-up frame comes to called stations alone
+abbrev pub MayCome : Bool → Frame → Type 0
+MayCome c (Info ns nr payload) = Unit {0}
+MayCome c (Rr nr) = Unit {0}
+MayCome c (Rej nr) = Unit {0}
+MayCome c SetUp = c ≡ false
+MayCome c Disc = Unit {0}
+MayCome c Dm = Unit {0}
+MayCome c (Ua final) = Unit {0}
+
+no_error : (c e : Bool) (f : Frame) → MayCome c f → is_error c (shown e f) (information f) ≡ false
+no_error c e (Info ns nr payload) h = refl
+no_error c e (Rr nr) h = refl
+no_error c e (Rej nr) h = refl
+no_error true true SetUp h = absurd cc
+no_error true false SetUp h = absurd cc
+no_error false true SetUp h = refl
+no_error false false SetUp h = refl
+no_error c e Disc h = refl
+no_error c e Dm h = refl
+no_error c e (Ua final) h = refl
+
+pub frame_heard : ControlReadsBack → (x : Station) (f : Frame) → MayCome x.calling f
+    → hears (Frame_found (sent_address (not x.calling) f) (sent_body x.extended f)) x ≡ row x.phase x (shown x.extended f) (information f)
+frame_heard law x f may =
+    rw (known (not x.calling) f, body_reads law x.extended f, addressed x.calling x.extended f, no_error x.calling x.extended f may) refl
+
+-- a body has an octet, and not more than a deframer reads
+body_some : (e : Bool) (f : Frame) → 1 ≤ length (sent_body e f)
+body_some true (Info ns nr payload) = omega arith
+body_some true (Rr nr) = omega arith
+body_some true (Rej nr) = omega arith
+body_some true SetUp = omega arith
+body_some true Disc = omega arith
+body_some true Dm = omega arith
+body_some true (Ua final) = omega arith
+body_some false (Info ns nr payload) = omega arith
+body_some false (Rr nr) = omega arith
+body_some false (Rej nr) = omega arith
+body_some false SetUp = omega arith
+body_some false Disc = omega arith
+body_some false Dm = omega arith
+body_some false (Ua final) = omega arith
+
+body_short : (e : Bool) (f : Frame) → length (information f) ≤ 1026 → length (sent_body e f) ≤ 1029
+body_short true (Info ns nr payload) h = omega arith
+body_short true (Rr nr) h = omega arith
+body_short true (Rej nr) h = omega arith
+body_short true SetUp h = omega arith
+body_short true Disc h = omega arith
+body_short true Dm h = omega arith
+body_short true (Ua final) h = omega arith
+body_short false (Info ns nr payload) h = omega arith
+body_short false (Rr nr) h = omega arith
+body_short false (Rej nr) h = omega arith
+body_short false SetUp h = omega arith
+body_short false Disc h = omega arith
+body_short false Dm h = omega arith
+body_short false (Ua final) h = omega arith
+
+pub body_fits : (e : Bool) (f : Frame) → length (information f) ≤ 1026 → (1 ≤ length (sent_body e f)) × (length (sent_body e f) ≤ 1029)
+body_fits e f h = (body_some e f, body_short e f h)

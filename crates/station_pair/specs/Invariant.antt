@@ -1,0 +1,117 @@
+-- The invariant of a losing line: help for the proofs, no claim rests on it. It speaks of the frames that wait with their absolute numbers.
+use Rattle.std.specs.Prelude.{◌≡◌, ℕ, ◌+◌, ◌≤◌, min, max, Bool, true, false, not, List, [], ◌∷◌, ◌++◌, length, take, slice_index_or}
+use Rattle.std.specs.List.{flat_map}
+use Rattle.station_model.specs.declared.phase.Phase.{Phase}
+use Rattle.station_model.specs.declared.phase.Phase.TheVariants.{Idle, Setting, Up, Down}
+use Rattle.station_model.specs.Frames.{Frame, Info, Rr, Rej, SetUp, Disc, Dm, Ua, modulo}
+use Rattle.station_model.specs.Stations.{Station}
+use Rattle.station_pair.specs.Laws.{IsLosingLineReason}
+
+-- ---- what waits
+
+-- the numbers and payloads of the I frames
+abbrev pub info_of : Frame → List (ℕ × List ℕ)
+info_of (Info ns nr payload) = (ns, payload) ∷ []
+info_of (Rr nr) = []
+info_of (Rej nr) = []
+info_of SetUp = []
+info_of Disc = []
+info_of Dm = []
+info_of (Ua final) = []
+
+abbrev pub infos : List Frame → List (ℕ × List ℕ)
+infos l = flat_map info_of l
+
+-- the numbers N(R)
+abbrev pub number_of : Frame → List ℕ
+number_of (Info ns nr payload) = nr ∷ []
+number_of (Rr nr) = nr ∷ []
+number_of (Rej nr) = nr ∷ []
+number_of SetUp = []
+number_of Disc = []
+number_of Dm = []
+number_of (Ua final) = []
+
+abbrev pub numbers : List Frame → List ℕ
+numbers l = flat_map number_of l
+
+-- the set-up frame has the mark 0, an I frame the mark 1
+abbrev pub mark_of : Frame → List ℕ
+mark_of (Info ns nr payload) = 1 ∷ []
+mark_of (Rr nr) = []
+mark_of (Rej nr) = []
+mark_of SetUp = 0 ∷ []
+mark_of Disc = []
+mark_of Dm = []
+mark_of (Ua final) = []
+
+abbrev pub marks : List Frame → List ℕ
+marks l = flat_map mark_of l
+
+-- ---- one direction: from a sender to a receiver
+
+-- numbers that don't fall, from low up to high
+abbrev pub Climbs : ℕ → List ℕ → ℕ → Type 0
+Climbs low [] high = low ≤ high
+Climbs low (x ∷ xs) high = (low ≤ x) × Climbs x xs high
+
+-- the I frames that wait, the first one first: low is V(R) of the receiver as it will be by then if it takes what it can
+abbrev pub Forward : ℕ → List (List ℕ) → ℕ → List (ℕ × List ℕ) → ℕ → Type 0
+Forward k handed low [] high = low ≤ high
+Forward k handed low (f ∷ fs) high = (low ≤ f.0 + k) × (f.1 ≡ slice_index_or handed f.0 []) × Forward k handed (max low (f.0 + 1)) fs high
+
+-- the sender was handed payloads, V(A) is a and V(S) is s; the receiver took payloads; these I frames wait towards it, and these
+-- numbers N(R) wait towards the sender; k is one below the modulo
+pub record Way (k : ℕ) (handed : List (List ℕ)) (a s : ℕ) (taken : List (List ℕ)) (waits : List (ℕ × List ℕ)) (shows : List ℕ) : Type 0 where
+  pub prefix : taken ≡ take (length taken) handed
+  pub window : s ≤ a + k
+  pub given : s ≤ length handed
+  -- hence V(R) ≤ V(S), each number is below V(S), and V(R) ≤ each number + k
+  pub chain : Forward k handed (length taken) waits s
+  -- hence V(A) ≤ each N(R) ≤ V(R)
+  pub climb : Climbs a shows (length taken)
+
+-- the marks that wait from a sender, by its role: the calling one sends set-up frames, and none behind an I frame; while one waits the
+-- receiver took nothing
+abbrev pub least_mark : Bool → List (List ℕ) → ℕ
+least_mark true taken = min 1 (length taken)
+least_mark false taken = 1
+
+abbrev pub greatest_mark : Bool → ℕ → ℕ
+greatest_mark true sent = min 1 sent
+greatest_mark false sent = 1
+
+-- before it is up a station sent no I frame, and Setting is for the calling one
+abbrev pub Early : Phase → Bool → ℕ → Type 0
+Early Idle calling sent = sent ≡ 0
+Early Setting calling sent = (sent ≡ 0) × (calling ≡ true)
+Early Up calling sent = Unit {0}
+Early Down calling sent = Unit {0}
+
+-- payloads as users hand them down
+abbrev pub AllShort : List (List ℕ) → Type 0
+AllShort [] = Unit {0}
+AllShort (p ∷ ps) = (length p ≤ 1026) × AllShort ps
+
+-- of what x sends to y: the I frames and the marks that wait from x, and the numbers N(R) that wait from y
+abbrev pub Half : ℕ → List (ℕ × List ℕ) → List ℕ → List ℕ → Station → Station → Type 0
+Half k waits from shows x y =
+    Way k x.handed x.acked x.sent y.taken waits shows
+    × Climbs (least_mark x.calling y.taken) from (greatest_mark x.calling x.sent)
+    × Early x.phase x.calling x.sent
+    × (x.window ≤ k)
+    × AllShort x.handed
+    × IsLosingLineReason x.released
+
+-- two stations and what waits between them: lx from x, ly from y
+abbrev pub Pair : ℕ → List Frame → Station → List Frame → Station → Type 0
+Pair k lx x ly y =
+    Half k (infos lx) (marks lx) (numbers ly) x y
+    × Half k (infos ly) (marks ly) (numbers lx) y x
+    × (x.calling ≡ not y.calling)
+    × (x.extended ≡ y.extended)
+    × (k + 1 ≡ modulo x.extended)
+
+-- within a call of x, where w waited from x before it
+abbrev pub Both : ℕ → List Frame → Station → List Frame → Station → Type 0
+Both k w x l y = Pair k (w ++ x.said) x l y

@@ -1,0 +1,74 @@
+-- What holds of two stations over two lines, over every list of steps, at modulo 8 and at modulo 128. A list of steps stands for each
+-- moment of a longer run.
+use Rattle.std.specs.Prelude.{◌≡◌, ◌⊎◌, ℕ, ◌+◌, ◌*◌, ◌<◌, ◌≤◌, Bool, true, false, List, [], length, take, Option, Some, None}
+use Rattle.er_base.specs.declared.release.Release.{Release}
+use Rattle.station_model.specs.declared.phase.Phase.TheVariants.{Up}
+use Rattle.station_model.specs.Frames.{modulo}
+use Rattle.station_pair.specs.Links.{Link, opened}
+use Rattle.station_pair.specs.Steps.{LinkStep, run, drained, is_overfull}
+
+-- how a link is opened: the settings of both stations, with a window from 1 to one below the modulo, and the moment
+pub record Opening : Type 0 where
+  pub extended : Bool
+  pub window : ℕ
+  pub n2 : ℕ
+  pub t1 : ℕ
+  pub moment : ℕ
+  pub some : 1 ≤ window
+  pub below_modulo : window < modulo extended
+
+-- the link behind a list of steps
+abbrev pub after : Opening → List LinkStep → Link
+after s steps = run (opened s.extended s.window s.n2 s.t1 s.moment) steps
+
+abbrev pub IsPrefix : List (List ℕ) → List (List ℕ) → Type 0
+IsPrefix xs ys = xs ≡ take (length xs) ys
+
+-- ---- an order-keeping line: it may lose and repeat
+
+-- what an end took is a prefix of what was handed down at the other
+abbrev pub Prefix : Type 0
+Prefix =
+    (s : Opening) (steps : List LinkStep) → (after s steps).order_kept ≡ true
+    → IsPrefix (after s steps).r.taken (after s steps).e.handed × IsPrefix (after s steps).e.taken (after s steps).r.handed
+
+-- 0.x, the own user; 1.1, the set-up was never answered; 1.2, no progress; 1.4, the peer's DISC, DM or FRMR
+abbrev pub IsLosingLineReason : Option Release → Type 0
+IsLosingLineReason None = Unit {0}
+IsLosingLineReason (Some release) =
+    (release.by_peer ≡ false)
+    × ((release.reason ≡ 0) ⊎ ((release.reason ≡ 1) × ((release.sub ≡ 1) ⊎ (release.sub ≡ 2) ⊎ (release.sub ≡ 4))))
+
+abbrev pub LosingLineReasons : Type 0
+LosingLineReasons =
+    (s : Opening) (steps : List LinkStep) → (after s steps).order_kept ≡ true
+    → IsLosingLineReason (after s steps).e.released × IsLosingLineReason (after s steps).r.released
+
+-- ---- a loss-free line
+
+abbrev pub IsEmpty : Link → Type 0
+IsEmpty l = (l.from_e ≡ []) × (l.from_r ≡ [])
+
+-- the greatest number of deliveries
+abbrev pub bound : Link → ℕ
+bound l = 2 + 2 * (length l.e.handed + length l.r.handed)
+
+-- once it is empty, both stations are up, the called one took all payloads, and the calling one did where it handed down any itself
+abbrev pub Delivery : Type 0
+Delivery =
+    (s : Opening) (steps : List LinkStep) → (after s steps).loss_free ≡ true → IsEmpty (after s steps)
+    → (after s steps).e.phase ≡ Up
+    × (after s steps).r.phase ≡ Up
+    × (after s steps).r.taken ≡ (after s steps).e.handed
+    × (1 ≤ length (after s steps).e.handed → (after s steps).e.taken ≡ (after s steps).r.handed)
+
+abbrev pub DeliveryBound : Type 0
+DeliveryBound =
+    (s : Opening) (steps : List LinkStep) → (after s steps).loss_free ≡ true → (after s steps).passes ≤ bound (after s steps)
+
+-- a drain of as many passes leaves no frame waiting, unless too many wait in one direction
+abbrev pub DrainEmpties : Type 0
+DrainEmpties =
+    (s : Opening) (steps : List LinkStep) (most : ℕ) → (after s steps).loss_free ≡ true → bound (after s steps) ≤ most
+    → is_overfull (drained most (record { link = after s steps; passes = 0 })).link ≡ false
+    → IsEmpty (drained most (record { link = after s steps; passes = 0 })).link

@@ -1,0 +1,4 @@
+pub mod Links
+pub mod Steps
+pub mod Laws
+pub mod Invariant

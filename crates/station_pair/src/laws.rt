@@ -1,0 +1,43 @@
+//! What holds of two stations over two lines, as facts that a caller can cite.
+
+ghost use Rattle.station_pair.specs.Laws.{Prefix, LosingLineReasons, Delivery, DeliveryBound, DrainEmpties};
+
+use hdlc_frames::laws::{control_reads_back, flag_parts, frame_alone};
+
+/// A line that only loses and repeats: what an end took is a prefix of what was handed down at the other.
+pub fn prefix()
+    ensures { Prefix }
+{
+    control_reads_back();
+    flag_parts();
+    frame_alone();
+}
+
+/// A line that only loses and repeats: each release is 0.x, 1.1, 1.2 or 1.4.
+pub fn losing_line_reasons()
+    ensures { LosingLineReasons }
+{
+    control_reads_back();
+    flag_parts();
+    frame_alone();
+}
+
+/// A loss-free line: once it is empty, both stations are up and all was taken.
+pub fn delivery()
+    ensures { Delivery }
+{
+    control_reads_back();
+    flag_parts();
+    frame_alone();
+}
+
+/// A loss-free line: at most two deliveries and two for each payload are ever made, so a drain of as many leaves no
+/// frame waiting.
+pub fn delivery_bound()
+    ensures bound { DeliveryBound }
+    ensures drain { DrainEmpties }
+{
+    control_reads_back();
+    flag_parts();
+    frame_alone();
+}

@@ -1,0 +1,9 @@
+pub mod Segments
+pub mod Tpdus
+pub mod Refusals
+pub mod Transport
+pub mod Kept
+pub mod Resting
+pub mod Waiting
+pub mod Standing
+pub mod Laws

@@ -1,0 +1,570 @@
+ghost use Rattle.std.specs.Prelude.{◌≡◌, ◌≢◌, ◌+◌, ◌<◌, ◌≤◌, [], length, true, false, IfOk, MatchResult, min, is_some, if◌then◌else◌};
+ghost use Rattle.std.specs.Borrow.{sem};
+ghost use Rattle.er_base.specs.Stored.{HasRoom, Appends};
+ghost use Rattle.er_settings.specs.Ranges.{AllAllowed};
+ghost use Rattle.x224_class2.specs.Transport.{is_new, is_called, is_open, is_over, Refused, Data};
+ghost use Rattle.x224_class2.specs.Kept.{kept_made, kept_after_connect, kept_after_accept, kept_after_hand, kept_after_taken, kept_reception, kept_after_next, kept_next_tpdu, octets_next, kept_over, may_be_called, kept_called, may_be_confirmed, kept_confirmed, may_be_disconnected, kept_on_data, kept_is_expected, may_acknowledge, kept_acknowledged, kept_ack, kept_behind, kept_tpdu_at, distance, stage_behind, untaken_behind};
+ghost use Rattle.x224_class2.specs.Refusals.{dr_reason};
+ghost use Rattle.x224_class2.specs.Resting.{deed_of};
+ghost use Rattle.x224_class2.specs.Tpdus as given;
+ghost use Rattle.x224_class2.specs.Tpdus.{octets_given};
+ghost use Rattle.x224_tpdu.specs.Writing.{IsSize};
+ghost use Rattle.er_base.specs.Causes.{release_of};
+
+use crate::deed::{Full, TransportDeed};
+use crate::outgoing::{Outgoing, SLOTS};
+use crate::stage::Stage;
+use arrayvec::ArrayVec;
+use er_base::{Cause, NoMemory, Room};
+use er_settings::Settings;
+use std::alloc::Global;
+use std::marker::Model;
+use x224_tpdu::{TpFault, Tpdu, laws, read, write_into};
+
+// The greatest number of octets of a message.
+const LONGEST: usize = 1_032;
+
+// The references of this profile: that of each side, and the one that isn't known yet.
+const REFERENCE: u16 = 1;
+
+const UNKNOWN: u16 = 0;
+
+// The reason of a DR for a TPDU that breaks a rule of the procedure (ITU-T X.224, 13.5.3).
+const PROTOCOL_ERROR: u8 = 133;
+
+/// One side of a connection of ITU-T X.224 class 2 with explicit flow control.
+///
+/// Contracts see what is kept of it, every number modulo 128; [`crate::laws::standing`] says that this
+/// stands for a side of the transport model, whose lists are whole and whose numbers are absolute. After
+/// a deed `Disconnected` or `Refused` the connection is over: no TPDU changes anything, and none is given.
+/// Only the two makers take memory: room for sixteen messages to be given and one that is received.
+#[derive(Drop)]
+pub struct Transport {
+    is_caller: bool,
+    credit: u8,
+    stage: Stage,
+    size: u16,
+    outgoing: Outgoing,
+    given: u8,
+    acked: u8,
+    edge: u8,
+    received: u8,
+    newest: u8,
+    lasts: ArrayVec<u8, 15>,
+    text: Room,
+    is_whole: bool,
+    due: Option<ArrayVec<u8, 32>>,
+}
+
+impl Model for Transport {
+    ghost use Rattle.std.specs.Prelude.{◌≡◌, [], if◌then◌else◌};
+    ghost use Rattle.std.specs.Option.{option_map};
+    ghost use Rattle.x224_class2.specs.Kept.{Kept};
+    ghost use Rattle.x224_class2.specs.Waiting.{AreInRange, AreNumbers};
+
+    ghost Value = { Kept };
+
+    ghost view = { λ t. record {
+      is_caller = t.is_caller;
+      credit = t.credit;
+      stage = t.stage;
+      size = t.size;
+      waiting = t.outgoing;
+      given = t.given;
+      acked = t.acked;
+      edge = t.edge;
+      received = t.received;
+      newest = t.newest;
+      lasts = t.lasts.items;
+      text = if t.is_whole then [] else t.text.items;
+      due = option_map (λ user. user.items) t.due;
+    } };
+
+    ghost invariant = { λ t. AreInRange t.credit t.size t.given t.acked t.edge t.received t.newest × AreNumbers t.lasts.items × (t.text.capacity ≡ 1032) };
+}
+
+impl Transport {
+    ghost use Rattle.x224_class2.specs.Resting.{Rests};
+
+    /// The side that calls. It proposes the TPDU size of the settings and grants their credit.
+    pub fn caller(alloc: Global, settings: &Settings) -> Result<Transport, NoMemory>
+        requires { AllAllowed settings.now }
+        ensures { IfOk result (λ made. made ≡ kept_made true settings.now) }
+    {
+        Transport::made(alloc, true, settings)
+    }
+
+    /// The side that is called. It answers the least of the proposal, 1,024 and the TPDU size of the settings,
+    /// and grants their credit.
+    pub fn callee(alloc: Global, settings: &Settings) -> Result<Transport, NoMemory>
+        requires { AllAllowed settings.now }
+        ensures { IfOk result (λ made. made ≡ kept_made false settings.now) }
+    {
+        Transport::made(alloc, false, settings)
+    }
+
+    #[tactic(auto, using(crate::proofs::Allowed::credit_most, crate::proofs::Allowed::size_named, crate::proofs::Allowed::size_most))]
+    fn made(alloc: Global, is_caller: bool, settings: &Settings) -> Result<Transport, NoMemory>
+        requires { AllAllowed settings.now }
+        ensures { IfOk result (λ made. made ≡ kept_made is_caller settings.now) }
+    {
+        let outgoing = Outgoing::with_slots(alloc)?;
+        let text = Room::with_capacity(alloc, LONGEST)?;
+        Ok(Transport {
+            is_caller,
+            credit: settings.credit,
+            stage: Stage::New,
+            size: settings.size,
+            outgoing,
+            given: 0,
+            acked: 0,
+            edge: 0,
+            received: 0,
+            newest: 0,
+            lasts: ArrayVec::new(),
+            text,
+            is_whole: false,
+            due: None,
+        })
+    }
+
+    /// The caller, which was just made, connects: a CR with this user data, 1 to 32 octets, is due.
+    pub fn connect(&mut self, user: &[u8])
+        requires caller { self.old.is_caller ≡ true }
+        requires new { is_new self.old.stage ≡ true }
+        requires user { (1 ≤ length user.now) × (length user.now ≤ 32) }
+        ensures { self.new ≡ kept_after_connect self.old user.now }
+    {
+        self.due = Some(user_data(user));
+        self.stage = Stage::Calling;
+    }
+
+    /// The callee, whose last deed was `Called`, accepts: a CC with this user data, 1 to 32 octets, is due.
+    pub fn accept(&mut self, user: &[u8])
+        requires called { is_called self.old.stage ≡ true }
+        requires user { (1 ≤ length user.now) × (length user.now ≤ 32) }
+        ensures { self.new ≡ kept_after_accept self.old user.now }
+    {
+        self.due = Some(user_data(user));
+        self.stage = Stage::Open;
+    }
+
+    /// A TPDU comes: what the layer above must do. Octets are lent from the TPDU or from this side.
+    ///
+    /// `Refused` has the sub-reason of `TpduRefused` with the DR reason 138 for a faulty length or
+    /// parameter, 130 for another class and else 133, for octets that spell no TPDU and for a TPDU that
+    /// isn't expected: another kind, reference or number, a DT at the edge or above the agreed size, an AK
+    /// that names no number that was given or that lowers the edge, a CC above the proposal. It has that
+    /// of `MessageTooLong` with 133 for the DT that makes a message longer than 1,032 octets.
+    #[tactic(auto, using(crate::proofs::Deeds::role_stays, crate::proofs::Deeds::stage_told, crate::proofs::Deeds::untaken_told))]
+    pub fn receive<'a>(&'a mut self, tpdu: &'a [u8]) -> TransportDeed<'a>
+        ensures* after { sem 𝓛 (Rests self.entry (kept_reception self.old tpdu.now).0) }
+        ensures deed { deed_of result ≡ (kept_reception self.old tpdu.now).1 }
+        ensures role { (kept_reception self.old tpdu.now).0.is_caller ≡ self.old.is_caller }
+        ensures stage { (kept_reception self.old tpdu.now).0.stage ≡ stage_behind (deed_of result) self.old.stage }
+        ensures untaken { length (kept_reception self.old tpdu.now).0.lasts ≡ untaken_behind (deed_of result) (length self.old.lasts) }
+    {
+        if self.is_over() {
+            return TransportDeed::Nothing;
+        }
+        laws::writing();
+        match read(tpdu) {
+            Ok(
+                Tpdu::Cr {
+                    credit,
+                    dst,
+                    src,
+                    size,
+                    user,
+                },
+            ) => {
+                if self.request_comes(credit, dst, src, size) {
+                    TransportDeed::Called(user)
+                } else {
+                    refused(Cause::TpduRefused, PROTOCOL_ERROR)
+                }
+            }
+            Ok(
+                Tpdu::Cc {
+                    credit,
+                    dst,
+                    src,
+                    size,
+                    user,
+                },
+            ) => {
+                if self.confirm_comes(credit, dst, src, size) {
+                    TransportDeed::Confirmed(user)
+                } else {
+                    refused(Cause::TpduRefused, PROTOCOL_ERROR)
+                }
+            }
+            Ok(Tpdu::Dr { dst, src, user, .. }) => {
+                if self.disconnect_comes(dst, src) {
+                    TransportDeed::Disconnected(user)
+                } else {
+                    refused(Cause::TpduRefused, PROTOCOL_ERROR)
+                }
+            }
+            Ok(
+                Tpdu::Ak {
+                    credit,
+                    dst,
+                    number,
+                },
+            ) => {
+                if self.acknowledgement_comes(credit, dst, number) {
+                    TransportDeed::Nothing
+                } else {
+                    refused(Cause::TpduRefused, PROTOCOL_ERROR)
+                }
+            }
+            Ok(
+                Tpdu::Dt {
+                    dst,
+                    last,
+                    number,
+                    user,
+                },
+            ) => self.data_comes(dst, last, number, user),
+            Ok(Tpdu::Dc { .. } | Tpdu::Er { .. }) => {
+                self.end();
+                refused(Cause::TpduRefused, PROTOCOL_ERROR)
+            }
+            Err(fault) => {
+                self.end();
+                refused(Cause::TpduRefused, reason_of(fault))
+            }
+        }
+    }
+
+    /// Hands a message, 1 to 1,032 octets, where the connection is made. It waits until its last segment
+    /// was given. Refused exactly where sixteen messages wait.
+    pub fn hand(&mut self, message: &[u8]) -> Result<(), Full>
+        requires open { is_open self.old.stage ≡ true }
+        requires message { (1 ≤ length message.now) × (length message.now ≤ 1032) }
+        ensures { MatchResult result
+            (λ _. (length self.old.waiting < 16) × (self.new ≡ kept_after_hand self.old message.now))
+            (λ full. (length self.old.waiting ≡ 16) × (full.waiting ≡ 16) × (self.new ≡ self.old)) }
+    {
+        let waiting = self.outgoing.len();
+        if waiting == SLOTS {
+            return Err(Full { waiting });
+        }
+        self.outgoing.push(message);
+        Ok(())
+    }
+
+    /// The user took the oldest message that waits to be taken; only that lets its last DT be acknowledged.
+    ///
+    /// A message that no user takes, AU3 or AR, counts as taken at once: whoever gets it as `Message` calls
+    /// this in the same event.
+    pub fn taken(&mut self)
+        requires { 0 < length self.old.lasts }
+        ensures { self.new ≡ kept_after_taken self.old }
+    {
+        self.lasts.remove(0);
+    }
+
+    /// Appends the next TPDU, at most 1,024 octets, and answers whether there was one: the CR or CC that is
+    /// due, else an owed AK with the newest number, else the next segment, where it lies below the edge.
+    pub fn next_tpdu(&mut self, out: &mut Room) -> bool
+        requires { HasRoom out.old 1024 }
+        ensures state { self.new ≡ kept_after_next self.old }
+        ensures wrote { Appends out.old out.new (octets_next (kept_next_tpdu self.old)) }
+        ensures some { result ≡ is_some (kept_next_tpdu self.old) }
+        ensures most { length out.new.items ≤ length out.old.items + 1024 }
+        ensures stage { self.new.stage ≡ self.old.stage }
+        ensures untaken { self.new.lasts ≡ self.old.lasts }
+    {
+        if self.stage == Stage::Over {
+            return false;
+        }
+        if let Some(user) = &self.due {
+            self.write_opening(user.as_slice(), out);
+            self.due = None;
+            return true;
+        }
+        let ack = self.ack();
+        if ack != self.newest {
+            self.newest = ack;
+            self.write_acknowledgement(out);
+            return true;
+        }
+        if self.outgoing.len() == 0 || self.given == self.edge {
+            return false;
+        }
+        self.give_segment(out);
+        true
+    }
+
+    /// How many messages wait to be taken, at most 15.
+    pub fn untaken(&self) -> usize
+        ensures { result ≡ length self.now.lasts }
+    {
+        self.lasts.len()
+    }
+
+    /// How many messages wait for their last segment to be given, at most 16.
+    pub fn waiting(&self) -> usize
+        ensures { result ≡ length self.now.waiting }
+    {
+        self.outgoing.len()
+    }
+
+    fn is_over(&self) -> bool
+        ensures { result ≡ is_over self.now.stage }
+    {
+        self.stage == Stage::Over
+    }
+
+    fn end(&mut self)
+        ensures { self.new ≡ kept_over self.old }
+    {
+        self.stage = Stage::Over;
+    }
+
+    // A CR comes: whether the callee expects it.
+    fn request_comes(&mut self, credit: u8, dst: u16, src: u16, size: u16) -> bool
+        requires credit { credit < 16 }
+        requires size { IsSize size }
+        ensures fit { result ≡ may_be_called self.old dst src }
+        ensures kept { self.new ≡ if result then kept_called self.old credit size else kept_over self.old }
+    {
+        if self.is_caller || self.stage != Stage::New || dst != UNKNOWN || src != REFERENCE {
+            self.stage = Stage::Over;
+            return false;
+        }
+        self.stage = Stage::Called;
+        self.size = agreed_size(size, self.size);
+        self.edge = credit;
+        true
+    }
+
+    // A CC comes: whether the caller expects it.
+    fn confirm_comes(&mut self, credit: u8, dst: u16, src: u16, size: u16) -> bool
+        requires credit { credit < 16 }
+        requires size { IsSize size }
+        ensures fit { result ≡ may_be_confirmed self.old dst src size }
+        ensures kept { self.new ≡ if result then kept_confirmed self.old credit size else kept_over self.old }
+    {
+        if self.stage != Stage::Calling
+            || dst != REFERENCE
+            || src != REFERENCE
+            || size > self.size
+        {
+            self.stage = Stage::Over;
+            return false;
+        }
+        self.stage = Stage::Open;
+        self.size = size;
+        self.edge = credit;
+        true
+    }
+
+    // A DR comes: whether it is expected. In both cases the connection is over.
+    fn disconnect_comes(&mut self, dst: u16, src: u16) -> bool
+        ensures fit { result ≡ may_be_disconnected self.old dst src }
+        ensures kept { self.new ≡ kept_over self.old }
+    {
+        let is_new = self.stage == Stage::New;
+        self.stage = Stage::Over;
+        !is_new && dst == REFERENCE && src == REFERENCE
+    }
+
+    // An AK comes: whether it names a number that was given, and doesn't lower the edge.
+    fn acknowledgement_comes(&mut self, credit: u8, dst: u16, number: u8) -> bool
+        requires credit { credit < 16 }
+        requires number { number < 128 }
+        ensures fit { result ≡ may_acknowledge self.old credit dst number }
+        ensures kept { self.new ≡ if result then kept_acknowledged self.old credit number else kept_over self.old }
+    {
+        let up = distance(self.acked, number);
+        if self.stage != Stage::Open
+            || dst != REFERENCE
+            || up > distance(self.acked, self.given)
+            || up + credit < distance(self.acked, self.edge)
+        {
+            self.stage = Stage::Over;
+            return false;
+        }
+        self.acked = number;
+        self.edge = (number + credit) % 128;
+        true
+    }
+
+    // A DT comes.
+    fn data_comes<'a>(
+        &'a mut self,
+        dst: u16,
+        last: bool,
+        number: u8,
+        user: &'a [u8],
+    ) -> TransportDeed<'a>
+        ensures* after { sem 𝓛 (Rests self.entry (kept_on_data self.old dst last number user.now).0) }
+        ensures deed { deed_of result ≡ (kept_on_data self.old dst last number user.now).1 }
+    {
+        if !self.is_expected(dst, number, user) {
+            self.stage = Stage::Over;
+            return refused(Cause::TpduRefused, PROTOCOL_ERROR);
+        }
+        if self.is_whole {
+            self.text.clear();
+            self.is_whole = false;
+        }
+        if user.len() > self.text.free() {
+            self.stage = Stage::Over;
+            return refused(Cause::MessageTooLong, PROTOCOL_ERROR);
+        }
+        self.text.put(user);
+        let number = self.received;
+        self.received = (number + 1) % 128;
+        if last {
+            self.lasts.push(number);
+            self.is_whole = true;
+            return TransportDeed::Message(self.text.held());
+        }
+        TransportDeed::Nothing
+    }
+
+    // Whether a DT is the expected one, was granted, and has the agreed size.
+    fn is_expected(&self, dst: u16, number: u8, user: &[u8]) -> bool
+        ensures { result ≡ kept_is_expected self.now dst number user.now }
+    {
+        self.stage == Stage::Open
+            && dst == REFERENCE
+            && number == self.received
+            && distance(self.newest, self.received) < self.credit
+            && self.lasts.len() < 15
+            && user.len() <= usize::from(self.size) - 5
+    }
+
+    // The number that an AK would name now.
+    fn ack(&self) -> u8
+        ensures value { result ≡ kept_ack self.now }
+        ensures small { result < 128 }
+    {
+        self.lasts.first().copied().unwrap_or(self.received)
+    }
+
+    fn write_opening(&self, user: &[u8], out: &mut Room)
+        requires user { length user.now ≤ 32 }
+        requires room { HasRoom out.old 1024 }
+        ensures { Appends out.old out.new (octets_given (if self.now.is_caller then given.Cr self.now.credit self.now.size user.now else given.Cc self.now.credit self.now.size user.now)) }
+    {
+        let (credit, size) = (self.credit, self.size);
+        let (dst, src) = (UNKNOWN, REFERENCE);
+        if self.is_caller {
+            write_into(
+                &Tpdu::Cr {
+                    credit,
+                    dst,
+                    src,
+                    size,
+                    user,
+                },
+                out,
+            );
+        } else {
+            write_into(
+                &Tpdu::Cc {
+                    credit,
+                    dst: REFERENCE,
+                    src,
+                    size,
+                    user,
+                },
+                out,
+            );
+        }
+    }
+
+    fn write_acknowledgement(&self, out: &mut Room)
+        requires room { HasRoom out.old 1024 }
+        ensures { Appends out.old out.new (octets_given (given.Ak self.now.credit self.now.newest)) }
+    {
+        let (credit, dst, number) = (self.credit, REFERENCE, self.newest);
+        write_into(
+            &Tpdu::Ak {
+                credit,
+                dst,
+                number,
+            },
+            out,
+        );
+    }
+
+    fn give_segment(&mut self, out: &mut Room)
+        requires some { 0 < length self.old.waiting }
+        requires room { HasRoom out.old 1024 }
+        ensures state { self.new ≡ kept_behind self.old Data }
+        ensures wrote { Appends out.old out.new (octets_next (kept_tpdu_at self.old Data)) }
+    {
+        let dst = REFERENCE;
+        let number = self.given;
+        let left = self.outgoing.first();
+        let longest = usize::from(self.size) - 5;
+        let last = left.len() <= longest;
+        let user = if last { left } else { &left[..longest] };
+        write_into(
+            &Tpdu::Dt {
+                dst,
+                last,
+                number,
+                user,
+            },
+            out,
+        );
+        let octets = user.len();
+        self.outgoing.give(octets);
+        self.given = (number + 1) % 128;
+    }
+}
+
+// How far a number lies above another, modulo 128.
+fn distance(from: u8, to: u8) -> u8
+    requires from { from < 128 }
+    requires to { to < 128 }
+    ensures value { result ≡ distance from to }
+    ensures small { result < 128 }
+{
+    (to + 128 - from) % 128
+}
+
+// The least of a proposed size, 1,024 and the own size.
+fn agreed_size(proposed: u16, own: u16) -> u16
+    requires proposed { IsSize proposed }
+    requires own { IsSize own }
+    ensures value { result ≡ min (min proposed 1024) own }
+    ensures size { IsSize result }
+    ensures most { result ≤ 1024 }
+{
+    proposed.min(1_024).min(own)
+}
+
+fn user_data(user: &[u8]) -> ArrayVec<u8, 32>
+    requires { length user.now ≤ 32 }
+    ensures { result.items ≡ user.now }
+{
+    let mut kept = ArrayVec::new();
+    kept.try_extend_from_slice(user).unwrap();
+    kept
+}
+
+fn refused<'a>(cause: Cause, dr_reason: u8) -> TransportDeed<'a>
+    ensures { deed_of result ≡ Refused (release_of cause).sub dr_reason }
+{
+    let sub = cause.release().sub;
+    TransportDeed::Refused { sub, dr_reason }
+}
+
+fn reason_of(fault: TpFault) -> u8
+    ensures { result ≡ dr_reason fault }
+{
+    match fault {
+        TpFault::Length { .. } | TpFault::Parameter(_) => 138,
+        TpFault::Class(_) => 130,
+        TpFault::Empty | TpFault::Code(_) | TpFault::Value { .. } | TpFault::UserData { .. } =>
+            PROTOCOL_ERROR,
+    }
+}
