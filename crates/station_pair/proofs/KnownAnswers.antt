@@ -2,8 +2,9 @@
 use Rattle.std.proofs.Common.{◌≡◌, ℕ, Bool, true, false, List, [], ◌∷◌, ◌++◌, length, filter, refl}
 use Rattle.bit_lists.specs.LowestFirst.{low_bits, low_number}
 use Rattle.hdlc_fcs.specs.FrameCheck.{fcs_of, fcs_bits, dividend, remainder, divided_once, add_front, sent_bits}
-use Rattle.hdlc_frames.specs.Framing.{unescaped, ends_in_escape, checked_part, check_number, verdict_on_content, verdict_on, cut, all_but_last, between_flags, frames_of}
-use Rattle.hdlc_frames.specs.Spelling.{content_of, escaped_octet, escaped, spelling}
+use Rattle.hdlc_fcs.specs.Contents.{content_of, checked_part, check_number}
+use Rattle.hdlc_frames.specs.Framing.{unescaped, ends_in_escape, verdict_on_content, verdict_on, cut, all_but_last, between_flags, frames_of}
+use Rattle.hdlc_frames.specs.Spelling.{escaped_octet, escaped, spelling}
 use Rattle.hdlc_frames.specs.ControlOctets.{control_of}
 use Rattle.er_base.specs.declared.side.Side.TheVariants.{E, R}
 use Rattle.station_pair.specs.Links.{Came, CameUp, Accepted, WasReleased, Sent, RefusedReleased, RefusedLength, RefusedFull, NothingWaits, IsShort, Drained, Link, opened}
