@@ -1,5 +1,5 @@
 -- A link of level safe that is loss-free so far delivers; and a drain as long as its bound leaves nothing waiting.
-use Rattle.std.proofs.Common.{◌≡◌, ℕ, zero, suc, ◌^◌, ◌+◌, ◌≤◌, ◌<◌, nat_lt, if◌then◌else◌, true, false, Bool, List, [], ◌∷◌, ◌++◌, map, length, refl, sym, ap, ap₂, subst, ◌∙◌, append-nil, arith}
+use Rattle.std.proofs.Common.{◌≡◌, inl, inr, ℕ, zero, suc, ◌^◌, ◌+◌, ◌≤◌, ◌<◌, nat_lt, if◌then◌else◌, true, false, Bool, List, [], ◌∷◌, ◌++◌, map, length, refl, sym, ap, ap₂, subst, ◌∙◌, append-nil, arith}
 use Rattle.std.specs.Prelude.{Option, Some, None}
 use Rattle.std.specs.List.{list_any, AllByRecursion}
 use Rattle.std.proofs.lemmas.Bool.{ltb-false, le-ltb}
@@ -25,9 +25,16 @@ use Rattle.drill_model.specs.Links.{Link, LinkOpening, OfPair, waiting_of, Pass,
 use Rattle.drill_model.specs.Steps.{FitsFields, AllFit}
 use Rattle.drill_model.specs.Worlds.{Plan, fixed_opening, link_opening, wire_opening, link_at, history_on, next_of, next_side, overfull_side, Drain, drain, drain_on, world_run}
 use Rattle.drill_model.specs.Kinds.{sent_by, accepted_by, deliveries, IsLossFree, EndsAgree, bound}
-use Rattle.drill_model.specs.Headline.{IsConnectedEnd, HasAll, IsEmpty, IsDelivered, DeliversAlways}
+use Rattle.drill_model.specs.Headline.{FitsSettings, IsConnectedEnd, HasAll, IsEmpty, IsDelivered, DeliversAlways}
 use Rattle.drill_model.specs.Headline as claim
 use Rattle.drill_model.specs.Growth.{FactsGrow, HistoryGrows, HistoryOfOwn, HistoryOfOther}
+use Rattle.er_settings.specs.Ranges.{AllAllowed}
+use Rattle.er_settings.specs.Laws.{AllowedAreBounded}
+use Rattle.station_pair.specs.Laws.{Delivery, DeliveriesBound, FewWait}
+use Rattle.drill_laws.proofs.Tellings.{StationLaws}
+use Rattle.drill_laws.proofs.Wired.{Either}
+use Rattle.drill_laws.proofs.Losing.{allowed_of}
+use Rattle.drill_laws.proofs.Emptying.{wired_delivers}
 use Rattle.drill_laws.proofs.Worlds.{OpensFit, StepFits, AtPlace, world_lives}
 use Rattle.drill_laws.proofs.Viewing.{IsView, IsFlow, pass_view, FitsLinkStep, FitsLinkOpening, MayFlow, flow_keeps, sent_by_facts, accepted_by_facts}
 
@@ -260,10 +267,21 @@ steps_fit : (grow : FactsGrow) (plan : Plan) (steps : List Step) → AllFit step
 steps_fit grow plan [] fit = tt
 steps_fit grow plan (s ∷ steps) fit = (step_fits grow plan s fit.0, steps_fit grow plan steps fit.1)
 
-pub delivers_always : StepsOnly → FlowsDeliver → FactsGrow → HistoryGrows → HistoryOfOwn → HistoryOfOther → DeliversAlways
-delivers_always only law facts grow own other plan steps fit n l is free =
-    let at : AtPlace (MayFlow facts) (link_at (world_run plan steps).0 n) (history_on n (world_run plan steps).1) =
-    world_lives grow own other plan (FitsLinkOpening facts) (FitsLinkStep facts) (MayFlow facts) (flow_keeps facts plan.settings) steps (steps_fit facts plan steps fit) n in
-    let may : MayFlow facts l (history_on n (world_run plan steps).1) =
-    subst (λ (p : Option Link). AtPlace (MayFlow facts) p (history_on n (world_run plan steps).1)) is at in
-    delivers_at only facts law plan.settings l (history_on n (world_run plan steps).1) may free
+module _ (laws : StationLaws) (delivery : Delivery) (deliveries_bound : DeliveriesBound) (few : FewWait) (bounds : AllowedAreBounded) where
+  -- of two sides, or of two stations
+  delivers_either : (only : StepsOnly) → FlowsDeliver → (grow : FactsGrow) (settings : Settings) (l : Link) (history : List Occurrence) → Either settings (MayFlow grow) l history
+      → FitsSettings settings l.opening → IsLossFree l.opening history → claim.Delivers settings history l
+  delivers_either only law grow settings l history (inl may) fit free = delivers_at only grow law settings l history may free
+  delivers_either only law grow settings l history (inr w) fit free =
+      let allowed : AllAllowed settings = allowed_of settings l w.sees.opening_is fit in
+      wired_delivers laws delivery deliveries_bound few settings allowed (bounds settings allowed) l history w free
+
+  pub delivers_always : StepsOnly → FlowsDeliver → FactsGrow → HistoryGrows → HistoryOfOwn → HistoryOfOther → DeliversAlways
+  delivers_always only law facts grow own other plan steps fit n l is settings_fit free =
+      let history : List Occurrence = history_on n (world_run plan steps).1 in
+      let at : AtPlace (Either plan.settings (MayFlow facts)) (link_at (world_run plan steps).0 n) history =
+      world_lives grow own other plan (FitsLinkOpening facts) (FitsLinkStep facts) (Either plan.settings (MayFlow facts)) (flow_keeps facts laws plan.settings) steps
+      (steps_fit facts plan steps fit) n in
+      let either : Either plan.settings (MayFlow facts) l history =
+      subst (λ (p : Option Link). AtPlace (Either plan.settings (MayFlow facts)) p history) is at in
+      delivers_either only law facts plan.settings l history either settings_fit free

@@ -1,6 +1,11 @@
+mod Tellings
+mod Wiring
+mod Wired
 mod Worlds
 mod Talking
 mod Printing
 mod Viewing
-mod Delivering
 mod Openings
+mod Losing
+mod Emptying
+mod Delivering

@@ -1,18 +1,26 @@
 -- What is printed of a link has the marks by which it is judged, and the lines of one event come in the order of the table.
-use Rattle.std.proofs.Common.{◌≡◌, ℕ, true, false, ◌==◌, inl, inr, List, [], ◌∷◌, ◌++◌, refl, sym, ap, ◌∙◌, append-nil, arith}
+use Rattle.std.proofs.Common.{◌≡◌, ℕ, ◌≤◌, Bool, true, false, ◌==◌, inl, inr, List, [], ◌∷◌, ◌++◌, map, refl, sym, ap, ◌∙◌, append-nil, arith}
 use Rattle.std.specs.Prelude.{Option, Some, None}
-use Rattle.std.specs.List.{flat_map}
-use Rattle.std.proofs.lemmas.Bool.{cases_eq, eq-eqb, ne_eqb}
+use Rattle.std.specs.List.{flat_map, AllByRecursion}
+use Rattle.std.proofs.lemmas.Bool.{cases_eq, eq-eqb, ne_eqb, cond_both}
+use Rattle.er_base.specs.declared.release.Release.{Release}
 use Rattle.des_block.specs.declared.triple_key.TripleKey.{TripleKey}
 use Rattle.safety_automaton.specs.Safety.{Safety, SafetyEvent, SafetyOutcome, SentAu1, SentAu2, SentAu3, SentAr, ReceivedAr, AcceptedDt, SentDt, Refused, ReleasedLocally, ReleasedByPeer, NothingDone, step}
 use Rattle.safe_pair.specs.Facts.{SideFact, MarkedFact, heard_in, marked, marked_from}
 use Rattle.safe_pair.specs.Marks.{MarksGrow}
-use Rattle.drill_model.specs.Outcomes.{Occurrence, facts_at, facts_in}
-use Rattle.drill_model.specs.Ends.{OfSafe, safety_event, outcomes_by, safe_end_step}
+use Rattle.hdlc_frames.specs.Framing.{Verdict}
+use Rattle.station_model.specs.Stations.{Station, settled, is_down}
+use Rattle.station_model.specs.Calls.{starts, receives, hands, finishes, ticks}
+use Rattle.station_pair.specs.Links.{said_octets, news}
+use Rattle.station_pair.specs.Steps.{quits, is_late}
+use Rattle.drill_model.specs.Outcomes.{Outcome, SendRefusal, Frame, Occurrence, facts_at, facts_in}
+use Rattle.drill_model.specs.StationEnds.{if_up, if_arrived, if_released, told_by, called, frames_heard, heard_parts, refusal_of, handed_unless, user_releases, if_expired}
+use Rattle.drill_model.specs.Ends.{OfSafe, OfStation, EndEvent, safety_event, outcomes_by, safe_end_step, station_end_step}
+use Rattle.drill_model.specs.Ends as event
 use Rattle.drill_model.specs.Worlds.{Came, On, Drained, history_at, history_on, facts_on}
 use Rattle.drill_model.specs.Marks.{MarkedOccurrence, MarkedOn, mark_of, marks_behind, mark_came, marks_from}
 use Rattle.drill_model.specs.Texts.{place_of}
-use Rattle.drill_model.specs.Headline.{marks_at, marks_on, PrintedAsMarked, IsRising, LinesInOrder}
+use Rattle.drill_model.specs.Headline.{marks_at, marks_on, PrintedAsMarked, IsRising, station_parts, LinesInOrder}
 use Rattle.drill_model.specs.Growth.{HistoryGrows, FactsGrow}
 
 -- ---- marks
@@ -101,5 +109,66 @@ rising_safe : (key_of : ℕ → ℕ → Option TripleKey) (s : Safety) (event : 
 rising_safe key_of s None = tt
 rising_safe key_of s (Some event) = rising_outcomes (heard_in event) (step key_of s event).1
 
+-- frames alone, behind a line of the table
+rising_frames : (n : ℕ) (frames : List (List ℕ)) → n ≤ 7 → IsRising (n ∷ flat_map place_of (map Frame frames))
+rising_frames n [] small = tt
+rising_frames n (f ∷ frames) small = (small, rising_frames 7 frames (omega arith))
+
+only_frames : (frames : List (List ℕ)) → IsRising (flat_map place_of (map Frame frames))
+only_frames [] = tt
+only_frames (f ∷ frames) = rising_frames 7 frames (omega arith)
+
+-- what a call of a station told
+rising_deed : (up : Bool) (payload : Option (List ℕ)) (released : Option Release) (frames : List (List ℕ))
+    → IsRising (flat_map place_of (((if_up up ++ if_arrived payload) ++ if_released released) ++ map Frame frames))
+rising_deed true (Some p) (Some release) frames = (omega arith, (omega arith, rising_frames 6 frames (omega arith)))
+rising_deed true (Some p) None frames = (omega arith, rising_frames 3 frames (omega arith))
+rising_deed true None (Some release) frames = (omega arith, rising_frames 6 frames (omega arith))
+rising_deed true None None frames = rising_frames 1 frames (omega arith)
+rising_deed false (Some p) (Some release) frames = (omega arith, rising_frames 6 frames (omega arith))
+rising_deed false (Some p) None frames = rising_frames 3 frames (omega arith)
+rising_deed false None (Some release) frames = rising_frames 6 frames (omega arith)
+rising_deed false None None frames = only_frames frames
+
+rising_told : (t : Station) → IsRising (flat_map place_of (told_by t))
+rising_told t = rising_deed t.deed.up t.deed.payload t.deed.released (said_octets t)
+
+rising_sends : (refusal : Option SendRefusal) (moment : ℕ) (payload : List ℕ) (s : Station) → IsRising (flat_map place_of (handed_unless refusal moment payload s).1)
+rising_sends (Some refusal) moment payload s = tt
+rising_sends None moment payload s = rising_told (finishes (hands moment payload s))
+
+rising_expired : (late : Bool) (t : Station) → IsRising (flat_map place_of (if_expired late ++ told_by t))
+rising_expired true t = rising_told t
+rising_expired false t = rising_told t
+
+rising_releases : (sub : ℕ) (s : Station) → IsRising (flat_map place_of (user_releases sub s).1)
+rising_releases sub s =
+    cond_both (is_down s.phase) (s, []) (called (quits sub s)) (λ (a : Station × List Outcome). IsRising (flat_map place_of a.1)) (λ e. tt) (λ e. rising_told (quits sub s))
+
+parts_are : (moment : ℕ) (verdicts : List Verdict) (s : Station) → flat_map (λ (part : List Outcome). part) (heard_parts moment verdicts s) ≡ (frames_heard moment verdicts s).1
+parts_are moment [] s = refl
+parts_are moment (v ∷ vs) s =
+    let t : Station = finishes (receives moment v s) in
+    ap (λ (xs : List Outcome). told_by t ++ xs) (parts_are moment vs (settled t))
+
+rising_parts : (moment : ℕ) (verdicts : List Verdict) (s : Station) → AllByRecursion (λ part. IsRising (flat_map place_of part)) (heard_parts moment verdicts s)
+rising_parts moment [] s = tt
+rising_parts moment (v ∷ vs) s = let t : Station = finishes (receives moment v s) in (rising_told t, rising_parts moment vs (settled t))
+
+abbrev IsOrdered : List (List Outcome) → List Outcome → Type 0
+IsOrdered parts outcomes = (flat_map (λ (part : List Outcome). part) parts ≡ outcomes) × AllByRecursion (λ part. IsRising (flat_map place_of part)) parts
+
+one_part : (outcomes : List Outcome) → IsRising (flat_map place_of outcomes) → IsOrdered (outcomes ∷ []) outcomes
+one_part outcomes rising = (append-nil outcomes, (rising, tt))
+
+ordered_station : (moment : ℕ) (s : Station) (stream : List ℕ) (event : EndEvent) → IsOrdered (station_parts moment s stream event) (station_end_step moment s stream event).1
+ordered_station moment s stream event.Start = one_part _ (rising_told (finishes (starts moment s)))
+ordered_station moment s stream (event.Receive octets) = (parts_are moment (news stream octets) s, rising_parts moment (news stream octets) s)
+ordered_station moment s stream (event.Send payload) = one_part _ (rising_sends (refusal_of s payload s.released) moment payload s)
+ordered_station moment s stream event.Take = one_part [] tt
+ordered_station moment s stream (event.Release sub) = one_part _ (rising_releases sub s)
+ordered_station moment s stream event.Tick = one_part _ (rising_expired (is_late moment s) (finishes (ticks moment s)))
+
 pub lines_in_order : LinesInOrder
-lines_in_order key_of moment (OfSafe s) event = rising_safe key_of s (safety_event event)
+lines_in_order key_of moment (OfSafe s) event = one_part _ (rising_safe key_of s (safety_event event))
+lines_in_order key_of moment (OfStation s stream) event = ordered_station moment s stream event

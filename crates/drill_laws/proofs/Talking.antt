@@ -1,5 +1,5 @@
 -- A link of level safe is two sides that talk: whatever its steps, what comes of them is authentic.
-use Rattle.std.proofs.Common.{◌≡◌, ℕ, ◌==◌, nat_lt, not, if◌then◌else◌, length, true, false, Bool, List, [], ◌∷◌, ◌++◌, map, refl, sym, ap, subst, ◌∙◌, append-nil, append_assoc}
+use Rattle.std.proofs.Common.{◌≡◌, ℕ, max, inl, inr, ◌==◌, nat_lt, not, if◌then◌else◌, length, true, false, Bool, List, [], ◌∷◌, ◌++◌, map, refl, sym, ap, subst, ◌∙◌, append-nil, append_assoc}
 use Rattle.std.specs.Prelude.{Option, Some, None}
 use Rattle.std.specs.List.{AllByRecursion}
 use Rattle.er_base.specs.declared.side.Side.{Side}
@@ -17,10 +17,12 @@ use Rattle.drill_model.specs.Outcomes.{Outcome, NothingWaits, IsShort, Altered, 
 use Rattle.drill_model.specs.Ends.{End, OfSafe, EndEvent, Start, safety_event, outcomes_by, safe_end_step, end_step}
 use Rattle.drill_model.specs.Ends as event
 use Rattle.drill_model.specs.Waiting.{LineChange, Lose, Repeat, Alter, Put, altered, changes}
-use Rattle.drill_model.specs.Links.{Link, LinkOpening, OfPair, waiting_of, with_waiting, answered, give, joined_pair, opened, LinkStep, Send, Pass, Change, Take, Release, Tick, pass, link_step}
-use Rattle.drill_model.specs.Worlds.{Plan, fixed_opening, link_opening, wire_opening}
+use Rattle.drill_model.specs.Links.{Link, LinkOpening, OfPair, OfStations, waiting_of, with_waiting, answered, give, joined_pair, opened_pair, opened, LinkStep, Send, Pass, Change, Take, Release, Tick, pass, link_step}
+use Rattle.drill_model.specs.Worlds.{Plan, fixed_opening, link_opening, wire_opening, link_at, history_on, world_run}
 use Rattle.drill_model.specs.Headline.{LawfulAt, LawfulAlways}
 use Rattle.drill_model.specs.Growth.{HistoryGrows, HistoryOfOwn, HistoryOfOther, FactsGrow}
+use Rattle.drill_laws.proofs.Tellings.{StationLaws}
+use Rattle.drill_laws.proofs.Wired.{Either, wired_opens, wired_steps}
 use Rattle.drill_laws.proofs.Worlds.{OpensFit, StepFits, AtPlace, Keeps, world_lives}
 
 -- the ends of a link are these two sides of its opening, which said so much
@@ -171,7 +173,7 @@ module _ (grow : FactsGrow) where
   step_talks l history (Take side) t = give_talks l history side event.Take t
   step_talks l history (Release side sub) t = onto_talks l history (at_end side (UserReleased sub) ∷ []) side (event.Release sub) refl t
   step_talks l history (Tick moment) t =
-      let m : Link = record l { moment = moment } in
+      let m : Link = record l { moment = max l.moment moment } in
       let now : IsTalk m history = record { opening = t.opening; pair = t.pair; opening_is = t.opening_is; e_is = t.e_is; r_is = t.r_is; talks = t.talks } in
       let a : Link × List Occurrence = give m E event.Tick in
       let b : Link × List Occurrence = give a.0 R event.Tick in
@@ -181,21 +183,30 @@ module _ (grow : FactsGrow) where
   joined_talks : (opening : PairOpening) (moment : ℕ) → IsTalk (joined_pair opening moment) []
   joined_talks opening moment = record { opening = opening; pair = begun opening; opening_is = refl; e_is = refl; r_is = refl; talks = Begins }
 
-  opened_talks : (settings : Settings) (moment : ℕ) (opening : LinkOpening) → IsTalk (opened settings moment opening).0 (opened settings moment opening).1
-  opened_talks settings moment (OfPair (OfFixed engine rbc ke kr)) = joined_talks (OfFixed engine rbc ke kr) moment
-  opened_talks settings moment (OfPair (OfKeys engine rbc ke kr ra rb)) =
+  opened_talks : (opening : PairOpening) (moment : ℕ) → IsTalk (opened_pair opening moment).0 (opened_pair opening moment).1
+  opened_talks (OfFixed engine rbc ke kr) moment = joined_talks (OfFixed engine rbc ke kr) moment
+  opened_talks (OfKeys engine rbc ke kr ra rb) moment =
       give_talks (joined_pair (OfKeys engine rbc ke kr ra rb) moment) [] E Start (joined_talks (OfKeys engine rbc ke kr ra rb) moment)
 
-  talks_keep : (settings : Settings) → Keeps settings (λ o. Unit {0}) (λ s. Unit {0}) IsTalk
-  talks_keep settings =
-      record { opens = λ moment opening fit. opened_talks settings moment opening; steps = λ l history s fit t. step_talks l history s t; others = λ s none. tt }
+  module _ (laws : StationLaws) (settings : Settings) where
+    opens_lawfully : (moment : ℕ) (opening : LinkOpening) → Either settings IsTalk (opened settings moment opening).0 (opened settings moment opening).1
+    opens_lawfully moment (OfPair opening) = inl (opened_talks opening moment)
+    opens_lawfully moment OfStations = inr (wired_opens laws settings moment)
+
+    talks_keep : Keeps settings (λ o. Unit {0}) (λ s. Unit {0}) (Either settings IsTalk)
+    talks_keep =
+        record {
+          opens = λ moment opening fit. opens_lawfully moment opening;
+          steps = λ l history s fit h. elim h [ inl t ↦ inl (step_talks l history s t) | inr w ↦ inr (wired_steps laws settings l history s w) ];
+          others = λ s none. tt;
+        }
 
 -- without any premise on a step
-any_opening : (o : Option LinkOpening) → OpensFit (λ x. Unit {0}) o
+pub any_opening : (o : Option LinkOpening) → OpensFit (λ x. Unit {0}) o
 any_opening None = tt
 any_opening (Some opening) = tt
 
-any_step : (plan : Plan) (s : Step) → StepFits (λ x. Unit {0}) (λ x. Unit {0}) plan s
+pub any_step : (plan : Plan) (s : Step) → StepFits (λ x. Unit {0}) (λ x. Unit {0}) plan s
 any_step plan (does.Fixed n engine rbc ke kr) = any_opening (fixed_opening plan.level engine rbc ke kr)
 any_step plan (does.Link n engine rbc ke kr ra rb) = any_opening (link_opening plan.level engine rbc ke kr ra rb)
 any_step plan (does.Wire n) = any_opening (wire_opening plan.level)
@@ -211,16 +222,20 @@ any_step plan (does.Release n s sub) = tt
 any_step plan (does.Tick moment) = tt
 any_step plan (does.Drain n most) = tt
 
-any_steps : (plan : Plan) (steps : List Step) → AllByRecursion (StepFits (λ x. Unit {0}) (λ x. Unit {0}) plan) steps
+pub any_steps : (plan : Plan) (steps : List Step) → AllByRecursion (StepFits (λ x. Unit {0}) (λ x. Unit {0}) plan) steps
 any_steps plan [] = tt
 any_steps plan (s ∷ steps) = (any_step plan s, any_steps plan steps)
 
-lawful_at : TalksAreAuthentic → (place : Option Link) (history : List Occurrence) → AtPlace IsTalk place history → LawfulAt place history
-lawful_at law None history none = none
-lawful_at law (Some l) history t = rw t.opening_is (law t.opening (facts_in history) t.pair t.talks)
+-- each link of a world is of two sides that talk, or of two stations
+pub world_stands : StationLaws → FactsGrow → HistoryGrows → HistoryOfOwn → HistoryOfOther → (plan : Plan) (steps : List Step) (n : ℕ)
+    → AtPlace (Either plan.settings IsTalk) (link_at (world_run plan steps).0 n) (history_on n (world_run plan steps).1)
+world_stands laws facts grow own other plan steps n =
+    world_lives grow own other plan (λ x. Unit {0}) (λ x. Unit {0}) (Either plan.settings IsTalk) (talks_keep facts laws plan.settings) steps (any_steps plan steps) n
 
-pub lawful_always : TalksAreAuthentic → FactsGrow → HistoryGrows → HistoryOfOwn → HistoryOfOther → LawfulAlways
-lawful_always law facts grow own other plan steps n =
-    lawful_at law _ _ (
-    world_lives grow own other plan (λ x. Unit {0}) (λ x. Unit {0}) IsTalk (talks_keep facts plan.settings) steps (any_steps plan steps) n
-    )
+lawful_at : TalksAreAuthentic → (settings : Settings) (place : Option Link) (history : List Occurrence) → AtPlace (Either settings IsTalk) place history → LawfulAt place history
+lawful_at law settings None history none = none
+lawful_at law settings (Some l) history (inl t) = rw t.opening_is (law t.opening (facts_in history) t.pair t.talks)
+lawful_at law settings (Some l) history (inr w) = rw w.sees.opening_is w.sees.facts
+
+pub lawful_always : StationLaws → TalksAreAuthentic → FactsGrow → HistoryGrows → HistoryOfOwn → HistoryOfOther → LawfulAlways
+lawful_always laws law facts grow own other plan steps n = lawful_at law plan.settings _ _ (world_stands laws facts grow own other plan steps n)

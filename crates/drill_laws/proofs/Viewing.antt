@@ -1,5 +1,5 @@
 -- A link of level safe, while nothing disturbs it, as two sides whose SaPDUs come to each other in order.
-use Rattle.std.proofs.Common.{◌≡◌, ℕ, ◌+◌, ◌==◌, nat_lt, not, if◌then◌else◌, true, false, Bool, List, [], ◌∷◌, ◌++◌, map, length, refl, sym, ap, ap₂, subst, ◌∙◌, append-nil, append_assoc, length-append, arith}
+use Rattle.std.proofs.Common.{◌≡◌, ℕ, max, inl, inr, ◌+◌, ◌==◌, nat_lt, not, if◌then◌else◌, true, false, Bool, List, [], ◌∷◌, ◌++◌, map, length, refl, sym, ap, ap₂, subst, ◌∙◌, append-nil, append_assoc, arith}
 use Rattle.std.specs.Prelude.{Option, Some, None}
 use Rattle.std.specs.List.{flat_map, AllByRecursion}
 use Rattle.std.proofs.lemmas.Bool.{or_parts}
@@ -20,9 +20,12 @@ use Rattle.drill_model.specs.Outcomes.{Outcome, OfSafety, Handed, Arrived, Passe
 use Rattle.drill_model.specs.Ends.{End, OfSafe, EndEvent, Start, safety_event, outcomes_by, safe_end_step, end_step}
 use Rattle.drill_model.specs.Ends as event
 use Rattle.drill_model.specs.Waiting.{LineChange, Lose, Repeat, Alter, Put, altered, changes}
-use Rattle.drill_model.specs.Links.{Link, LinkOpening, OfPair, waiting_of, with_waiting, answered, give, joined_pair, opened, LinkStep, Send, Pass, Change, Take, Release, Tick, pass, change_waiting, link_step}
-use Rattle.drill_model.specs.Kinds.{sent_in, accepted_in, sent_by, accepted_by, passed_in, deliveries, is_disturbance, is_disturbed}
+use Rattle.drill_model.specs.Links.{Link, LinkOpening, OfPair, OfStations, waiting_of, with_waiting, answered, give, joined_pair, opened_pair, opened, LinkStep, Send, Pass, Change, Take, Release, Tick, pass, change_waiting, link_step}
+use Rattle.drill_model.specs.Kinds.{sent_in, accepted_in, sent_by, accepted_by, deliveries, is_disturbance, is_disturbed}
 use Rattle.drill_model.specs.Growth.{FactsGrow}
+use Rattle.drill_laws.proofs.Tellings.{StationLaws}
+use Rattle.drill_laws.proofs.Wiring.{deliveries_grow}
+use Rattle.drill_laws.proofs.Wired.{Either, wired_opens, wired_steps}
 use Rattle.drill_laws.proofs.Worlds.{IsNoSend, Keeps}
 use Rattle.drill_laws.proofs.Talking.{facts_among}
 
@@ -125,11 +128,6 @@ none_passed side heard (Refused refusal) = refl
 none_passed side heard (ReleasedLocally release octets) = refl
 none_passed side heard (ReleasedByPeer release) = refl
 none_passed side heard NothingDone = refl
-
-deliveries_grow : (history more : List Occurrence) → deliveries (history ++ more) ≡ deliveries history + deliveries more
-deliveries_grow history more =
-    ap length (flat_map-append (λ (o : Occurrence). passed_in o.outcome) history more)
-    ∙ length-append (flat_map (λ (o : Occurrence). passed_in o.outcome) history) (flat_map (λ (o : Occurrence). passed_in o.outcome) more)
 
 -- ---- a link and what came at it, seen as two sides
 
@@ -418,20 +416,20 @@ module _ (grow : FactsGrow) where
   step_flow l history (Take side) fit u t = none_flow l history side event.Take refl t
   step_flow l history (Release side sub) fit u t = cc
   step_flow l history (Tick moment) fit u t =
-      let m : Link = record l { moment = moment } in
+      let m : Link = record l { moment = max l.moment moment } in
       let a : Link × List Occurrence = give m E event.Tick in
       let b : Link × List Occurrence = give a.0 R event.Tick in
-      let first : IsFlow a.0 (history ++ a.1) = none_flow m history E event.Tick refl (at_moment l history moment t) in
+      let first : IsFlow a.0 (history ++ a.1) = none_flow m history E event.Tick refl (at_moment l history (max l.moment moment) t) in
       subst (λ (h : List Occurrence). IsFlow b.0 h) (append_assoc history a.1 b.1) (none_flow a.0 (history ++ a.1) R event.Tick refl first)
 
   joined_flow : (opening : PairOpening) (moment : ℕ) → IsView opening (untouched opening) (joined_pair opening moment) []
   joined_flow opening moment =
       record { opening_is = refl; e_is = refl; r_is = refl; from_e_is = refl; from_r_is = refl; facts_are = refl; plain = tt; count = refl }
 
-  opened_flow : (settings : Settings) (moment : ℕ) (opening : LinkOpening) → IsFlow (opened settings moment opening).0 (opened settings moment opening).1
-  opened_flow settings moment (OfPair (OfFixed engine rbc ke kr)) =
+  opened_flow : (opening : PairOpening) (moment : ℕ) → IsFlow (opened_pair opening moment).0 (opened_pair opening moment).1
+  opened_flow (OfFixed engine rbc ke kr) moment =
       record { opening = OfFixed engine rbc ke kr; f = untouched (OfFixed engine rbc ke kr); view = joined_flow (OfFixed engine rbc ke kr) moment; flows = Begins }
-  opened_flow settings moment (OfPair (OfKeys engine rbc ke kr ra rb)) =
+  opened_flow (OfKeys engine rbc ke kr ra rb) moment =
       let o : PairOpening = OfKeys engine rbc ke kr ra rb in
       record {
         opening = o;
@@ -444,6 +442,7 @@ module _ (grow : FactsGrow) where
 
   abbrev pub FitsLinkOpening : LinkOpening → Type 0
   FitsLinkOpening (OfPair opening) = FitsOpening opening
+  FitsLinkOpening OfStations = Unit {0}
 
   -- while nothing disturbed it, it flows
   pub record MayFlow (l : Link) (history : List Occurrence) : Type 0 where
@@ -471,7 +470,8 @@ module _ (grow : FactsGrow) where
   step_opening l (Take side) = give_opening l side event.Take
   step_opening l (Release side sub) = give_opening l side (event.Release sub)
   step_opening l (Tick moment) =
-      give_opening (give (record l { moment = moment }) E event.Tick).0 R event.Tick ∙ give_opening (record l { moment = moment }) E event.Tick
+      let m : Link = record l { moment = max l.moment moment } in
+      give_opening (give m E event.Tick).0 R event.Tick ∙ give_opening m E event.Tick
 
   step_may : (l : Link) (history : List Occurrence) (s : LinkStep) → FitsLinkStep s → MayFlow l history → MayFlow (link_step l s).0 (history ++ (link_step l s).1)
   step_may l history s fit may =
@@ -484,9 +484,9 @@ module _ (grow : FactsGrow) where
             step_flow l history s fit parts.1 (may.flow parts.0);
       }
 
-  opened_opening : (settings : Settings) (moment : ℕ) (opening : LinkOpening) → (opened settings moment opening).0.opening ≡ opening
-  opened_opening settings moment (OfPair (OfFixed engine rbc ke kr)) = refl
-  opened_opening settings moment (OfPair (OfKeys engine rbc ke kr ra rb)) = refl
+  opened_opening : (opening : PairOpening) (moment : ℕ) → (opened_pair opening moment).0.opening ≡ OfPair opening
+  opened_opening (OfFixed engine rbc ke kr) moment = refl
+  opened_opening (OfKeys engine rbc ke kr ra rb) moment = refl
 
   no_send_fits : (s : LinkStep) → IsNoSend s → FitsLinkStep s
   no_send_fits (Send side octets) none = absurd none
@@ -496,11 +496,17 @@ module _ (grow : FactsGrow) where
   no_send_fits (Release side sub) none = tt
   no_send_fits (Tick moment) none = tt
 
-  pub flow_keeps : (settings : Settings) → Keeps settings FitsLinkOpening FitsLinkStep MayFlow
-  flow_keeps settings =
-      record {
-        opens = λ moment opening fit.
-            record { fit = subst FitsLinkOpening (sym (opened_opening settings moment opening)) fit; flow = λ u. opened_flow settings moment opening };
-        steps = step_may;
-        others = no_send_fits;
-      }
+  module _ (laws : StationLaws) (settings : Settings) where
+    opens_flowing : (moment : ℕ) (opening : LinkOpening) → FitsLinkOpening opening
+        → Either settings MayFlow (opened settings moment opening).0 (opened settings moment opening).1
+    opens_flowing moment (OfPair opening) fit =
+        inl (record { fit = subst FitsLinkOpening (sym (opened_opening opening moment)) fit; flow = λ u. opened_flow opening moment })
+    opens_flowing moment OfStations fit = inr (wired_opens laws settings moment)
+
+    pub flow_keeps : Keeps settings FitsLinkOpening FitsLinkStep (Either settings MayFlow)
+    flow_keeps =
+        record {
+          opens = opens_flowing;
+          steps = λ l history s fit h. elim h [ inl may ↦ inl (step_may l history s fit may) | inr w ↦ inr (wired_steps laws settings l history s w) ];
+          others = no_send_fits;
+        }

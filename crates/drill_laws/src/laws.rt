@@ -1,23 +1,63 @@
 //! The laws of every list of steps.
 
-ghost use Rattle.drill_model.specs.Headline.{LawfulAlways, OpensAlways, RoomAlways, DeliversAlways, PrintedAsMarked, LinesInOrder};
+ghost use Rattle.station_model.specs.Laws.{ReceivesGive, TicksGive, HandsKeep, OthersKeep, ReleasedAreInert};
+ghost use Rattle.station_model.specs.Reports.{ReleasesAreTold, FinishKeepsRelease};
+ghost use Rattle.drill_model.specs.Headline.{LawfulAlways, OpensAlways, RoomAlways, InOrderAlways, LosingLineReasonsAlways, DeliversAlways, PrintedAsMarked, LinesInOrder};
 
-/// What came at each link is lawful, whatever the steps: at level safe, messages and peers are authentic. Nothing came at a number that
-/// wasn't opened.
+// What each call of a station does to its lists and its release.
+fn station_laws()
+    ensures receives { ReceivesGive }
+    ensures ticks { TicksGive }
+    ensures hands { HandsKeep }
+    ensures others { OthersKeep }
+    ensures releases { ReleasesAreTold }
+    ensures finish { FinishKeepsRelease }
+    ensures inert { ReleasedAreInert }
+{
+    station_model::laws::receives_give();
+    station_model::laws::ticks_give();
+    station_model::laws::others_keep();
+    station_model::laws::releases_are_told();
+    station_model::laws::released_are_inert();
+}
+
+/// What came at each link is lawful, whatever the steps: at level safe, messages and peers are authentic; at level link nothing of a safety
+/// layer came. Nothing came at a number that wasn't opened.
 pub fn lawful()
     ensures { LawfulAlways }
 {
     safe_pair::laws::talks_are_authentic();
+    station_laws();
     drill_model::laws::histories();
 }
 
 /// What came at each link is printed with the marks by which it is judged; and the lines of one event of an end come in the order of
-/// the table of lines.
+/// the table of lines, where octets in which several frames close are one event a frame.
 pub fn printed()
     ensures marks { PrintedAsMarked }
     ensures order { LinesInOrder }
 {
     safe_pair::laws::marks_grow();
+    drill_model::laws::histories();
+}
+
+/// On a link that keeps its order, whatever it loses and repeats, what an end accepted is a prefix of what the other sent, at each moment.
+pub fn in_order()
+    ensures { InOrderAlways }
+{
+    station_pair::laws::prefix();
+    er_settings::laws::allowed_are_bounded();
+    station_laws();
+    drill_model::laws::histories();
+}
+
+/// On such a link an end is released by its own user, or since the set-up was never answered, without progress, or since the peer disconnected.
+pub fn losing_line_reasons()
+    ensures { LosingLineReasonsAlways }
+{
+    station_pair::laws::losing_line_reasons();
+    er_settings::laws::allowed_are_bounded();
+    station_laws();
     drill_model::laws::histories();
 }
 
@@ -29,6 +69,10 @@ pub fn delivery()
 {
     safety_automaton::laws::steps();
     safe_pair::laws::flows_deliver();
+    station_pair::laws::delivery();
+    station_pair::laws::few_wait();
+    er_settings::laws::allowed_are_bounded();
+    station_laws();
     drill_model::laws::histories();
 }
 

@@ -1,10 +1,13 @@
 -- The ends of a link, one kind a level, and what an end does with an event (this profile). At level safe an end is a side of a safe
--- connection, and what it sends is an SaPDU.
-use Rattle.std.specs.Prelude.{ℕ, List, [], ◌∷◌, Option, Some, None}
+-- connection, and what it sends is an SaPDU; at level link it is a station, and what it sends is a frame from flag to flag.
+use Rattle.std.specs.Prelude.{ℕ, List, [], ◌∷◌, ◌++◌, Option, Some, None}
 use Rattle.des_block.specs.declared.triple_key.TripleKey.{TripleKey}
 use Rattle.safety_automaton.specs.Safety.{Safety, SafetyEvent, ConnectRequest, Received, DataRequest, DisconnectRequest, Refusal, SafetyOutcome, SentAu1, SentAu2, SentAu3, SentAr, ReceivedAr, AcceptedDt, SentDt, ReleasedLocally, ReleasedByPeer, NothingDone}
 use Rattle.safety_automaton.specs.Safety as safety
 use Rattle.safe_pair.specs.Facts.{Sent, Sealed, Verified, Connected, Accepted, heard_in}
+use Rattle.station_model.specs.Stations.{Station}
+use Rattle.station_pair.specs.Links.{news}
+use Rattle.drill_model.specs.StationEnds.{begins, frames_heard, user_sends, user_releases, time_goes_on}
 use Rattle.drill_model.specs.Outcomes.{SendRefusal, RefusedReleased, RefusedNotConnected, RefusedLength, Outcome, OfSafety, Refused, Released, Frame}
 
 -- what is given to an end
@@ -25,6 +28,8 @@ pub data EndEvent : Type 0 where
 pub data End : Type 0 where
   -- level safe
   OfSafe : (side : Safety) → End
+  -- level link: a station, and the stream of all octets that it was given
+  OfStation : (station : Station) (stream : List ℕ) → End
 
 -- ---- level safe
 
@@ -64,8 +69,24 @@ safe_end_step key_of s (Some event) =
     let a = safety.step key_of s event in
     (OfSafe a.0, outcomes_by (heard_in event) a.1)
 
+-- ---- level link
+
+-- a station went on so, and this is all that it was given
+abbrev pub station_end : (stream : List ℕ) → Station × List Outcome → End × List Outcome
+station_end stream a = (OfStation a.0 stream, a.1)
+
+-- octets go on from the stream before them, so a frame may begin in one piece and close in another; a station has no messages to take
+abbrev pub station_end_step : (moment : ℕ) → Station → (stream : List ℕ) → EndEvent → End × List Outcome
+station_end_step moment s stream Start = station_end stream (begins moment s)
+station_end_step moment s stream (Receive octets) = station_end (stream ++ octets) (frames_heard moment (news stream octets) s)
+station_end_step moment s stream (Send payload) = station_end stream (user_sends moment payload s)
+station_end_step moment s stream Take = station_end stream (s, [])
+station_end_step moment s stream (Release sub) = station_end stream (user_releases sub s)
+station_end_step moment s stream Tick = station_end stream (time_goes_on moment s)
+
 -- ---- any level
 
 -- an end that looks KMACs up so is given an event at a moment: the end after it, and its outcomes in their order
 abbrev pub end_step : (ℕ → ℕ → Option TripleKey) → (moment : ℕ) → End → EndEvent → End × List Outcome
 end_step key_of moment (OfSafe s) event = safe_end_step key_of s (safety_event event)
+end_step key_of moment (OfStation s stream) event = station_end_step moment s stream event

@@ -1,29 +1,37 @@
 -- What is claimed of every list of steps, of each link of their world, by its level.
-use Rattle.std.specs.Prelude.{ℕ, ◌≡◌, ◌≤◌, ◌==◌, ◌&&◌, false, if◌then◌else◌, List, [], ◌∷◌, ◌++◌, Option, Some, None, option_map}
-use Rattle.std.specs.List.{list_any, flat_map}
+use Rattle.std.specs.Prelude.{ℕ, ◌≡◌, ◌⊎◌, ◌≤◌, ◌==◌, ◌&&◌, false, if◌then◌else◌, List, [], ◌∷◌, ◌++◌, length, take, Option, Some, None, option_map}
+use Rattle.std.specs.List.{list_any, flat_map, AllByRecursion}
+use Rattle.er_base.specs.declared.release.Release.{Release}
 use Rattle.er_base.specs.declared.side.Side.TheVariants.{E, R}
 use Rattle.er_settings.specs.declared.settings.Settings.{Settings}
+use Rattle.er_settings.specs.Ranges.{AllAllowed}
 use Rattle.er_scenario.specs.declared.step.Step.{Step}
 use Rattle.er_scenario.specs.declared.step.Step.TheVariants as does
 use Rattle.des_block.specs.declared.triple_key.TripleKey.{TripleKey}
 use Rattle.safe_pair.specs.Facts.{marked}
 use Rattle.safe_pair.specs.Authentic.{Authentic}
 use Rattle.safe_pair.specs.Deliveries.{IsConnectedPhase}
-use Rattle.drill_model.specs.Outcomes.{Occurrence, facts_in}
-use Rattle.drill_model.specs.Ends.{End, OfSafe, EndEvent, end_step}
-use Rattle.drill_model.specs.Links.{LinkOpening, OfPair, Link}
+use Rattle.station_model.specs.declared.phase.Phase.TheVariants as phase
+use Rattle.station_model.specs.Stations.{Station}
+use Rattle.station_pair.specs.Links.{news}
+use Rattle.drill_model.specs.Outcomes.{Outcome, Occurrence, facts_in}
+use Rattle.drill_model.specs.StationEnds.{heard_parts}
+use Rattle.drill_model.specs.Ends.{End, OfSafe, OfStation, EndEvent, station_end_step, end_step}
+use Rattle.drill_model.specs.Ends as event
+use Rattle.drill_model.specs.Links.{LinkOpening, OfPair, OfStations, Link}
 use Rattle.drill_model.specs.Steps.{AllFit}
 use Rattle.drill_model.specs.Worlds.{Plan, Came, is_link, link_at, history_on, fixed_opening, link_opening, wire_opening, overfull_side, drain, world_run}
 use Rattle.drill_model.specs.Faults.{fault_behind}
 use Rattle.drill_model.specs.Marks.{MarkedOccurrence, MarkedCame, MarkedOn, MarkedDrain, marks_behind, marks_from}
 use Rattle.drill_model.specs.Texts.{place_of}
-use Rattle.drill_model.specs.Kinds.{sent_by, accepted_by, deliveries, IsLossFree, bound}
+use Rattle.drill_model.specs.Kinds.{sent_by, accepted_by, releases_in, deliveries, IsOrderKeeping, IsLossFree, bound}
 
 -- ---- authentic messages and peers
 
--- what came at a link is lawful: at level safe, authentic
+-- what came at a link is lawful: at level safe, authentic; at level link there is no safety layer, so nothing came of it
 abbrev pub IsLawful : LinkOpening → List Occurrence → Type 0
 IsLawful (OfPair opening) history = Authentic opening (facts_in history)
+IsLawful OfStations history = facts_in history ≡ []
 
 -- and nothing came at a number that wasn't opened
 abbrev pub LawfulAt : Option Link → List Occurrence → Type 0
@@ -81,11 +89,51 @@ RoomAlways =
     (plan : Plan) (before : List Step) (s : Step) → fault_behind plan before s ≡ None
     → (n : ℕ) (l : Link) → link_at (world_run plan (before ++ s ∷ [])).0 n ≡ Some l → overfull_side l ≡ None
 
+-- ---- settings
+
+-- two stations ask for settings in their ranges
+abbrev pub FitsSettings : Settings → LinkOpening → Type 0
+FitsSettings settings (OfPair opening) = Unit {0}
+FitsSettings settings OfStations = AllAllowed settings
+
+-- ---- a line that only loses and repeats
+
+abbrev pub IsPrefix : List (List ℕ) → List (List ℕ) → Type 0
+IsPrefix xs ys = xs ≡ take (length xs) ys
+
+-- what an end accepted is a prefix of what the other sent
+pub record IsInOrder (history : List Occurrence) : Type 0 where
+  pub at_r : IsPrefix (accepted_by R history) (sent_by E history)
+  pub at_e : IsPrefix (accepted_by E history) (sent_by R history)
+
+-- for every list of steps, of each link that is order-keeping so far, whether an end was released or not
+abbrev pub InOrderAlways : Type 0
+InOrderAlways =
+    (plan : Plan) (steps : List Step) (n : ℕ) (l : Link) → link_at (world_run plan steps).0 n ≡ Some l → FitsSettings plan.settings l.opening
+    → IsOrderKeeping l.opening (history_on n (world_run plan steps).1)
+    → IsInOrder (history_on n (world_run plan steps).1)
+
+-- why an end may be released there. At level link 0.x, its own user; 1.1, the set-up was never answered; 1.2, no progress; 1.4, the peer's
+-- DISC, DM or FRMR; each is told as a local one
+abbrev pub IsLosingLineReason : LinkOpening → Release → Type 0
+IsLosingLineReason (OfPair opening) release = Unit {0}
+IsLosingLineReason OfStations release =
+    (release.by_peer ≡ false)
+    × ((release.reason ≡ 0) ⊎ ((release.reason ≡ 1) × ((release.sub ≡ 1) ⊎ (release.sub ≡ 2) ⊎ (release.sub ≡ 4))))
+
+-- of each release that came
+abbrev pub LosingLineReasonsAlways : Type 0
+LosingLineReasonsAlways =
+    (plan : Plan) (steps : List Step) (n : ℕ) (l : Link) → link_at (world_run plan steps).0 n ≡ Some l → FitsSettings plan.settings l.opening
+    → IsOrderKeeping l.opening (history_on n (world_run plan steps).1)
+    → AllByRecursion (IsLosingLineReason l.opening) (releases_in (history_on n (world_run plan steps).1))
+
 -- ---- delivery
 
--- an end is connected
+-- an end is connected; a station is up
 abbrev pub IsConnectedEnd : End → Type 0
 IsConnectedEnd (OfSafe s) = IsConnectedPhase s.phase
+IsConnectedEnd (OfStation s stream) = s.phase ≡ phase.Up
 
 -- both ends are connected, and each accepted all that the other sent, in order
 pub record HasAll (history : List Occurrence) (l : Link) : Type 0 where
@@ -94,13 +142,23 @@ pub record HasAll (history : List Occurrence) (l : Link) : Type 0 where
   pub at_r : accepted_by R history ≡ sent_by E history
   pub at_e : accepted_by E history ≡ sent_by R history
 
--- an empty link: at level safe no frame waits
+-- both stations are up, and each accepted all that the other was handed, in order; a called station sends nothing before it took a payload,
+-- so of its payloads this is said where the other was handed one
+pub record HasAllPayloads (history : List Occurrence) (l : Link) : Type 0 where
+  pub e_up : IsConnectedEnd l.e
+  pub r_up : IsConnectedEnd l.r
+  pub at_r : accepted_by R history ≡ sent_by E history
+  pub at_e : 1 ≤ length (sent_by E history) → accepted_by E history ≡ sent_by R history
+
+-- an empty link: at level safe and at level link no frame waits
 abbrev pub IsEmpty : LinkOpening → Link → Type 0
 IsEmpty (OfPair opening) l = (l.from_e ≡ []) × (l.from_r ≡ [])
+IsEmpty OfStations l = (l.from_e ≡ []) × (l.from_r ≡ [])
 
 -- what is delivered on an empty link
 abbrev pub IsDelivered : LinkOpening → List Occurrence → Link → Type 0
 IsDelivered (OfPair opening) history l = HasAll history l
+IsDelivered OfStations history l = HasAllPayloads history l
 
 -- a loss-free link: nothing is forged; no more deliveries than the bound, ever; once it is empty, all is delivered; and where not too many
 -- frames wait, a drain of at least as many passes as the bound leaves none waiting
@@ -115,6 +173,7 @@ pub record Delivers (settings : Settings) (history : List Occurrence) (l : Link)
 abbrev pub DeliversAlways : Type 0
 DeliversAlways =
     (plan : Plan) (steps : List Step) → AllFit steps → (n : ℕ) (l : Link) → link_at (world_run plan steps).0 n ≡ Some l
+    → FitsSettings plan.settings l.opening
     → IsLossFree l.opening (history_on n (world_run plan steps).1)
     → Delivers plan.settings (history_on n (world_run plan steps).1) l
 
@@ -138,8 +197,22 @@ IsRising [] = Unit {0}
 IsRising (n ∷ []) = Unit {0}
 IsRising (n ∷ m ∷ more) = (n ≤ m) × IsRising (m ∷ more)
 
--- the lines of one event of an end come in the order of the table of lines
+-- the outcomes of an event at an end in parts: of octets in which several frames close, one part a frame
+abbrev pub station_parts : (moment : ℕ) → Station → (stream : List ℕ) → EndEvent → List (List Outcome)
+station_parts moment s stream event.Start = (station_end_step moment s stream event.Start).1 ∷ []
+station_parts moment s stream (event.Receive octets) = heard_parts moment (news stream octets) s
+station_parts moment s stream (event.Send payload) = (station_end_step moment s stream (event.Send payload)).1 ∷ []
+station_parts moment s stream event.Take = (station_end_step moment s stream event.Take).1 ∷ []
+station_parts moment s stream (event.Release sub) = (station_end_step moment s stream (event.Release sub)).1 ∷ []
+station_parts moment s stream event.Tick = (station_end_step moment s stream event.Tick).1 ∷ []
+
+abbrev pub parts_of : (ℕ → ℕ → Option TripleKey) → (moment : ℕ) → End → EndEvent → List (List Outcome)
+parts_of key_of moment (OfSafe s) event = (end_step key_of moment (OfSafe s) event).1 ∷ []
+parts_of key_of moment (OfStation s stream) event = station_parts moment s stream event
+
+-- the parts are all that came of the event, and the lines of each come in the order of the table of lines
 abbrev pub LinesInOrder : Type 0
 LinesInOrder =
     (key_of : ℕ → ℕ → Option TripleKey) (moment : ℕ) (end : End) (event : EndEvent)
-    → IsRising (flat_map place_of (end_step key_of moment end event).1)
+    → (flat_map (λ part. part) (parts_of key_of moment end event) ≡ (end_step key_of moment end event).1)
+    × AllByRecursion (λ part. IsRising (flat_map place_of part)) (parts_of key_of moment end event)

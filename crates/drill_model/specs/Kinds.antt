@@ -1,15 +1,16 @@
 -- What a link is and had so far, told by the one list of what came at it: its kind, the messages that were sent and accepted, counts and
 -- bounds (this profile).
-use Rattle.std.specs.Prelude.{ℕ, ◌+◌, ◌≡◌, Bool, true, false, if◌then◌else◌, List, [], ◌∷◌, length}
+use Rattle.std.specs.Prelude.{ℕ, ◌+◌, ◌*◌, ◌≡◌, Bool, true, false, if◌then◌else◌, List, [], ◌∷◌, length}
 use Rattle.std.specs.List.{flat_map, list_any}
 use Rattle.er_base.specs.declared.side.Side.{Side}
 use Rattle.er_base.specs.declared.side.Side.TheVariants.{E, R}
+use Rattle.er_base.specs.declared.release.Release.{Release}
 use Rattle.er_settings.specs.declared.settings.Settings.{Settings}
 use Rattle.safe_pair.specs.Facts.{is_side}
 use Rattle.safe_pair.specs.Openings.{Agrees}
 use Rattle.safe_pair.specs.Deliveries as pair
 use Rattle.drill_model.specs.Outcomes.{Outcome, OfSafety, Handed, Arrived, Up, Took, NothingToTake, Refused, Released, Frame, Expired, UserReleased, Passed, Lost, Repeated, Altered, Inserted, NothingWaits, IsShort, Occurrence}
-use Rattle.drill_model.specs.Links.{LinkOpening, OfPair}
+use Rattle.drill_model.specs.Links.{LinkOpening, OfPair, OfStations}
 
 -- ---- messages
 
@@ -61,6 +62,32 @@ sent_by side history = flat_map (λ o. if is_side side o.side then sent_in o.out
 
 abbrev pub accepted_by : Side → List Occurrence → List (List ℕ)
 accepted_by side history = flat_map (λ o. if is_side side o.side then accepted_in o.outcome else []) history
+
+-- ---- releases
+
+abbrev pub released_in : Outcome → List Release
+released_in (OfSafety fact) = []
+released_in (Handed payload) = []
+released_in (Arrived payload) = []
+released_in Up = []
+released_in (Took message) = []
+released_in NothingToTake = []
+released_in (Refused refusal) = []
+released_in (Released release) = release ∷ []
+released_in (Frame octets) = []
+released_in Expired = []
+released_in (UserReleased sub) = []
+released_in (Passed octets) = []
+released_in Lost = []
+released_in Repeated = []
+released_in Altered = []
+released_in Inserted = []
+released_in NothingWaits = []
+released_in (IsShort found) = []
+
+-- the releases of both ends, in their order
+abbrev pub releases_in : List Occurrence → List Release
+releases_in history = flat_map (λ o. released_in o.outcome) history
 
 -- ---- passes
 
@@ -115,9 +142,44 @@ is_disturbance (IsShort found) = false
 abbrev pub is_disturbed : List Occurrence → Bool
 is_disturbed history = list_any (λ o. is_disturbance o.outcome) history
 
--- the ends of a link agree
+-- a frame was altered or inserted
+abbrev pub is_disorder : Outcome → Bool
+is_disorder (OfSafety fact) = false
+is_disorder (Handed payload) = false
+is_disorder (Arrived payload) = false
+is_disorder Up = false
+is_disorder (Took message) = false
+is_disorder NothingToTake = false
+is_disorder (Refused refusal) = false
+is_disorder (Released release) = false
+is_disorder (Frame octets) = false
+is_disorder Expired = false
+is_disorder (UserReleased sub) = false
+is_disorder (Passed octets) = false
+is_disorder Lost = false
+is_disorder Repeated = false
+is_disorder Altered = true
+is_disorder Inserted = true
+is_disorder NothingWaits = false
+is_disorder (IsShort found) = false
+
+abbrev pub is_disordered : List Occurrence → Bool
+is_disordered history = list_any (λ o. is_disorder o.outcome) history
+
+-- the ends of a link number what they send: from level link on
+abbrev pub IsNumbered : LinkOpening → Type 0
+IsNumbered (OfPair opening) = ⊥
+IsNumbered OfStations = Unit {0}
+
+-- order-keeping so far: frames may be lost and repeated
+pub record IsOrderKeeping (opening : LinkOpening) (history : List Occurrence) : Type 0 where
+  pub numbered : IsNumbered opening
+  pub ordered : is_disordered history ≡ false
+
+-- the ends of a link agree; two stations always do
 abbrev pub EndsAgree : LinkOpening → Type 0
 EndsAgree (OfPair opening) = Agrees opening
+EndsAgree OfStations = Unit {0}
 
 -- loss-free so far
 pub record IsLossFree (opening : LinkOpening) (history : List Occurrence) : Type 0 where
@@ -126,6 +188,8 @@ pub record IsLossFree (opening : LinkOpening) (history : List Occurrence) : Type
 
 -- ---- bounds
 
--- Bound: at level safe one delivery for each message that was sent, and four for a set-up
+-- Bound: at level safe one delivery for each message that was sent, and four for a set-up; at level link two for each payload, its I frame and
+-- the answer, and two for the set-up frame and its answer
 abbrev pub bound : Settings → LinkOpening → List Occurrence → ℕ
 bound settings (OfPair opening) history = pair.set_up_sapdus opening + (length (sent_by E history) + length (sent_by R history))
+bound settings OfStations history = 2 + 2 * (length (sent_by E history) + length (sent_by R history))

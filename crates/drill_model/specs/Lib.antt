@@ -1,4 +1,5 @@
 pub mod Outcomes
+pub mod StationEnds
 pub mod Ends
 pub mod Waiting
 pub mod Links
@@ -10,4 +11,5 @@ pub mod Kinds
 pub mod Texts
 pub mod Headline
 pub mod KnownAnswers
+pub mod KnownPayloads
 pub mod Growth

@@ -1,5 +1,5 @@
 -- A link: two ends, and in each direction the frames that wait. A step gives the next link and what came of it (this profile).
-use Rattle.std.specs.Prelude.{ℕ, List, [], ◌∷◌, ◌++◌, map, Option}
+use Rattle.std.specs.Prelude.{ℕ, ◌==◌, max, true, false, List, [], ◌∷◌, ◌++◌, map, Option, None}
 use Rattle.er_base.specs.declared.side.Side.{Side}
 use Rattle.er_base.specs.declared.side.Side.TheVariants.{E, R}
 use Rattle.er_base.specs.Sides.{other}
@@ -7,7 +7,8 @@ use Rattle.des_block.specs.declared.triple_key.TripleKey.{TripleKey}
 use Rattle.er_settings.specs.declared.settings.Settings.{Settings}
 use Rattle.safe_pair.specs.Openings.{PairOpening, OfFixed, OfKeys, key_for, begun}
 use Rattle.drill_model.specs.Outcomes.{Outcome, UserReleased, Passed, NothingWaits, Occurrence, at_end, frames_in}
-use Rattle.drill_model.specs.Ends.{End, OfSafe, EndEvent, Start, end_step}
+use Rattle.station_model.specs.Stations.{made}
+use Rattle.drill_model.specs.Ends.{End, OfSafe, OfStation, EndEvent, Start, end_step}
 use Rattle.drill_model.specs.Ends
 use Rattle.drill_model.specs.Waiting.{LineChange, changes}
 
@@ -15,6 +16,8 @@ use Rattle.drill_model.specs.Waiting.{LineChange, changes}
 pub data LinkOpening : Type 0 where
   -- level safe: two sides of a safe connection
   OfPair : (opening : PairOpening) → LinkOpening
+  -- level link: two stations
+  OfStations : LinkOpening
 
 pub record Link : Type 0 where
   -- how it was opened, and at which moment
@@ -48,6 +51,7 @@ with_waiting l R frames = record l { from_r = frames }
 -- the KMACs that the ends of a link find, at every moment
 abbrev pub key_on : LinkOpening → (engine rbc : ℕ) → Option TripleKey
 key_on (OfPair opening) = key_for opening
+key_on OfStations = λ engine rbc. None
 
 -- ---- an event at an end
 
@@ -81,9 +85,19 @@ abbrev pub opened_pair : PairOpening → (moment : ℕ) → Link × List Occurre
 opened_pair (OfFixed engine rbc ke kr) moment = (joined_pair (OfFixed engine rbc ke kr) moment, [])
 opened_pair (OfKeys engine rbc ke kr ra rb) moment = give (joined_pair (OfKeys engine rbc ke kr ra rb) moment) E Start
 
+-- two stations with these settings, of which the calling one starts at once: its set-up frame waits
+abbrev pub opened_stations : Settings → (moment : ℕ) → Link × List Occurrence
+opened_stations settings moment =
+    give (
+    joined OfStations moment
+    (OfStation (made true (settings.modulo == 128) settings.window settings.n2 settings.t1) [])
+    (OfStation (made false (settings.modulo == 128) settings.window settings.n2 settings.t1) [])
+    ) E Start
+
 -- a link that was just opened with these settings, at this moment
 abbrev pub opened : Settings → (moment : ℕ) → LinkOpening → Link × List Occurrence
 opened settings moment (OfPair opening) = opened_pair opening moment
+opened settings moment OfStations = opened_stations settings moment
 
 -- ---- steps
 
@@ -98,7 +112,7 @@ pub data LinkStep : Type 0 where
   Take : (side : Side) → LinkStep
   -- the user of this end releases, with this sub-reason
   Release : (side : Side) (sub : ℕ) → LinkStep
-  -- the moment has come, at both ends
+  -- the moment has come, at both ends; one below the link's counts as the link's
   Tick : (moment : ℕ) → LinkStep
 
 abbrev pub pass : Link → Side → List (List ℕ) → Link × List Occurrence
@@ -116,7 +130,7 @@ link_step l (Pass side) = pass l side (waiting_of l side)
 link_step l (Change side change) = change_waiting l side (changes change (waiting_of l side))
 link_step l (Take side) = give l side Ends.Take
 link_step l (Release side sub) = onto (at_end side (UserReleased sub) ∷ []) (give l side (Ends.Release sub))
-link_step l (Tick moment) = and_then (give (record l { moment = moment }) E Ends.Tick) (λ m. give m R Ends.Tick)
+link_step l (Tick moment) = and_then (give (record l { moment = max l.moment moment }) E Ends.Tick) (λ m. give m R Ends.Tick)
 
 -- a list of steps: the link at the end, and all that came
 abbrev pub link_run : Link → List LinkStep → Link × List Occurrence

@@ -5,7 +5,7 @@ use Rattle.er_scenario.specs.declared.level.Level.{Level}
 use Rattle.er_scenario.specs.declared.level.Level.TheVariants as level
 use Rattle.er_scenario.specs.declared.step.Step.{Step}
 use Rattle.er_scenario.specs.declared.step.Step.TheVariants as does
-use Rattle.er_scenario.specs.StepRanges.{IsEtcsNumber}
+use Rattle.er_scenario.specs.StepRanges.{IsEtcsNumber, IsMoment}
 use Rattle.er_base.specs.Octets.{AreOctets}
 
 -- the levels that have a step
@@ -68,6 +68,23 @@ HasOctets (does.Take n s) = Unit {0}
 HasOctets (does.Release n s sub) = Unit {0}
 HasOctets (does.Tick moment) = Unit {0}
 HasOctets (does.Drain n most) = Unit {0}
+
+-- the moment of a tick is at most 10^15 milliseconds
+abbrev pub HasMoment : Step → Type 0
+HasMoment (does.Fixed n engine rbc ke kr) = Unit {0}
+HasMoment (does.Link n engine rbc ke kr ra rb) = Unit {0}
+HasMoment (does.Wire n) = Unit {0}
+HasMoment (does.Send n s text) = Unit {0}
+HasMoment (does.Pass n s) = Unit {0}
+HasMoment (does.Lose n s) = Unit {0}
+HasMoment (does.Repeat n s) = Unit {0}
+HasMoment (does.Alter n s place mask) = Unit {0}
+HasMoment (does.Put n s text) = Unit {0}
+HasMoment (does.Copy n s m t) = Unit {0}
+HasMoment (does.Take n s) = Unit {0}
+HasMoment (does.Release n s sub) = Unit {0}
+HasMoment (does.Tick moment) = IsMoment moment
+HasMoment (does.Drain n most) = Unit {0}
 
 -- the numbers of a step fit their fields
 abbrev pub FitsFields : Step → Type 0

@@ -15,7 +15,7 @@ use Rattle.safe_pair.specs.Facts.{SideFact}
 use Rattle.safe_pair.specs.Openings.{OfFixed, OfKeys}
 use Rattle.drill_model.specs.Outcomes.{NothingWaits, Occurrence, at_end, facts_in}
 use Rattle.drill_model.specs.Waiting.{Lose, Repeat, Alter, Put}
-use Rattle.drill_model.specs.Links.{Link, LinkOpening, OfPair, opened, waiting_of, LinkStep, Send, Pass, Change, Take, Release, Tick, link_step}
+use Rattle.drill_model.specs.Links.{Link, LinkOpening, OfPair, OfStations, opened, waiting_of, LinkStep, Send, Pass, Change, Take, Release, Tick, link_step}
 
 -- what a drill is run with: its level, the settings of its links, and whether frames are printed
 pub record Plan : Type 0 where
@@ -83,7 +83,7 @@ link_opening level.Full engine rbc ke kr ra rb = None
 
 abbrev pub wire_opening : Level → Option LinkOpening
 wire_opening level.Safe = None
-wire_opening level.Link = None
+wire_opening level.Link = Some OfStations
 wire_opening level.Full = None
 
 -- link n is opened, where it is the number of a link that wasn't

@@ -4,3 +4,4 @@ pub mod Sending
 pub mod Receiving
 pub mod Calls
 pub mod Laws
+pub mod Reports

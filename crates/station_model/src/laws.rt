@@ -1,5 +1,6 @@
 //! What the definitions of this crate imply of one call, as facts that a caller can cite.
 
+ghost use Rattle.station_model.specs.Reports.{ReleasesAreTold, FinishKeepsRelease};
 ghost use Rattle.station_model.specs.Laws.{ReceivesGive, TicksGive, HandsKeep, OthersKeep, ReleasedAreInert};
 
 /// A frame that comes leaves what was handed down alone, the payload that is told is the one that is taken, and a release
@@ -22,4 +23,10 @@ pub fn others_keep()
 /// After a release no call does anything.
 pub fn released_are_inert()
     ensures { ReleasedAreInert }
+{}
+
+/// The release that a call tells is kept, and the station is Down exactly where it was or one is told.
+pub fn releases_are_told()
+    ensures calls { ReleasesAreTold }
+    ensures finish { FinishKeepsRelease }
 {}

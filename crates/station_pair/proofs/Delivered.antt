@@ -48,7 +48,7 @@ pub record Emptied (l : Link) (n most : ℕ) (d : Draining) : Type 0 where
   pub handed_r : d.link.r.handed ≡ l.r.handed
   pub ends : IsEmpty d.link ⊎ (is_overfull d.link ≡ true) ⊎ (flows.n ≡ n + most)
 
-none_next : (most : ℕ) (d : Draining) → next_of d.link.from_e d.link.from_r ≡ None → drained most d ≡ d
+pub none_next : (most : ℕ) (d : Draining) → next_of d.link.from_e d.link.from_r ≡ None → drained most d ≡ d
 none_next zero d h = refl
 none_next (suc most) d h = ap (λ (o : Option Side). drained most (pass_next o (is_overfull d.link) d)) h ∙ none_next most d h
 
@@ -56,13 +56,13 @@ full_stays : (side : Option Side) (d : Draining) → pass_next side true d ≡ d
 full_stays None d = refl
 full_stays (Some side) d = refl
 
-full_next : (most : ℕ) (d : Draining) → is_overfull d.link ≡ true → drained most d ≡ d
+pub full_next : (most : ℕ) (d : Draining) → is_overfull d.link ≡ true → drained most d ≡ d
 full_next zero d h = refl
 full_next (suc most) d h =
     ap (drained most) (ap (λ (b : Bool). pass_next (next_of d.link.from_e d.link.from_r) b d) h ∙ full_stays (next_of d.link.from_e d.link.from_r) d) ∙ full_next most d h
 
 -- which end is next, as the lines are
-next_is : (from_e from_r : List (List ℕ)) → next_of from_e from_r ≡ None → (from_e ≡ []) × (from_r ≡ [])
+pub next_is : (from_e from_r : List (List ℕ)) → next_of from_e from_r ≡ None → (from_e ≡ []) × (from_r ≡ [])
 next_is (f ∷ fs) from_r h = absurd cc
 next_is [] (f ∷ fs) h = absurd cc
 next_is [] [] h = (refl, refl)
@@ -78,7 +78,7 @@ r_delivers laws l (f ∷ fs) line e h g = absurd cc
 r_delivers laws l [] (f ∷ fs) e h g = r_pass laws l g f fs e
 r_delivers laws l [] [] e h g = absurd cc
 
-delivers : Frames → (side : Side) (l : Link) → next_of l.from_e l.from_r ≡ Some side → (g : Flows l) → Passed l g.n (pass side (line_of l side) l)
+pub delivers : Frames → (side : Side) (l : Link) → next_of l.from_e l.from_r ≡ Some side → (g : Flows l) → Passed l g.n (pass side (line_of l side) l)
 delivers laws E l h g = e_delivers laws l l.from_e l.from_r refl h g
 delivers laws R l h g = r_delivers laws l l.from_e l.from_r refl h g
 
@@ -121,7 +121,7 @@ heard_free side [] l = refl
 heard_free E (v ∷ vs) l = heard_free E vs (did E (finishes (receives l.moment v l.e)) l)
 heard_free R (v ∷ vs) l = heard_free R vs (did R (finishes (receives l.moment v l.r)) l)
 
-passed_free : (side : Side) (line : List (List ℕ)) (l : Link) → (pass side line l).loss_free ≡ l.loss_free
+pub passed_free : (side : Side) (line : List (List ℕ)) (l : Link) → (pass side line l).loss_free ≡ l.loss_free
 passed_free E [] l = refl
 passed_free R [] l = refl
 passed_free E (octets ∷ rest) l = heard_free R (news l.read_r octets) _
@@ -132,12 +132,12 @@ next_free None overfull d = refl
 next_free (Some side) true d = refl
 next_free (Some side) false d = passed_free side (line_of d.link side) d.link
 
-drained_free : (most : ℕ) (d : Draining) → (drained most d).link.loss_free ≡ d.link.loss_free
+pub drained_free : (most : ℕ) (d : Draining) → (drained most d).link.loss_free ≡ d.link.loss_free
 drained_free zero d = refl
 drained_free (suc most) d =
     drained_free most (pass_next (next_of d.link.from_e d.link.from_r) (is_overfull d.link) d) ∙ next_free (next_of d.link.from_e d.link.from_r) (is_overfull d.link) d
 
-sent_free : (side : Side) (p : List ℕ) (l : Link) (o : Option Came) → (send_unless o side p l).loss_free ≡ l.loss_free
+pub sent_free : (side : Side) (p : List ℕ) (l : Link) (o : Option Came) → (send_unless o side p l).loss_free ≡ l.loss_free
 sent_free E p l None = refl
 sent_free R p l None = refl
 sent_free E p l (Some refused) = refl
@@ -182,7 +182,7 @@ released_clean E sub l =
 released_clean R sub l =
     cond_both (is_down l.r.phase) (record l { loss_free = false }) (did R (quits sub l.r) (record l { loss_free = false })) Clean (λ d e. absurd cc) (λ d e. absurd cc)
 
-both_false : (a b c : Bool) → (a && not (b || c)) ≡ true → (a ≡ true) × (b ≡ false) × (c ≡ false)
+pub both_false : (a b c : Bool) → (a && not (b || c)) ≡ true → (a ≡ true) × (b ≡ false) × (c ≡ false)
 both_false true false false h = (refl, refl, refl)
 both_false true false true h = absurd cc
 both_false true true c h = absurd cc
@@ -218,7 +218,7 @@ run_clean : Frames → (steps : List LinkStep) (l : Link) → Clean l → Clean 
 run_clean laws [] l h = h
 run_clean laws (s ∷ rest) l h = run_clean laws rest (happens s l) (happens_clean laws s l h)
 
-opened_flows : (s : Opening) → Flows (opened s.extended s.window s.n2 s.t1 s.moment)
+pub opened_flows : (s : Opening) → Flows (opened s.extended s.window s.n2 s.t1 s.moment)
 opened_flows s =
     record {
       k = modulo s.extended - 1;
@@ -230,12 +230,17 @@ opened_flows s =
       shape = inl (refl, refl, refl, refl, (refl, refl, refl, refl, refl, refl, s.some), (refl, refl, refl, refl, refl, refl, s.some), refl);
     }
 
-after_flows : Frames → (s : Opening) (steps : List LinkStep) → (after s steps).loss_free ≡ true → Flows (after s steps)
+-- before the first step there was no delivery
+pub opened_none : (s : Opening) → (opened_flows s).n ≡ 0
+unfolding opened_flows
+opened_none s = refl
+
+pub after_flows : Frames → (s : Opening) (steps : List LinkStep) → (after s steps).loss_free ≡ true → Flows (after s steps)
 after_flows laws s steps = run_clean laws steps (opened s.extended s.window s.n2 s.t1 s.moment) (λ e. opened_flows s)
 
 -- ---- the bound
 
-bound_flows : (l : Link) (g : Flows l) → g.n + (length g.fe + length g.fr) ≤ bound l
+pub bound_flows : (l : Link) (g : Flows l) → g.n + (length g.fe + length g.fr) ≤ bound l
 bound_flows l g =
     let be = way_bounds g.k l.e.handed l.e.acked l.e.sent l.r.taken (infos g.fe) (numbers g.fr) g.stands.pair.0.0 in
     let br = way_bounds g.k l.r.handed l.r.acked l.r.sent l.e.taken (infos g.fr) (numbers g.fe) g.stands.pair.1.0 in

@@ -299,6 +299,7 @@ up_flows n w x y quiet none up few hx hy =
       tt,
       tt,
       (let ox : one_if x.owed ≡ 0 = ap one_if hx.4 in let oy : one_if y.owed ≡ 0 = ap one_if hy.4 in omega arith),
+      record { own = λ e. absurd (true≢false (sym e ∙ hx.4)); peers = λ e. absurd (true≢false (sym e ∙ hy.4)) },
     )
 
 r_arrives : Frames → (l : Link) (g : Flows l) (octets : List ℕ) (rest : List (List ℕ)) (f : First l.r octets rest g.fr)
@@ -350,3 +351,21 @@ r_pass laws l g octets rest e =
     (subst (λ (vs : List Verdict). Passed l g.n (hears_each E vs (record l { from_r = rest; passes = counted l.passes; read_e = l.read_e ++ octets_of l.r f.frame })))
     (sym (one_event laws.parts laws.alone g.k g.fe l.e f.frame f.frames l.r l.read_e g.stands.flag_x p))
     (r_arrives laws l g octets rest f p b))
+
+-- ---- a payload and a tick deliver nothing
+
+pub e_sends_n : (l : Link) (p : List ℕ) (short : length p ≤ 1026) (g : Flows l) → (e_sends l p short g).n ≡ g.n
+unfolding e_sends e_flows
+e_sends_n l p short g = refl
+
+pub r_sends_n : (l : Link) (p : List ℕ) (short : length p ≤ 1026) (g : Flows l) → (r_sends l p short g).n ≡ g.n
+unfolding r_sends r_flows
+r_sends_n l p short g = refl
+
+pub e_ticks_n : (l : Link) (now : ℕ) (late : is_late now l.e ≡ false) (g : Flows l) → (e_ticks l now late g).n ≡ g.n
+unfolding e_ticks e_flows
+e_ticks_n l now late g = refl
+
+pub r_ticks_n : (l : Link) (now : ℕ) (late : is_late now l.r ≡ false) (g : Flows l) → (r_ticks l now late g).n ≡ g.n
+unfolding r_ticks r_flows
+r_ticks_n l now late g = refl

@@ -1,5 +1,5 @@
 -- A loss-free line whose stations are both up: one station acts, and what flows keeps its shape.
-use Rattle.std.proofs.Common.{if◌then◌else◌, ◌≡◌, ℕ, zero, suc, ◌+◌, ◌%◌, ◌≤◌, ◌⊎◌, inl, inr, Bool, true, false, not, List, [], ◌∷◌, ◌++◌, length, Option, refl, sym, ◌∙◌, ap, subst, arith, length-append, append_assoc, append-nil, eq-eqb, true≢false}
+use Rattle.std.proofs.Common.{if◌then◌else◌, ◌≡◌, ℕ, zero, suc, ◌+◌, ◌%◌, ◌<◌, ◌≤◌, ◌⊎◌, inl, inr, Bool, true, false, not, List, [], ◌∷◌, ◌++◌, length, Option, refl, sym, ◌∙◌, ap, subst, arith, length-append, append_assoc, append-nil, eq-eqb, true≢false}
 use Rattle.std.specs.Prelude.{slice_index_or}
 use Rattle.std.proofs.lemmas.Bool.{cases_Bool, cond_both}
 use Rattle.hdlc_frames.specs.Framing.{Frame as Frame_found}
@@ -64,8 +64,26 @@ abbrev pub Count : ℕ → List Frame → Station → List Frame → Station →
 Count n lx x ly y =
     n + length lx + one_if x.owed + length ly + one_if y.owed ≤ 2 + x.sent + length x.taken + y.sent + length y.taken
 
+-- each RR that waits shows more than the number before it, or than the number acknowledged; and so will the answer that is owed
+abbrev pub Rises : ℕ → List Frame → ℕ → Bool → Type 0
+Rises low [] high owed = owed ≡ true → low < high
+Rises low (Info ns nr payload ∷ fs) high owed = Rises nr fs high owed
+Rises low (Rr nr ∷ fs) high owed = (low < nr) × Rises nr fs high owed
+Rises low (Rej nr ∷ fs) high owed = Rises nr fs high owed
+Rises low (SetUp ∷ fs) high owed = Rises low fs high owed
+Rises low (Disc ∷ fs) high owed = Rises low fs high owed
+Rises low (Dm ∷ fs) high owed = Rises low fs high owed
+Rises low (Ua final ∷ fs) high owed = Rises low fs high owed
+
+-- of what waits in both directions: ax and rx are V(A) and V(R) of x, ox says whether it owes an answer
+pub record Rising (lx ly : List Frame) (ax rx : ℕ) (ox : Bool) (ay ry : ℕ) (oy : Bool) : Type 0 where
+  pub own : Rises ay lx rx ox
+  pub peers : Rises ax ly ry oy
+
 abbrev pub Still : Bool → ℕ → List Frame → Station → List Frame → Station → Type 0
-Still c n lx x ly y = Flow c (infos lx) (numbers ly) x y × Flow (not c) (infos ly) (numbers lx) y x × AllData lx × AllData ly × Count n lx x ly y
+Still c n lx x ly y =
+    Flow c (infos lx) (numbers ly) x y × Flow (not c) (infos ly) (numbers lx) y x × AllData lx × AllData ly × Count n lx x ly y
+    × Rising lx ly x.acked (length x.taken) x.owed y.acked (length y.taken) y.owed
 
 -- no payload may be sent, or none is left
 abbrev pub Rests : Station → Type 0
@@ -76,10 +94,10 @@ abbrev pub AtRest : Station → Type 0
 AtRest x = (x.owed ≡ false) × Rests x
 
 pub still_swap : (n : ℕ) (lx : List Frame) (x : Station) (ly : List Frame) (y : Station) → Still true n lx x ly y → Still false n ly y lx x
-still_swap n lx x ly y h = (h.1, h.0, h.3, h.2, omega (arith, h.4))
+still_swap n lx x ly y h = (h.1, h.0, h.3, h.2, omega (arith, h.4), record { own = h.5.peers; peers = h.5.own })
 
 pub still_back : (n : ℕ) (lx : List Frame) (x : Station) (ly : List Frame) (y : Station) → Still false n lx x ly y → Still true n ly y lx x
-still_back n lx x ly y h = (h.1, h.0, h.3, h.2, omega (arith, h.4))
+still_back n lx x ly y h = (h.1, h.0, h.3, h.2, omega (arith, h.4), record { own = h.5.peers; peers = h.5.own })
 
 -- ---- one frame more
 
@@ -98,6 +116,41 @@ data_push (g ∷ gs) f h d = (h.0, data_push gs f h.1 d)
 length_push : (l : List Frame) (f : Frame) → length (l ++ f ∷ []) ≡ length l + 1
 length_push l f = length-append l (f ∷ [])
 
+-- an RR that shows more, any number in an I frame, and one more I frame taken
+rises_rr : (low high : ℕ) (l : List Frame) → Rises low l high true → Rises low (l ++ Rr high ∷ []) high false
+rises_rr low high [] h = (h refl, λ e. absurd (true≢false (sym e)))
+rises_rr low high (Info ns nr p ∷ fs) h = rises_rr nr high fs h
+rises_rr low high (Rr nr ∷ fs) h = (h.0, rises_rr nr high fs h.1)
+rises_rr low high (Rej nr ∷ fs) h = rises_rr nr high fs h
+rises_rr low high (SetUp ∷ fs) h = rises_rr low high fs h
+rises_rr low high (Disc ∷ fs) h = rises_rr low high fs h
+rises_rr low high (Dm ∷ fs) h = rises_rr low high fs h
+rises_rr low high (Ua final ∷ fs) h = rises_rr low high fs h
+
+rises_info : (low high n : ℕ) (p : List ℕ) (owed : Bool) (l : List Frame) → Rises low l high owed → Rises low (l ++ Info n high p ∷ []) high false
+rises_info low high n p owed [] h = λ e. absurd (true≢false (sym e))
+rises_info low high n p owed (Info ns nr q ∷ fs) h = rises_info nr high n p owed fs h
+rises_info low high n p owed (Rr nr ∷ fs) h = (h.0, rises_info nr high n p owed fs h.1)
+rises_info low high n p owed (Rej nr ∷ fs) h = rises_info nr high n p owed fs h
+rises_info low high n p owed (SetUp ∷ fs) h = rises_info low high n p owed fs h
+rises_info low high n p owed (Disc ∷ fs) h = rises_info low high n p owed fs h
+rises_info low high n p owed (Dm ∷ fs) h = rises_info low high n p owed fs h
+rises_info low high n p owed (Ua final ∷ fs) h = rises_info low high n p owed fs h
+
+below_more : (low high : ℕ) (owed : Bool) → (owed ≡ true → low < high) → (owed ≡ false → low ≡ high) → low < high + 1
+below_more low high true below same = let b : low < high = below refl in omega arith
+below_more low high false below same = let e : low ≡ high = same refl in omega arith
+
+rises_taken : (low high : ℕ) (owed : Bool) (l : List Frame) → Rises low l high owed → (owed ≡ false → Ends low (numbers l) high) → Rises low l (high + 1) true
+rises_taken low high owed [] h ends = λ e. below_more low high owed h ends
+rises_taken low high owed (Info ns nr p ∷ fs) h ends = rises_taken nr high owed fs h ends
+rises_taken low high owed (Rr nr ∷ fs) h ends = (h.0, rises_taken nr high owed fs h.1 ends)
+rises_taken low high owed (Rej nr ∷ fs) h ends = rises_taken nr high owed fs h ends
+rises_taken low high owed (SetUp ∷ fs) h ends = rises_taken low high owed fs h ends
+rises_taken low high owed (Disc ∷ fs) h ends = rises_taken low high owed fs h ends
+rises_taken low high owed (Dm ∷ fs) h ends = rises_taken low high owed fs h ends
+rises_taken low high owed (Ua final ∷ fs) h ends = rises_taken low high owed fs h ends
+
 -- RR shows V(R), and nothing is owed
 rr_flows : (c : Bool) (n : ℕ) (lx : List Frame) (x : Station) (ly : List Frame) (y : Station) → x.owed ≡ true
     → Still c n lx x ly y → Still c n (lx ++ Rr (length x.taken) ∷ []) (record x { owed = false }) ly y
@@ -110,6 +163,10 @@ rr_flows c n lx x ly y owed h =
       data_push lx f h.2 tt,
       h.3,
       omega (arith, h.4),
+      record {
+        own = rises_rr y.acked (length x.taken) lx (subst (λ (b : Bool). Rises y.acked lx (length x.taken) b) owed h.5.own);
+        peers = h.5.peers;
+      },
     )
 
 -- the next I frame
@@ -130,6 +187,7 @@ next_flows c n lx x ly y h =
       data_push lx f h.2 tt,
       h.3,
       omega (arith, h.4),
+      record { own = rises_info y.acked (length x.taken) x.sent (slice_index_or x.handed x.sent []) x.owed lx h.5.own; peers = h.5.peers },
     )
 
 -- ---- payloads that may be sent are sent, and the owed answer
@@ -228,12 +286,16 @@ info_flows c n lx x m r p fs y h =
       h.2,
       h.3.1,
       omega (arith, h.4),
+      record {
+        own = subst (λ (j : ℕ). Rises y.acked lx j true) (sym len) (rises_taken y.acked (length x.taken) x.owed lx h.5.own h.1.3);
+        peers = h.5.peers;
+      },
     )
 
 rr_heard_flows : (c : Bool) (n : ℕ) (lx : List Frame) (x : Station) (r : ℕ) (fs : List Frame) (y : Station)
     → Still c n lx x (Rr r ∷ fs) y → Still c (n + 1) lx (marks_busy false (acknowledges r x)) fs y
 rr_heard_flows c n lx x r fs y h =
-    ((h.0.0, refl, h.0.2, h.0.3, h.0.4, h.0.5), (h.1.0, h.1.1, h.1.2, h.1.3, h.1.4, h.1.5), h.2, h.3.1, omega (arith, h.4))
+    ((h.0.0, refl, h.0.2, h.0.3, h.0.4, h.0.5), (h.1.0, h.1.1, h.1.2, h.1.3, h.1.4, h.1.5), h.2, h.3.1, omega (arith, h.4), record { own = h.5.own; peers = h.5.peers.1 })
 
 -- both are up: the first frame of y comes to x
 pub answered_flows : ControlReadsBack → (c : Bool) (n k : ℕ) (w : List Frame) (now : ℕ) (x : Station) (f : Frame) (fs : List Frame) (y : Station)

@@ -10,3 +10,4 @@ pub mod Runs
 pub mod Flows
 pub mod Delivers
 pub mod Delivered
+mod Counted

@@ -1,11 +1,11 @@
 -- What holds of two stations over two lines, over every list of steps, at modulo 8 and at modulo 128. A list of steps stands for each
 -- moment of a longer run.
-use Rattle.std.specs.Prelude.{◌≡◌, ◌⊎◌, ℕ, ◌+◌, ◌*◌, ◌<◌, ◌≤◌, Bool, true, false, List, [], length, take, Option, Some, None}
+use Rattle.std.specs.Prelude.{◌≡◌, ◌⊎◌, ℕ, ◌+◌, ◌*◌, ◌<◌, ◌≤◌, Bool, true, false, List, [], ◌∷◌, length, take, Option, Some, None}
 use Rattle.er_base.specs.declared.release.Release.{Release}
 use Rattle.station_model.specs.declared.phase.Phase.TheVariants.{Up}
 use Rattle.station_model.specs.Frames.{modulo}
-use Rattle.station_pair.specs.Links.{Link, opened}
-use Rattle.station_pair.specs.Steps.{LinkStep, run, drained, is_overfull}
+use Rattle.station_pair.specs.Links.{Link, line_of, opened}
+use Rattle.station_pair.specs.Steps.{LinkStep, Send, Pass, Lose, Repeat, Alter, Put, UserRelease, Drain, Tick, drained, happens, run, is_overfull}
 
 -- how a link is opened: the settings of both stations, with a window from 1 to one below the modulo, and the moment
 pub record Opening : Type 0 where
@@ -44,6 +44,30 @@ LosingLineReasons =
     (s : Opening) (steps : List LinkStep) → (after s steps).order_kept ≡ true
     → IsLosingLineReason (after s steps).e.released × IsLosingLineReason (after s steps).r.released
 
+-- ---- deliveries
+
+-- a pass gives a frame, where one waits
+abbrev pub passed_of : List (List ℕ) → ℕ
+passed_of [] = 0
+passed_of (frame ∷ frames) = 1
+
+-- the frames that a step gives
+abbrev pub deliveries_of : LinkStep → Link → ℕ
+deliveries_of (Send side payload) l = 0
+deliveries_of (Pass side) l = passed_of (line_of l side)
+deliveries_of (Lose side) l = 0
+deliveries_of (Repeat side) l = 0
+deliveries_of (Alter side place mask) l = 0
+deliveries_of (Put side octets) l = 0
+deliveries_of (UserRelease side sub) l = 0
+deliveries_of (Drain most) l = (drained most (record { link = l; passes = 0 })).passes
+deliveries_of (Tick moment) l = 0
+
+-- and all steps of a list: a number that has no greatest value
+abbrev pub deliveries : Link → List LinkStep → ℕ
+deliveries l [] = 0
+deliveries l (s ∷ rest) = deliveries_of s (record l { came = [] }) + deliveries (happens s l) rest
+
 -- ---- a loss-free line
 
 abbrev pub IsEmpty : Link → Type 0
@@ -65,6 +89,18 @@ Delivery =
 abbrev pub DeliveryBound : Type 0
 DeliveryBound =
     (s : Opening) (steps : List LinkStep) → (after s steps).loss_free ≡ true → (after s steps).passes ≤ bound (after s steps)
+
+-- the same of the deliveries
+abbrev pub DeliveriesBound : Type 0
+DeliveriesBound =
+    (s : Opening) (steps : List LinkStep) → (after s steps).loss_free ≡ true
+    → deliveries (opened s.extended s.window s.n2 s.t1 s.moment) steps ≤ bound (after s steps)
+
+-- never more than 254 frames wait in one direction: at modulo 128 at most 127 I frames, and an RR for each of the other direction
+abbrev pub FewWait : Type 0
+FewWait =
+    (s : Opening) (steps : List LinkStep) → (after s steps).loss_free ≡ true
+    → (length (after s steps).from_e ≤ 254) × (length (after s steps).from_r ≤ 254)
 
 -- a drain of as many passes leaves no frame waiting, unless too many wait in one direction
 abbrev pub DrainEmpties : Type 0

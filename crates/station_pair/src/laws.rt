@@ -1,6 +1,6 @@
 //! What holds of two stations over two lines, as facts that a caller can cite.
 
-ghost use Rattle.station_pair.specs.Laws.{Prefix, LosingLineReasons, Delivery, DeliveryBound, DrainEmpties};
+ghost use Rattle.station_pair.specs.Laws.{Prefix, LosingLineReasons, Delivery, DeliveryBound, DrainEmpties, DeliveriesBound, FewWait};
 
 use hdlc_frames::laws::{control_reads_back, flag_parts, frame_alone};
 
@@ -36,6 +36,17 @@ pub fn delivery()
 pub fn delivery_bound()
     ensures bound { DeliveryBound }
     ensures drain { DrainEmpties }
+{
+    control_reads_back();
+    flag_parts();
+    frame_alone();
+}
+
+/// A loss-free line: the bound of the deliveries as a number that has no greatest value, and never more than 254 frames wait in one
+/// direction.
+pub fn few_wait()
+    ensures deliveries { DeliveriesBound }
+    ensures waiting { FewWait }
 {
     control_reads_back();
     flag_parts();

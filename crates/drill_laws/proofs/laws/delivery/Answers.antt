@@ -1,6 +1,17 @@
+use Rattle.drill_laws.proofs.Tellings.{StationLaws}
 use Rattle.drill_laws.proofs.Delivering.{delivers_always}
 use Rattle.drill_laws.proofs.laws.delivery.Goals as goal
 
 pub returns : goal.returns
 returns c =
-    delivers_always c.steps.ensures.only c.flows_deliver.ensures c.histories.ensures.facts c.histories.ensures.grow c.histories.ensures.own c.histories.ensures.other
+    let stations : StationLaws = record {
+      receives_give = c.station_laws.ensures.receives;
+      ticks_give = c.station_laws.ensures.ticks;
+      hands_keep = c.station_laws.ensures.hands;
+      others_keep = c.station_laws.ensures.others;
+      releases = c.station_laws.ensures.releases;
+      finish = c.station_laws.ensures.finish;
+      inert = c.station_laws.ensures.inert;
+    } in
+    delivers_always stations c.delivery.ensures c.few_wait.ensures.deliveries c.few_wait.ensures.waiting c.allowed_are_bounded.ensures c.steps.ensures.only
+    c.flows_deliver.ensures c.histories.ensures.facts c.histories.ensures.grow c.histories.ensures.own c.histories.ensures.other

@@ -1,0 +1,447 @@
+-- Each step of a link of two stations is steps of its pair.
+use Rattle.std.proofs.Common.{if◌then◌else◌, ◌≡◌, ◌⊎◌, ℕ, ◌+◌, ◌==◌, nat_lt, max, Bool, true, false, not, ◌&&◌, ◌||◌, List, [], ◌∷◌, ◌++◌, length, map, refl, sym, ap, ap₂, subst, ◌∙◌, append_assoc, arith}
+use Rattle.er_base.specs.declared.side.Side.{Side}
+use Rattle.er_base.specs.declared.side.Side.TheVariants.{E, R}
+use Rattle.er_base.specs.Sides.{other}
+use Rattle.er_settings.specs.declared.settings.Settings.{Settings}
+use Rattle.station_model.specs.Stations.{Station, made, settled, is_down}
+use Rattle.station_model.specs.Calls.{starts, finishes, ticks}
+use Rattle.station_pair.specs.Links.{Came, Link as Pair, station_of, line_of, with_line, read_of, tells, said_octets, did, news, hears_each, reads}
+use Rattle.station_pair.specs.Links as pair
+use Rattle.station_pair.specs.Steps.{refusal_at, send_unless, counted, quits, is_late, tick_at, happens, run}
+use Rattle.station_pair.specs.Steps as on_pair
+use Rattle.station_pair.specs.Laws as laws_of_pair
+use Rattle.drill_model.specs.Outcomes.{Outcome, UserReleased, Passed, Lost, Repeated, Altered, Inserted, NothingWaits, IsShort, Occurrence, at_end, frames_in}
+use Rattle.drill_model.specs.StationEnds.{told_by, called, frames_heard, user_sends, user_releases, time_goes_on, begins, if_expired}
+use Rattle.drill_model.specs.Ends.{End, OfStation, EndEvent, Start, station_end, station_end_step}
+use Rattle.drill_model.specs.Ends as event
+use Rattle.drill_model.specs.Waiting.{LineChange, Lose, Repeat, Alter, Put, altered, changes}
+use Rattle.drill_model.specs.Links.{Link, OfStations, waiting_of, with_waiting, answered, give, joined, opened_stations, LinkStep, Send, Pass, Change, Take, Release as ReleaseStep, Tick, pass, link_step}
+use Rattle.drill_model.specs.Kinds.{deliveries}
+use Rattle.drill_laws.proofs.Tellings.{Says, says_nothing, says_more, Ready, Went, stays, frames_told, StationLaws, frames_went, sends_went, releases_went, ticks_went, begins_went, ready_made}
+use Rattle.drill_laws.proofs.Wiring.{Sees, came_sees, Like, like_sees, not_or, passes_of, deliveries_grow, acted, SeesAt, acted_sees, lined, lined_sees, gives_stationed, read_stays, did_like, reads_like, send_like}
+
+-- ---- small things
+
+and_true : (b : Bool) → b ≡ (b && not false)
+and_true true = refl
+and_true false = refl
+
+and_false : (b : Bool) → false ≡ (b && not true)
+and_false true = refl
+and_false false = refl
+
+max_again : (m n : ℕ) → max m (max m n) ≡ max m n
+max_again m n = omega arith
+
+ready_at : (l : Link) (history : List Occurrence) (p : Pair) (side : Side) → Sees l history p → Ready (station_of p side)
+ready_at l history p E v = v.ready_e
+ready_at l history p R v = v.ready_r
+
+line_at : (l : Link) (history : List Occurrence) (p : Pair) (side : Side) → Sees l history p → line_of p side ≡ waiting_of l side
+line_at l history p E v = sym v.from_e_is
+line_at l history p R v = sym v.from_r_is
+
+same_waiting : (l : Link) (side : Side) → with_waiting l side (waiting_of l side) ≡ l
+same_waiting l E = refl
+same_waiting l R = refl
+
+same_line : (p : Pair) (side : Side) (free : Bool) → lined side (line_of p side) p.order_kept free p.passes p ≡ record p { loss_free = free }
+same_line p E free = refl
+same_line p R free = refl
+
+-- occurrences at a side that change nothing that waits
+told_sees : (l : Link) (history : List Occurrence) (p : Pair) (side : Side) (os : List Outcome) (disturbed free : Bool) (n : ℕ) → Sees l history p
+    → Says os [] [] [] false disturbed n → free ≡ (p.loss_free && not disturbed) → Sees l (history ++ map (at_end side) os) (record p { loss_free = free })
+told_sees l history p side os disturbed free n v says is =
+    let h : List Occurrence = history ++ map (at_end side) os in
+    let q : Pair = lined side (waiting_of l side) p.order_kept free p.passes p in
+    let there : Sees (with_waiting l side (waiting_of l side)) h q =
+    lined_sees l history p side os (waiting_of l side) false disturbed p.order_kept free n p.passes v says (and_true p.order_kept) is in
+    let same : q ≡ record p { loss_free = free } =
+    ap (λ (fs : List (List ℕ)). lined side fs p.order_kept free p.passes p) (sym (line_at l history p side v)) ∙ same_line p side free in
+    subst (λ (t : Pair). Sees l h t) same (subst (λ (k : Link). Sees k h q) (same_waiting l side) there)
+
+-- ---- an event at an end, and a step of the pair
+
+pub record Acts (history : List Occurrence) (p : Pair) (a : Link × List Occurrence) : Type 0 where
+  pub sees : Sees a.0 (history ++ a.1) p
+  pub none : deliveries a.1 ≡ 0
+
+acts : (l : Link) (history : List Occurrence) (q : Pair) (side : Side) (event : EndEvent) (stream : List ℕ) (a : Station × List Outcome) (late free : Bool) (q' : Pair)
+    → Sees l history q → station_end_step q.moment (station_of q side) (read_of q side) event ≡ station_end stream a → Went (station_of q side) a late
+    → free ≡ (q.loss_free && not late) → Like q' (acted side stream a free q) → Acts history q' (give l side event)
+acts l history q side event stream a late free q' v is w free_is like =
+    let x : Link × List Occurrence = answered l side (station_end stream a) in
+    let given : give l side event ≡ x = gives_stationed l history q side event v ∙ ap (answered l side) is in
+    let there : SeesAt history q' x = like_sees x.0 (history ++ x.1) q' (acted side stream a free q) like (acted_sees l history q side stream a late free v w free_is) in
+    let none : deliveries x.1 ≡ 0 = passes_of side a.1 w.handed w.taken w.releases false late 0 w.says in
+    record { sees = subst (SeesAt history q') (sym given) there; none = ap (λ (b : Link × List Occurrence). deliveries b.1) given ∙ none }
+
+-- a link went on so, and the pair by so many deliveries
+pub record Goes (l : Link) (history : List Occurrence) (p : Pair) (more : ℕ) : Type 0 where
+  pub steps : List on_pair.LinkStep
+  pub sees : Sees l history (run p steps)
+  pub count : laws_of_pair.deliveries p steps ≡ more
+
+abbrev cleared : Pair → Pair
+cleared p = record p { came = [] }
+
+one_goes : (l : Link) (history : List Occurrence) (p : Pair) (s : on_pair.LinkStep) (more : ℕ) → Sees l history (happens s p)
+    → laws_of_pair.deliveries_of s (cleared p) ≡ more
+    → Goes l history p more
+one_goes l history p s more v is = record { steps = s ∷ []; sees = v; count = omega (arith, is) }
+
+abbrev GoesAt : List Occurrence → Pair → Link × List Occurrence → Type 0
+GoesAt history p a = Goes a.0 (history ++ a.1) p (deliveries a.1)
+
+-- ---- a link from its opening on
+
+-- the pair that was opened with these settings
+abbrev pub wired : Settings → (moment : ℕ) → Pair
+wired settings moment = pair.opened (settings.modulo == 128) settings.window settings.n2 settings.t1 moment
+
+pub record IsWired (settings : Settings) (l : Link) (history : List Occurrence) : Type 0 where
+  pub moment : ℕ
+  pub steps : List on_pair.LinkStep
+  pub sees : Sees l history (run (wired settings moment) steps)
+  pub count : laws_of_pair.deliveries (wired settings moment) steps ≡ deliveries history
+
+-- what holds of a link of two sides, or that it is a pair of stations
+abbrev pub Either : Settings → (Link → List Occurrence → Type 0) → Link → List Occurrence → Type 0
+Either settings P l history = P l history ⊎ IsWired settings l history
+
+module _ (laws : StationLaws) where
+  -- ---- the users
+
+  send_goes : (l : Link) (history : List Occurrence) (p : Pair) (side : Side) (payload : List ℕ) → Sees l history p → GoesAt history p (give l side (event.Send payload))
+  send_goes l history p side payload v =
+      let q : Pair = cleared p in
+      let u : Sees l history q = came_sees l history p [] v in
+      let s : Station = station_of q side in
+      let a : Station × List Outcome = user_sends q.moment payload s in
+      let done : Acts history (on_pair.send side payload q) (give l side (event.Send payload)) =
+      acts l history q side (event.Send payload) (read_of q side) a false q.loss_free (on_pair.send side payload q) u refl
+      (sends_went laws q.moment payload s (ready_at l history q side u)) (and_true q.loss_free) (send_like side payload q s.released) in
+      one_goes _ _ p (on_pair.Send side payload) _ done.sees (sym done.none)
+
+  take_goes : (l : Link) (history : List Occurrence) (p : Pair) (side : Side) → Sees l history p → GoesAt history p (give l side event.Take)
+  take_goes l history p side v =
+      let s : Station = station_of p side in
+      let done : Acts history p (give l side event.Take) =
+      acts l history p side event.Take (read_of p side) (s, []) false p.loss_free p v refl (stays s (ready_at l history p side v)) (and_true p.loss_free)
+      (p.came, sym (ap (λ (t : Pair). record t { came = p.came }) (read_stays p side))) in
+      record { steps = []; sees = done.sees; count = sym done.none }
+
+  quit_like : (side : Side) (p : Pair) (down : Bool) (t : Station)
+      → Like (if down then p else did side t p) (acted side (read_of p side) (if down then (station_of p side, []) else called t) p.loss_free p)
+  quit_like side p true t = (p.came, sym (ap (λ (q : Pair). record q { came = p.came }) (read_stays p side)))
+  quit_like side p false t = did_like side t p
+
+  station_stays : (p : Pair) (side : Side) (free : Bool) → station_of (record p { loss_free = free }) side ≡ station_of p side
+  station_stays p E free = refl
+  station_stays p R free = refl
+
+  release_goes : (l : Link) (history : List Occurrence) (p : Pair) (side : Side) (sub : ℕ) → Sees l history p → GoesAt history p (link_step l (ReleaseStep side sub))
+  release_goes l history p side sub v =
+      let q : Pair = record (cleared p) { loss_free = false } in
+      let first : List Occurrence = at_end side (UserReleased sub) ∷ [] in
+      let u : Sees l (history ++ first) q =
+      told_sees l history (cleared p) side (UserReleased sub ∷ []) true false 0 (came_sees l history p [] v)
+      (says_more (UserReleased sub) [] [] [] [] false false 0 (λ side. refl) says_nothing) (and_false p.loss_free) in
+      let s : Station = station_of q side in
+      let q' : Pair = if is_down s.phase then q else did side (quits sub s) q in
+      let a : Station × List Outcome = user_releases sub s in
+      let x : Link × List Occurrence = give l side (event.Release sub) in
+      let done : Acts (history ++ first) q' x =
+      acts l (history ++ first) q side (event.Release sub) (read_of q side) a false false q' u refl (releases_went laws sub s (ready_at l (history ++ first) q side u)) refl
+      (quit_like side q (is_down s.phase) (quits sub s)) in
+      let is : on_pair.release side sub (cleared p) ≡ q' =
+      ap (λ (t : Station). if is_down t.phase then q else did side (quits sub t) q) (sym (station_stays (cleared p) side false)) in
+      let there : Sees x.0 (history ++ (first ++ x.1)) (on_pair.release side sub (cleared p)) =
+      subst (λ (t : Pair). Sees x.0 (history ++ (first ++ x.1)) t) (sym is) (subst (λ (h : List Occurrence). Sees x.0 h q') (append_assoc history first x.1) done.sees) in
+      one_goes x.0 (history ++ (first ++ x.1)) p (on_pair.UserRelease side sub) (deliveries (first ++ x.1)) there
+      (sym (deliveries_grow first x.1 ∙ ap (λ (n : ℕ). 0 + n) done.none))
+
+  -- ---- the line
+
+  with_line_is : (q : Pair) (side : Side) (frames : List (List ℕ))
+      → with_line side frames (record q { passes = counted q.passes }) ≡ lined side frames q.order_kept q.loss_free (counted q.passes) q
+  with_line_is q E frames = refl
+  with_line_is q R frames = refl
+
+  nothing_like : (q : Pair) (side : Side) → line_of q side ≡ []
+      → Like (on_pair.nothing_waits side q) (lined side [] q.order_kept q.loss_free q.passes q)
+  nothing_like q E is = let c : List Came = (on_pair.nothing_waits E q).came in (c, ap (λ (fs : List (List ℕ)). record q { from_e = fs; came = c }) is)
+  nothing_like q R is = let c : List Came = (on_pair.nothing_waits R q).came in (c, ap (λ (fs : List (List ℕ)). record q { from_r = fs; came = c }) is)
+
+  waits_nothing : Says (NothingWaits ∷ []) [] [] [] false false 0
+  waits_nothing = says_more NothingWaits [] [] [] [] false false 0 (λ side. refl) says_nothing
+
+  pass_goes : (l : Link) (history : List Occurrence) (p : Pair) (side : Side) (frames : List (List ℕ)) → waiting_of l side ≡ frames → Sees l history p
+      → GoesAt history p (pass l side frames)
+  pass_goes l history p side [] is v =
+      let q : Pair = cleared p in
+      let line : line_of q side ≡ [] = line_at l history q side (came_sees l history p [] v) ∙ is in
+      let u : Sees l (history ++ at_end side NothingWaits ∷ []) q =
+      told_sees l history q side (NothingWaits ∷ []) false q.loss_free 0 (came_sees l history p [] v) waits_nothing (and_true q.loss_free) in
+      let there : Sees l (history ++ at_end side NothingWaits ∷ []) (on_pair.nothing_waits side q) =
+      came_sees l (history ++ at_end side NothingWaits ∷ []) q (on_pair.nothing_waits side q).came u in
+      one_goes l (history ++ at_end side NothingWaits ∷ []) p (on_pair.Pass side) 0
+      (subst (λ (fs : List (List ℕ)). Sees l (history ++ at_end side NothingWaits ∷ []) (on_pair.pass side fs q)) (sym line) there)
+      (ap laws_of_pair.passed_of line)
+  pass_goes l history p side (frame ∷ frames) is v =
+      let q : Pair = cleared p in
+      let line : line_of q side ≡ frame ∷ frames = line_at l history q side (came_sees l history p [] v) ∙ is in
+      let first : List Occurrence = at_end side (Passed frame) ∷ [] in
+      let m : Link = with_waiting l side frames in
+      let r : Pair = lined side frames q.order_kept q.loss_free (counted q.passes) q in
+      let u : Sees m (history ++ first) r =
+      lined_sees l history q side (Passed frame ∷ []) frames false false q.order_kept q.loss_free 1 (counted q.passes) (came_sees l history p [] v)
+      (says_more (Passed frame) [] [] [] [] false false 0 (λ side. refl) says_nothing) (and_true q.order_kept) (and_true q.loss_free) in
+      let to : Side = other side in
+      let x : Link × List Occurrence = give m to (event.Receive frame) in
+      let done : Acts (history ++ first) (reads to frame r) x =
+      acts m (history ++ first) r to (event.Receive frame) (read_of r to ++ frame) (frames_heard r.moment (news (read_of r to) frame) (station_of r to)) false r.loss_free
+      (reads to frame r) u refl (frames_went laws r.moment (news (read_of r to) frame) (station_of r to) (ready_at m (history ++ first) r to u)) (and_true r.loss_free)
+      (reads_like to frame r) in
+      let there : Sees x.0 (history ++ (first ++ x.1)) (reads to frame r) = subst (λ (h : List Occurrence). Sees x.0 h (reads to frame r)) (append_assoc history first x.1) done.sees in
+      let Q : List (List ℕ) → Type 0 = λ fs. Sees x.0 (history ++ (first ++ x.1)) (on_pair.pass side fs q) in
+      one_goes x.0 (history ++ (first ++ x.1)) p (on_pair.Pass side) (deliveries (first ++ x.1))
+      (subst Q (sym line) (subst (λ (t : Pair). Sees x.0 (history ++ (first ++ x.1)) (reads to frame t)) (sym (with_line_is q side frames)) there))
+      (ap laws_of_pair.passed_of line ∙ sym (deliveries_grow first x.1 ∙ ap (λ (n : ℕ). 1 + n) done.none))
+
+  -- ---- what the line does
+
+  -- a change of what waits, by a step of the pair that leaves all else
+  change_goes : (l : Link) (history : List Occurrence) (p : Pair) (side : Side) (s : on_pair.LinkStep) (os : List Outcome) (frames : List (List ℕ))
+      (disorder disturbed order free : Bool) → Sees l history p → Says os [] [] [] disorder disturbed 0 → order ≡ (p.order_kept && not disorder)
+      → free ≡ (p.loss_free && not disturbed) → Like (happens s p) (lined side frames order free p.passes (cleared p)) → laws_of_pair.deliveries_of s (cleared p) ≡ 0
+      → GoesAt history p (with_waiting l side frames, map (at_end side) os)
+  change_goes l history p side s os frames disorder disturbed order free v says order_is free_is like none =
+      let h : List Occurrence = history ++ map (at_end side) os in
+      let there : Sees (with_waiting l side frames) h (lined side frames order free p.passes (cleared p)) =
+      lined_sees l history (cleared p) side os frames disorder disturbed order free 0 p.passes (came_sees l history p [] v) says order_is free_is in
+      one_goes (with_waiting l side frames) h p s (deliveries (map (at_end side) os))
+      (like_sees (with_waiting l side frames) h (happens s p) (lined side frames order free p.passes (cleared p)) like there)
+      (none ∙ sym (passes_of side os [] [] [] disorder disturbed 0 says))
+
+  line_cleared : (p : Pair) (side : Side) → line_of (cleared p) side ≡ line_of p side
+  line_cleared p E = refl
+  line_cleared p R = refl
+
+  lost_like : (q : Pair) (side : Side) (frames : List (List ℕ)) → Like (with_line side frames (record q { loss_free = false })) (lined side frames q.order_kept false q.passes q)
+  lost_like q E frames = (q.came, refl)
+  lost_like q R frames = (q.came, refl)
+
+  put_like : (q : Pair) (side : Side) (frames : List (List ℕ))
+      → Like (with_line side frames (record q { order_kept = false; loss_free = false })) (lined side frames false false q.passes q)
+  put_like q E frames = (q.came, refl)
+  put_like q R frames = (q.came, refl)
+
+  -- by the frames that wait in the pair
+  like_if : (p r : Pair) (f : List (List ℕ) → Pair) (side : Side) (frames : List (List ℕ)) → line_of (cleared p) side ≡ frames → Like (f frames) r → Like (f (line_of (cleared p) side)) r
+  like_if p r f side frames is like = subst (λ (fs : List (List ℕ)). Like (f fs) r) (sym is) like
+
+  stays_like : (q : Pair) (side : Side) (frames : List (List ℕ)) (came : List Came) → line_of q side ≡ frames
+      → Like (record q { came = came }) (lined side frames q.order_kept q.loss_free q.passes q)
+  stays_like q E frames came is = (came, ap (λ (fs : List (List ℕ)). record q { from_e = fs; came = came }) is)
+  stays_like q R frames came is = (came, ap (λ (fs : List (List ℕ)). record q { from_r = fs; came = came }) is)
+
+  abbrev ChangeGoes : Link → List Occurrence → Pair → Side → List (List ℕ) × List Outcome → Type 0
+  ChangeGoes l history p side a = GoesAt history p (with_waiting l side a.0, map (at_end side) a.1)
+
+  -- an octet of the first frame is changed: the place is in the frame or not, the mask is 0 or not
+  alter_goes : (l : Link) (history : List Occurrence) (p : Pair) (side : Side) (place mask : ℕ) (frame : List ℕ) (frames : List (List ℕ)) → Sees l history p
+      → line_of (cleared p) side ≡ frame ∷ frames → (within none : Bool) → nat_lt place (length frame) ≡ within → (mask == 0) ≡ none
+      → ChangeGoes l history p side
+      (if not within then (frame ∷ frames, IsShort (length frame) ∷ []) else if none then (frame ∷ frames, []) else (altered frame place mask ∷ frames, Altered ∷ []))
+  alter_goes l history p side place mask frame frames v line true true w n =
+      let q : Pair = cleared p in
+      change_goes l history p side (on_pair.Alter side place mask) [] (frame ∷ frames) false false p.order_kept p.loss_free v says_nothing (and_true p.order_kept) (and_true p.loss_free)
+      (like_if p (lined side (frame ∷ frames) q.order_kept q.loss_free q.passes q) (λ fs. on_pair.alter side place mask fs q) side (frame ∷ frames) line
+      (rw (w, n) (stays_like q side (frame ∷ frames) [] line))) refl
+  alter_goes l history p side place mask frame frames v line true false w n =
+      let q : Pair = cleared p in
+      change_goes l history p side (on_pair.Alter side place mask) (Altered ∷ []) (altered frame place mask ∷ frames) true true false false v
+      (says_more Altered [] [] [] [] false false 0 (λ side. refl) says_nothing) (and_false p.order_kept) (and_false p.loss_free)
+      (like_if p (lined side (altered frame place mask ∷ frames) false false q.passes q) (λ fs. on_pair.alter side place mask fs q) side (frame ∷ frames) line
+      (rw (w, n) (put_like q side (altered frame place mask ∷ frames)))) refl
+  alter_goes l history p side place mask frame frames v line false none w n =
+      let q : Pair = cleared p in
+      change_goes l history p side (on_pair.Alter side place mask) (IsShort (length frame) ∷ []) (frame ∷ frames) false false p.order_kept p.loss_free v
+      (says_more (IsShort (length frame)) [] [] [] [] false false 0 (λ side. refl) says_nothing) (and_true p.order_kept) (and_true p.loss_free)
+      (like_if p (lined side (frame ∷ frames) q.order_kept q.loss_free q.passes q) (λ fs. on_pair.alter side place mask fs q) side (frame ∷ frames) line
+      (rw w (stays_like q side (frame ∷ frames) (pair.IsShort side (length frame) ∷ []) line))) refl
+
+  changes_goes : (l : Link) (history : List Occurrence) (p : Pair) (side : Side) (change : LineChange) (frames : List (List ℕ)) → Sees l history p
+      → line_of (cleared p) side ≡ frames → ChangeGoes l history p side (changes change frames)
+  changes_goes l history p side Lose [] v line =
+      let q : Pair = cleared p in
+      change_goes l history p side (on_pair.Lose side) (NothingWaits ∷ []) [] false false p.order_kept p.loss_free v waits_nothing (and_true p.order_kept) (and_true p.loss_free)
+      (like_if p (lined side [] q.order_kept q.loss_free q.passes q) (λ fs. on_pair.lose side fs q) side [] line (nothing_like q side line)) refl
+  changes_goes l history p side Lose (frame ∷ frames) v line =
+      let q : Pair = cleared p in
+      change_goes l history p side (on_pair.Lose side) (Lost ∷ []) frames false true p.order_kept false v
+      (says_more Lost [] [] [] [] false false 0 (λ side. refl) says_nothing) (and_true p.order_kept) (and_false p.loss_free)
+      (like_if p (lined side frames q.order_kept false q.passes q) (λ fs. on_pair.lose side fs q) side (frame ∷ frames) line (lost_like q side frames)) refl
+  changes_goes l history p side Repeat [] v line =
+      let q : Pair = cleared p in
+      change_goes l history p side (on_pair.Repeat side) (NothingWaits ∷ []) [] false false p.order_kept p.loss_free v waits_nothing (and_true p.order_kept) (and_true p.loss_free)
+      (like_if p (lined side [] q.order_kept q.loss_free q.passes q) (λ fs. on_pair.repeat side fs q) side [] line (nothing_like q side line)) refl
+  changes_goes l history p side Repeat (frame ∷ frames) v line =
+      let q : Pair = cleared p in
+      change_goes l history p side (on_pair.Repeat side) (Repeated ∷ []) (frame ∷ frame ∷ frames) false true p.order_kept false v
+      (says_more Repeated [] [] [] [] false false 0 (λ side. refl) says_nothing) (and_true p.order_kept) (and_false p.loss_free)
+      (like_if p (lined side (frame ∷ frame ∷ frames) q.order_kept false q.passes q) (λ fs. on_pair.repeat side fs q) side (frame ∷ frames) line
+      (lost_like q side (frame ∷ frame ∷ frames))) refl
+  changes_goes l history p side (Alter place mask) [] v line =
+      let q : Pair = cleared p in
+      change_goes l history p side (on_pair.Alter side place mask) (NothingWaits ∷ []) [] false false p.order_kept p.loss_free v waits_nothing (and_true p.order_kept) (and_true p.loss_free)
+      (like_if p (lined side [] q.order_kept q.loss_free q.passes q) (λ fs. on_pair.alter side place mask fs q) side [] line (nothing_like q side line)) refl
+  changes_goes l history p side (Alter place mask) (frame ∷ frames) v line =
+      alter_goes l history p side place mask frame frames v line (nat_lt place (length frame)) (mask == 0) refl refl
+  changes_goes l history p side (Put octets) frames v line =
+      let q : Pair = cleared p in
+      change_goes l history p side (on_pair.Put side octets) (Inserted ∷ []) (octets ∷ frames) true true false false v
+      (says_more Inserted [] [] [] [] false false 0 (λ side. refl) says_nothing) (and_false p.order_kept) (and_false p.loss_free)
+      (like_if p (lined side (octets ∷ frames) false false q.passes q) (λ fs. with_line side (octets ∷ fs) (record q { order_kept = false; loss_free = false })) side frames line
+      (put_like q side (octets ∷ frames))) refl
+
+  -- ---- time
+
+  none_expired : (late : Bool) (os : List Outcome) → frames_in (if_expired late ++ os) ≡ frames_in os
+  none_expired true os = refl
+  none_expired false os = refl
+
+  at_moment : (l : Link) (history : List Occurrence) (q : Pair) (moment : ℕ) → Sees l history q
+      → Sees (record l { moment = max l.moment moment }) history (record q { moment = max q.moment moment })
+  at_moment l history q moment v =
+      record {
+        opening_is = v.opening_is;
+        e_is = v.e_is;
+        r_is = v.r_is;
+        from_e_is = v.from_e_is;
+        from_r_is = v.from_r_is;
+        moment_is = ap (λ (m : ℕ). max m moment) v.moment_is;
+        ready_e = v.ready_e;
+        ready_r = v.ready_r;
+        sent_e = v.sent_e;
+        sent_r = v.sent_r;
+        accepted_e = v.accepted_e;
+        accepted_r = v.accepted_r;
+        order = v.order;
+        free = v.free;
+        facts = v.facts;
+        releases = v.releases;
+      }
+
+  tick_goes : (l : Link) (history : List Occurrence) (p : Pair) (moment : ℕ) → Sees l history p → GoesAt history p (link_step l (Tick moment))
+  tick_goes l history p moment v =
+      let c : Pair = cleared p in
+      let now : ℕ = max c.moment moment in
+      let m : Link = record l { moment = max l.moment moment } in
+      let q : Pair = record c { moment = now } in
+      let u : Sees m history q = at_moment l history c moment (came_sees l history p [] v) in
+      let late_e : Bool = is_late now q.e in
+      let late_r : Bool = is_late now q.r in
+      let te : Station = finishes (ticks now q.e) in
+      let tr : Station = finishes (ticks now q.r) in
+      let a : Station × List Outcome = time_goes_on now q.e in
+      let b : Station × List Outcome = time_goes_on now q.r in
+      let q2 : Pair = acted E q.read_e a (q.loss_free && not late_e) q in
+      let q3 : Pair = acted R q.read_r b ((q.loss_free && not late_e) && not late_r) q2 in
+      let x : Link × List Occurrence = give m E event.Tick in
+      let first : Acts history q2 x = acts m history q E event.Tick q.read_e a late_e (q.loss_free && not late_e) q2 u refl (ticks_went laws now q.e u.ready_e) refl (q2.came, refl) in
+      let y : Link × List Occurrence = give x.0 R event.Tick in
+      let second : Acts (history ++ x.1) q3 y =
+      acts x.0 (history ++ x.1) q2 R event.Tick q.read_r b late_r ((q.loss_free && not late_e) && not late_r) q3 first.sees refl (ticks_went laws now q.r u.ready_r) refl (q3.came, refl) in
+      let free : Bool = q.loss_free && not (late_e || late_r) in
+      let d : Pair = did R tr (did E te (record q { loss_free = free })) in
+      let done : Pair = on_pair.tick now c in
+      let is : done ≡ d = ap (λ (k : ℕ). did R tr (did E te (record c { moment = k; loss_free = free }))) (max_again c.moment moment) in
+      let like : d ≡ record q3 { came = d.came } =
+      ap (λ (fs : List (List ℕ)). record q { e = settled te; r = settled tr; from_e = q.from_e ++ fs; from_r = q.from_r ++ said_octets tr; loss_free = free; came = d.came })
+      (sym (none_expired late_e (told_by te) ∙ frames_told te))
+      ∙ ap (λ (fs : List (List ℕ)). record q { e = settled te; r = settled tr; from_e = q.from_e ++ frames_in a.1; from_r = q.from_r ++ fs; loss_free = free; came = d.came })
+      (sym (none_expired late_r (told_by tr) ∙ frames_told tr))
+      ∙ ap (λ (f : Bool). record q { e = settled te; r = settled tr; from_e = q.from_e ++ frames_in a.1; from_r = q.from_r ++ frames_in b.1; loss_free = f; came = d.came })
+      (sym (not_or q.loss_free late_e late_r)) in
+      let there : Sees y.0 (history ++ (x.1 ++ y.1)) done =
+      like_sees y.0 (history ++ (x.1 ++ y.1)) done q3 (d.came, ◌∙◌ {c = record q3 { came = d.came }} is like) (subst (λ (h : List Occurrence). Sees y.0 h q3) (append_assoc history x.1 y.1) second.sees) in
+      one_goes y.0 (history ++ (x.1 ++ y.1)) p (on_pair.Tick now) (deliveries (x.1 ++ y.1)) there
+      (sym (deliveries_grow x.1 y.1 ∙ ap₂ (λ (i j : ℕ). i + j) first.none second.none))
+
+  -- ---- any step
+
+  step_goes : (l : Link) (history : List Occurrence) (p : Pair) (s : LinkStep) → Sees l history p → GoesAt history p (link_step l s)
+  step_goes l history p (Send side octets) v = send_goes l history p side octets v
+  step_goes l history p (Pass side) v = pass_goes l history p side (waiting_of l side) refl v
+  step_goes l history p (Change side change) v = changes_goes l history p side change (waiting_of l side) v (line_cleared p side ∙ line_at l history p side v)
+  step_goes l history p (Take side) v = take_goes l history p side v
+  step_goes l history p (ReleaseStep side sub) v = release_goes l history p side sub v
+  step_goes l history p (Tick moment) v = tick_goes l history p moment v
+
+  -- ---- from its opening on
+
+  run_append : (p : Pair) (xs ys : List on_pair.LinkStep) → run p (xs ++ ys) ≡ run (run p xs) ys
+  run_append p [] ys = refl
+  run_append p (s ∷ xs) ys = run_append (happens s p) xs ys
+
+  count_append : (p : Pair) (xs ys : List on_pair.LinkStep) → laws_of_pair.deliveries p (xs ++ ys) ≡ laws_of_pair.deliveries p xs + laws_of_pair.deliveries (run p xs) ys
+  count_append p [] ys = omega arith
+  count_append p (s ∷ xs) ys = omega (arith, count_append (happens s p) xs ys)
+
+  pub wired_steps : (settings : Settings) (l : Link) (history : List Occurrence) (s : LinkStep) → IsWired settings l history
+      → IsWired settings (link_step l s).0 (history ++ (link_step l s).1)
+  wired_steps settings l history s t =
+      let w : Pair = wired settings t.moment in
+      let g = step_goes l history (run w t.steps) s t.sees in
+      record {
+        moment = t.moment;
+        steps = t.steps ++ g.steps;
+        sees = subst (λ (p : Pair). Sees (link_step l s).0 (history ++ (link_step l s).1) p) (sym (run_append w t.steps g.steps)) g.sees;
+        count = count_append w t.steps g.steps ∙ ap₂ (λ (i j : ℕ). i + j) t.count g.count ∙ sym (deliveries_grow history (link_step l s).1);
+      }
+
+  pub wired_opens : (settings : Settings) (moment : ℕ) → IsWired settings (opened_stations settings moment).0 (opened_stations settings moment).1
+  wired_opens settings moment =
+      let extended : Bool = settings.modulo == 128 in
+      let e : Station = made true extended settings.window settings.n2 settings.t1 in
+      let r : Station = made false extended settings.window settings.n2 settings.t1 in
+      let p : Pair = record {
+        e = e;
+        r = r;
+        from_e = [];
+        from_r = [];
+        read_e = [];
+        read_r = [];
+        moment = moment;
+        passes = 0;
+        order_kept = true;
+        loss_free = true;
+        came = [];
+      } in
+      let l : Link = joined OfStations moment (OfStation e []) (OfStation r []) in
+      let v : Sees l [] p = record {
+        opening_is = refl;
+        e_is = refl;
+        r_is = refl;
+        from_e_is = refl;
+        from_r_is = refl;
+        moment_is = refl;
+        ready_e = ready_made true extended settings.window settings.n2 settings.t1;
+        ready_r = ready_made false extended settings.window settings.n2 settings.t1;
+        sent_e = refl;
+        sent_r = refl;
+        accepted_e = refl;
+        accepted_r = refl;
+        order = refl;
+        free = refl;
+        facts = refl;
+        releases = tt;
+      } in
+      let t : Station = finishes (starts moment e) in
+      let done : Acts [] (did E t p) (give l E Start) =
+      acts l [] p E Start [] (begins moment e) false true (did E t p) v refl (begins_went laws moment e v.ready_e) refl (did_like E t p) in
+      record { moment = moment; steps = []; sees = done.sees; count = sym done.none }

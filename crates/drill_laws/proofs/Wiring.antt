@@ -1,0 +1,412 @@
+-- A link of two stations is a pair of stations: each step of it is steps of the pair, and what came says what the stations were handed and took.
+use Rattle.std.proofs.Common.{if◌then◌else◌, ◌≡◌, ◌⊎◌, inl, inr, ℕ, ◌+◌, nat_lt, nat_le, Bool, true, false, not, ◌&&◌, ◌||◌, List, [], ◌∷◌, ◌++◌, length, map, refl, sym, ap, ap₂, subst, ◌∙◌, append-nil, append_assoc, length-append}
+use Rattle.std.specs.Prelude.{Option, Some, None}
+use Rattle.std.specs.List.{flat_map, list_any, AllByRecursion}
+use Rattle.std.proofs.lemmas.List.Concat.{flat_map-append}
+use Rattle.std.proofs.lemmas.List.Folds.{list_any-append}
+use Rattle.er_base.specs.declared.release.Release.{Release}
+use Rattle.er_base.specs.declared.side.Side.{Side}
+use Rattle.er_base.specs.declared.side.Side.TheVariants.{E, R}
+use Rattle.er_base.specs.Sides.{other}
+use Rattle.hdlc_frames.specs.Framing.{Verdict}
+use Rattle.station_model.specs.Stations.{Station, settled}
+use Rattle.station_model.specs.Sending.{waiting}
+use Rattle.station_model.specs.Calls.{receives, hands, finishes}
+use Rattle.station_pair.specs.Links.{Came, Link as Pair, station_of, line_of, with_line, read_of, tells, said_octets, did, news, hears_each, reads}
+use Rattle.station_pair.specs.Links as pair
+use Rattle.station_pair.specs.Steps.{refusal_at, send_unless}
+use Rattle.safe_pair.specs.Facts.{SideFact, is_side}
+use Rattle.drill_model.specs.Outcomes.{Outcome, SendRefusal, RefusedReleased, Refused, Occurrence, at_end, facts_at, facts_in, frames_in}
+use Rattle.drill_model.specs.StationEnds.{told_by, called, frames_heard, refusal_of, handed_unless}
+use Rattle.drill_model.specs.Ends.{OfStation, EndEvent, station_end, station_end_step}
+use Rattle.drill_model.specs.Links.{Link, OfStations, with_waiting, answered, give}
+use Rattle.drill_model.specs.Kinds.{sent_in, accepted_in, released_in, passed_in, is_disorder, is_disturbance, sent_by, accepted_by, releases_in, deliveries, is_disordered, is_disturbed}
+use Rattle.drill_laws.proofs.Tellings.{Says, Ready, Went, frames_told, frames_append}
+
+-- ---- what occurrences at one side say
+
+flat_mapped : {A : Type 0} (g : Occurrence → List A) (f : Outcome → List A) (side : Side) → ((o : Outcome) → g (at_end side o) ≡ f o) → (os : List Outcome)
+    → flat_map g (map (at_end side) os) ≡ flat_map f os
+flat_mapped g f side same [] = refl
+flat_mapped {A} g f side same (o ∷ os) = ap₂ (λ (xs ys : List A). xs ++ ys) (same o) (flat_mapped g f side same os)
+
+abbrev nowhere : Outcome → List (List ℕ)
+nowhere o = []
+
+flat_nowhere : (os : List Outcome) → flat_map nowhere os ≡ []
+flat_nowhere [] = refl
+flat_nowhere (o ∷ os) = flat_nowhere os
+
+pub any_mapped : (f : Outcome → Bool) (side : Side) (os : List Outcome) → list_any (λ (o : Occurrence). f o.outcome) (map (at_end side) os) ≡ list_any f os
+any_mapped f side [] = refl
+any_mapped f side (o ∷ os) = ap (λ (b : Bool). f o || b) (any_mapped f side os)
+
+abbrev sent_of : Side → Occurrence → List (List ℕ)
+sent_of s o = if is_side s o.side then sent_in o.outcome else []
+
+abbrev accepted_of : Side → Occurrence → List (List ℕ)
+accepted_of s o = if is_side s o.side then accepted_in o.outcome else []
+
+pub sent_e_e : (os : List Outcome) → sent_by E (map (at_end E) os) ≡ flat_map sent_in os
+sent_e_e os = flat_mapped (sent_of E) sent_in E (λ o. refl) os
+
+pub sent_e_r : (os : List Outcome) → sent_by E (map (at_end R) os) ≡ []
+sent_e_r os = flat_mapped (sent_of E) nowhere R (λ o. refl) os ∙ flat_nowhere os
+
+pub sent_r_r : (os : List Outcome) → sent_by R (map (at_end R) os) ≡ flat_map sent_in os
+sent_r_r os = flat_mapped (sent_of R) sent_in R (λ o. refl) os
+
+pub sent_r_e : (os : List Outcome) → sent_by R (map (at_end E) os) ≡ []
+sent_r_e os = flat_mapped (sent_of R) nowhere E (λ o. refl) os ∙ flat_nowhere os
+
+accepted_e_e : (os : List Outcome) → accepted_by E (map (at_end E) os) ≡ flat_map accepted_in os
+accepted_e_e os = flat_mapped (accepted_of E) accepted_in E (λ o. refl) os
+
+accepted_e_r : (os : List Outcome) → accepted_by E (map (at_end R) os) ≡ []
+accepted_e_r os = flat_mapped (accepted_of E) nowhere R (λ o. refl) os ∙ flat_nowhere os
+
+accepted_r_r : (os : List Outcome) → accepted_by R (map (at_end R) os) ≡ flat_map accepted_in os
+accepted_r_r os = flat_mapped (accepted_of R) accepted_in R (λ o. refl) os
+
+accepted_r_e : (os : List Outcome) → accepted_by R (map (at_end E) os) ≡ []
+accepted_r_e os = flat_mapped (accepted_of R) nowhere E (λ o. refl) os ∙ flat_nowhere os
+
+sent_grows : (s : Side) (history more : List Occurrence) → sent_by s (history ++ more) ≡ sent_by s history ++ sent_by s more
+sent_grows s history more = flat_map-append (sent_of s) history more
+
+accepted_grows : (s : Side) (history more : List Occurrence) → accepted_by s (history ++ more) ≡ accepted_by s history ++ accepted_by s more
+accepted_grows s history more = flat_map-append (accepted_of s) history more
+
+releases_grow : (history more : List Occurrence) → releases_in (history ++ more) ≡ releases_in history ++ releases_in more
+releases_grow history more = flat_map-append (λ (o : Occurrence). released_in o.outcome) history more
+
+-- the history behind these occurrences at one side, as a whole
+pub record Grows (side : Side) (history : List Occurrence) (os : List Outcome) (handed taken : List (List ℕ)) (releases : List Release) (disorder disturbed : Bool)
+    : Type 0 where
+  pub sent_own : sent_by side (history ++ map (at_end side) os) ≡ sent_by side history ++ handed
+  pub sent_other : sent_by (other side) (history ++ map (at_end side) os) ≡ sent_by (other side) history
+  pub accepted_own : accepted_by side (history ++ map (at_end side) os) ≡ accepted_by side history ++ taken
+  pub accepted_other : accepted_by (other side) (history ++ map (at_end side) os) ≡ accepted_by (other side) history
+  pub releases_are : releases_in (history ++ map (at_end side) os) ≡ releases_in history ++ releases
+  pub disorder_is : is_disordered (history ++ map (at_end side) os) ≡ (is_disordered history || disorder)
+  pub disturbed_is : is_disturbed (history ++ map (at_end side) os) ≡ (is_disturbed history || disturbed)
+  pub facts : facts_in (history ++ map (at_end side) os) ≡ facts_in history
+
+pub grows_of : (side : Side) (history : List Occurrence) (os : List Outcome) (handed taken : List (List ℕ)) (releases : List Release) (disorder disturbed : Bool) (passes : ℕ)
+    → Says os handed taken releases disorder disturbed passes → Grows side history os handed taken releases disorder disturbed
+grows_of E history os handed taken releases disorder disturbed passes h =
+    let more : List Occurrence = map (at_end E) os in
+    record {
+      sent_own = sent_grows E history more ∙ ap (λ (xs : List (List ℕ)). sent_by E history ++ xs) (sent_e_e os ∙ h.handed_is);
+      sent_other = sent_grows R history more ∙ ap (λ (xs : List (List ℕ)). sent_by R history ++ xs) (sent_r_e os) ∙ append-nil (sent_by R history);
+      accepted_own = accepted_grows E history more ∙ ap (λ (xs : List (List ℕ)). accepted_by E history ++ xs) (accepted_e_e os ∙ h.taken_is);
+      accepted_other = accepted_grows R history more ∙ ap (λ (xs : List (List ℕ)). accepted_by R history ++ xs) (accepted_r_e os) ∙ append-nil (accepted_by R history);
+      releases_are = releases_grow history more
+          ∙ ap (λ (xs : List Release). releases_in history ++ xs) (flat_mapped (λ (o : Occurrence). released_in o.outcome) released_in E (λ o. refl) os ∙ h.releases_are);
+      disorder_is = list_any-append (λ (o : Occurrence). is_disorder o.outcome) history more
+          ∙ ap (λ (b : Bool). is_disordered history || b) (any_mapped is_disorder E os ∙ h.disorder_is);
+      disturbed_is = list_any-append (λ (o : Occurrence). is_disturbance o.outcome) history more
+          ∙ ap (λ (b : Bool). is_disturbed history || b) (any_mapped is_disturbance E os ∙ h.disturbed_is);
+      facts = flat_map-append (λ (o : Occurrence). facts_at o.side o.outcome) history more
+          ∙ ap (λ (fs : List SideFact). facts_in history ++ fs) (h.facts E) ∙ append-nil (facts_in history);
+    }
+grows_of R history os handed taken releases disorder disturbed passes h =
+    let more : List Occurrence = map (at_end R) os in
+    record {
+      sent_own = sent_grows R history more ∙ ap (λ (xs : List (List ℕ)). sent_by R history ++ xs) (sent_r_r os ∙ h.handed_is);
+      sent_other = sent_grows E history more ∙ ap (λ (xs : List (List ℕ)). sent_by E history ++ xs) (sent_e_r os) ∙ append-nil (sent_by E history);
+      accepted_own = accepted_grows R history more ∙ ap (λ (xs : List (List ℕ)). accepted_by R history ++ xs) (accepted_r_r os ∙ h.taken_is);
+      accepted_other = accepted_grows E history more ∙ ap (λ (xs : List (List ℕ)). accepted_by E history ++ xs) (accepted_e_r os) ∙ append-nil (accepted_by E history);
+      releases_are = releases_grow history more
+          ∙ ap (λ (xs : List Release). releases_in history ++ xs) (flat_mapped (λ (o : Occurrence). released_in o.outcome) released_in R (λ o. refl) os ∙ h.releases_are);
+      disorder_is = list_any-append (λ (o : Occurrence). is_disorder o.outcome) history more
+          ∙ ap (λ (b : Bool). is_disordered history || b) (any_mapped is_disorder R os ∙ h.disorder_is);
+      disturbed_is = list_any-append (λ (o : Occurrence). is_disturbance o.outcome) history more
+          ∙ ap (λ (b : Bool). is_disturbed history || b) (any_mapped is_disturbance R os ∙ h.disturbed_is);
+      facts = flat_map-append (λ (o : Occurrence). facts_at o.side o.outcome) history more
+          ∙ ap (λ (fs : List SideFact). facts_in history ++ fs) (h.facts R) ∙ append-nil (facts_in history);
+    }
+
+-- how many of them were passed
+pub passes_of : (side : Side) (os : List Outcome) (handed taken : List (List ℕ)) (releases : List Release) (disorder disturbed : Bool) (passes : ℕ)
+    → Says os handed taken releases disorder disturbed passes → deliveries (map (at_end side) os) ≡ passes
+passes_of side os handed taken releases disorder disturbed passes h =
+    ap length (flat_mapped (λ (o : Occurrence). passed_in o.outcome) passed_in side (λ o. refl) os) ∙ h.passes_are
+
+pub deliveries_grow : (history more : List Occurrence) → deliveries (history ++ more) ≡ deliveries history + deliveries more
+deliveries_grow history more =
+    ap length (flat_map-append (λ (o : Occurrence). passed_in o.outcome) history more)
+    ∙ length-append (flat_map (λ (o : Occurrence). passed_in o.outcome) history) (flat_map (λ (o : Occurrence). passed_in o.outcome) more)
+
+-- ---- a link and what came at it, seen as a pair of stations
+
+-- a release that an end had is that of its station
+abbrev pub IsOfPair : Pair → Release → Type 0
+IsOfPair p release = (p.e.released ≡ Some release) ⊎ (p.r.released ≡ Some release)
+
+pub record Sees (l : Link) (history : List Occurrence) (p : Pair) : Type 0 where
+  pub opening_is : l.opening ≡ OfStations
+  pub e_is : l.e ≡ OfStation p.e p.read_e
+  pub r_is : l.r ≡ OfStation p.r p.read_r
+  pub from_e_is : l.from_e ≡ p.from_e
+  pub from_r_is : l.from_r ≡ p.from_r
+  pub moment_is : l.moment ≡ p.moment
+  pub ready_e : Ready p.e
+  pub ready_r : Ready p.r
+  pub sent_e : sent_by E history ≡ p.e.handed
+  pub sent_r : sent_by R history ≡ p.r.handed
+  pub accepted_e : accepted_by E history ≡ p.e.taken
+  pub accepted_r : accepted_by R history ≡ p.r.taken
+  pub order : is_disordered history ≡ not p.order_kept
+  pub free : is_disturbed history ≡ not p.loss_free
+  pub facts : facts_in history ≡ []
+  pub releases : AllByRecursion (IsOfPair p) (releases_in history)
+
+-- what came of a step of the pair is no part of it
+pub came_sees : (l : Link) (history : List Occurrence) (p : Pair) (came : List Came) → Sees l history p → Sees l history (record p { came = came })
+came_sees l history p came v =
+    record {
+      opening_is = v.opening_is;
+      e_is = v.e_is;
+      r_is = v.r_is;
+      from_e_is = v.from_e_is;
+      from_r_is = v.from_r_is;
+      moment_is = v.moment_is;
+      ready_e = v.ready_e;
+      ready_r = v.ready_r;
+      sent_e = v.sent_e;
+      sent_r = v.sent_r;
+      accepted_e = v.accepted_e;
+      accepted_r = v.accepted_r;
+      order = v.order;
+      free = v.free;
+      facts = v.facts;
+      releases = v.releases;
+    }
+
+-- p is q, but for what came
+abbrev pub Like : Pair → Pair → Type 0
+Like p q = (came : List Came) × (p ≡ record q { came = came })
+
+pub like_sees : (l : Link) (history : List Occurrence) (p q : Pair) → Like p q → Sees l history q → Sees l history p
+like_sees l history p q like v = subst (λ (t : Pair). Sees l history t) (sym like.1) (came_sees l history q like.0 v)
+
+-- ---- booleans
+
+pub or_false : (b : Bool) → (b || false) ≡ b
+or_false true = refl
+or_false false = refl
+
+pub not_and : (a b : Bool) → (not a || b) ≡ not (a && not b)
+not_and true true = refl
+not_and true false = refl
+not_and false true = refl
+not_and false false = refl
+
+pub not_or : (a b c : Bool) → ((a && not b) && not c) ≡ (a && not (b || c))
+not_or true true c = refl
+not_or true false true = refl
+not_or true false false = refl
+not_or false b c = refl
+
+-- ---- releases
+
+all_of_pair : (p q : Pair) (releases : List Release) → ((release : Release) → IsOfPair p release → IsOfPair q release) → AllByRecursion (IsOfPair p) releases
+    → AllByRecursion (IsOfPair q) releases
+all_of_pair p q [] kept h = tt
+all_of_pair p q (r ∷ rs) kept h = (kept r h.0, all_of_pair p q rs kept h.1)
+
+all_push : (p : Pair) (xs ys : List Release) → AllByRecursion (IsOfPair p) xs → AllByRecursion (IsOfPair p) ys → AllByRecursion (IsOfPair p) (xs ++ ys)
+all_push p [] ys h i = i
+all_push p (x ∷ xs) ys h i = (h.0, all_push p xs ys h.1 i)
+
+all_at_e : (p : Pair) (xs : List Release) → AllByRecursion (λ release. p.e.released ≡ Some release) xs → AllByRecursion (IsOfPair p) xs
+all_at_e p [] h = tt
+all_at_e p (x ∷ xs) h = (inl h.0, all_at_e p xs h.1)
+
+all_at_r : (p : Pair) (xs : List Release) → AllByRecursion (λ release. p.r.released ≡ Some release) xs → AllByRecursion (IsOfPair p) xs
+all_at_r p [] h = tt
+all_at_r p (x ∷ xs) h = (inr h.0, all_at_r p xs h.1)
+
+-- ---- an event at an end
+
+-- the station of a side did this, and the pair is as loss-free as told
+abbrev pub acted : Side → (stream : List ℕ) → Station × List Outcome → Bool → Pair → Pair
+acted E stream a free p = record p { e = a.0; from_e = p.from_e ++ frames_in a.1; read_e = stream; loss_free = free }
+acted R stream a free p = record p { r = a.0; from_r = p.from_r ++ frames_in a.1; read_r = stream; loss_free = free }
+
+abbrev pub SeesAt : List Occurrence → Pair → Link × List Occurrence → Type 0
+SeesAt history p a = Sees a.0 (history ++ a.1) p
+
+pub acted_sees : (l : Link) (history : List Occurrence) (p : Pair) (side : Side) (stream : List ℕ) (a : Station × List Outcome) (late free : Bool) → Sees l history p
+    → Went (station_of p side) a late → free ≡ (p.loss_free && not late) → SeesAt history (acted side stream a free p) (answered l side (station_end stream a))
+acted_sees l history p E stream a late free v w is =
+    let g = grows_of E history a.1 w.handed w.taken w.releases false late 0 w.says in
+    let q : Pair = acted E stream a free p in
+    record {
+      opening_is = v.opening_is;
+      e_is = refl;
+      r_is = v.r_is;
+      from_e_is = ap (λ (fs : List (List ℕ)). fs ++ frames_in a.1) v.from_e_is;
+      from_r_is = v.from_r_is;
+      moment_is = v.moment_is;
+      ready_e = w.ready;
+      ready_r = v.ready_r;
+      sent_e = g.sent_own ∙ ap (λ (xs : List (List ℕ)). xs ++ w.handed) v.sent_e ∙ sym w.handed_is;
+      sent_r = g.sent_other ∙ v.sent_r;
+      accepted_e = g.accepted_own ∙ ap (λ (xs : List (List ℕ)). xs ++ w.taken) v.accepted_e ∙ sym w.taken_is;
+      accepted_r = g.accepted_other ∙ v.accepted_r;
+      order = g.disorder_is ∙ or_false (is_disordered history) ∙ v.order;
+      free = g.disturbed_is ∙ ap (λ (b : Bool). b || late) v.free ∙ not_and p.loss_free late ∙ ap not (sym is);
+      facts = g.facts ∙ v.facts;
+      releases = subst (AllByRecursion (IsOfPair q)) (sym g.releases_are)
+          (all_push q (releases_in history) w.releases (all_of_pair p q (releases_in history) (λ release is. elim is [ inl x ↦ inl (w.kept release x) | inr x ↦ inr x ]) v.releases) (all_at_e q w.releases w.given));
+    }
+acted_sees l history p R stream a late free v w is =
+    let g = grows_of R history a.1 w.handed w.taken w.releases false late 0 w.says in
+    let q : Pair = acted R stream a free p in
+    record {
+      opening_is = v.opening_is;
+      r_is = refl;
+      e_is = v.e_is;
+      from_r_is = ap (λ (fs : List (List ℕ)). fs ++ frames_in a.1) v.from_r_is;
+      from_e_is = v.from_e_is;
+      moment_is = v.moment_is;
+      ready_r = w.ready;
+      ready_e = v.ready_e;
+      sent_r = g.sent_own ∙ ap (λ (xs : List (List ℕ)). xs ++ w.handed) v.sent_r ∙ sym w.handed_is;
+      sent_e = g.sent_other ∙ v.sent_e;
+      accepted_r = g.accepted_own ∙ ap (λ (xs : List (List ℕ)). xs ++ w.taken) v.accepted_r ∙ sym w.taken_is;
+      accepted_e = g.accepted_other ∙ v.accepted_e;
+      order = g.disorder_is ∙ or_false (is_disordered history) ∙ v.order;
+      free = g.disturbed_is ∙ ap (λ (b : Bool). b || late) v.free ∙ not_and p.loss_free late ∙ ap not (sym is);
+      facts = g.facts ∙ v.facts;
+      releases = subst (AllByRecursion (IsOfPair q)) (sym g.releases_are)
+          (all_push q (releases_in history) w.releases (all_of_pair p q (releases_in history) (λ release is. elim is [ inl x ↦ inl x | inr x ↦ inr (w.kept release x) ]) v.releases) (all_at_r q w.releases w.given));
+    }
+
+-- occurrences at a side that change what waits, or nothing
+abbrev pub lined : Side → List (List ℕ) → (order free : Bool) → ℕ → Pair → Pair
+lined E frames order free passes p = record p { from_e = frames; order_kept = order; loss_free = free; passes = passes }
+lined R frames order free passes p = record p { from_r = frames; order_kept = order; loss_free = free; passes = passes }
+
+pub lined_sees : (l : Link) (history : List Occurrence) (p : Pair) (side : Side) (os : List Outcome) (frames : List (List ℕ)) (disorder disturbed order free : Bool) (n passes : ℕ)
+    → Sees l history p → Says os [] [] [] disorder disturbed n → order ≡ (p.order_kept && not disorder) → free ≡ (p.loss_free && not disturbed)
+    → Sees (with_waiting l side frames) (history ++ map (at_end side) os) (lined side frames order free passes p)
+lined_sees l history p E os frames disorder disturbed order free n passes v says order_is free_is =
+    let g = grows_of E history os [] [] [] disorder disturbed n says in
+    let q : Pair = lined E frames order free passes p in
+    record {
+      opening_is = v.opening_is;
+      e_is = v.e_is;
+      r_is = v.r_is;
+      from_e_is = refl;
+      from_r_is = v.from_r_is;
+      moment_is = v.moment_is;
+      ready_e = v.ready_e;
+      ready_r = v.ready_r;
+      sent_e = g.sent_own ∙ append-nil (sent_by E history) ∙ v.sent_e;
+      sent_r = g.sent_other ∙ v.sent_r;
+      accepted_e = g.accepted_own ∙ append-nil (accepted_by E history) ∙ v.accepted_e;
+      accepted_r = g.accepted_other ∙ v.accepted_r;
+      order = g.disorder_is ∙ ap (λ (b : Bool). b || disorder) v.order ∙ not_and p.order_kept disorder ∙ ap not (sym order_is);
+      free = g.disturbed_is ∙ ap (λ (b : Bool). b || disturbed) v.free ∙ not_and p.loss_free disturbed ∙ ap not (sym free_is);
+      facts = g.facts ∙ v.facts;
+      releases = subst (AllByRecursion (IsOfPair q)) (sym (g.releases_are ∙ append-nil (releases_in history))) v.releases;
+    }
+lined_sees l history p R os frames disorder disturbed order free n passes v says order_is free_is =
+    let g = grows_of R history os [] [] [] disorder disturbed n says in
+    let q : Pair = lined R frames order free passes p in
+    record {
+      opening_is = v.opening_is;
+      e_is = v.e_is;
+      r_is = v.r_is;
+      from_r_is = refl;
+      from_e_is = v.from_e_is;
+      moment_is = v.moment_is;
+      ready_e = v.ready_e;
+      ready_r = v.ready_r;
+      sent_r = g.sent_own ∙ append-nil (sent_by R history) ∙ v.sent_r;
+      sent_e = g.sent_other ∙ v.sent_e;
+      accepted_r = g.accepted_own ∙ append-nil (accepted_by R history) ∙ v.accepted_r;
+      accepted_e = g.accepted_other ∙ v.accepted_e;
+      order = g.disorder_is ∙ ap (λ (b : Bool). b || disorder) v.order ∙ not_and p.order_kept disorder ∙ ap not (sym order_is);
+      free = g.disturbed_is ∙ ap (λ (b : Bool). b || disturbed) v.free ∙ not_and p.loss_free disturbed ∙ ap not (sym free_is);
+      facts = g.facts ∙ v.facts;
+      releases = subst (AllByRecursion (IsOfPair q)) (sym (g.releases_are ∙ append-nil (releases_in history))) v.releases;
+    }
+
+-- what an end of such a link answers
+pub gives_stationed : (l : Link) (history : List Occurrence) (p : Pair) (side : Side) (event : EndEvent) → Sees l history p
+    → give l side event ≡ answered l side (station_end_step p.moment (station_of p side) (read_of p side) event)
+gives_stationed l history p E event v = rw (v.opening_is, v.e_is, v.moment_is) refl
+gives_stationed l history p R event v = rw (v.opening_is, v.r_is, v.moment_is) refl
+
+-- ---- a call of the pair is a call of a station
+
+pub read_stays : (p : Pair) (side : Side) → acted side (read_of p side) (station_of p side, []) p.loss_free p ≡ p
+read_stays p E = ap (λ (fs : List (List ℕ)). record p { from_e = fs }) (append-nil p.from_e)
+read_stays p R = ap (λ (fs : List (List ℕ)). record p { from_r = fs }) (append-nil p.from_r)
+
+pub did_like : (side : Side) (t : Station) (p : Pair) → Like (did side t p) (acted side (read_of p side) (called t) p.loss_free p)
+did_like E t p =
+    let came : List Came = (did E t p).came in
+    (came, ap (λ (fs : List (List ℕ)). record p { e = settled t; from_e = p.from_e ++ fs; came = came }) (sym (frames_told t)))
+did_like R t p =
+    let came : List Came = (did R t p).came in
+    (came, ap (λ (fs : List (List ℕ)). record p { r = settled t; from_r = p.from_r ++ fs; came = came }) (sym (frames_told t)))
+
+-- frames that are closed, one after the other
+hears_like : (side : Side) (vs : List Verdict) (p : Pair)
+    → Like (hears_each side vs p) (acted side (read_of p side) (frames_heard p.moment vs (station_of p side)) p.loss_free p)
+hears_like E [] p = (p.came, ap (λ (fs : List (List ℕ)). record p { from_e = fs }) (sym (append-nil p.from_e)))
+hears_like R [] p = (p.came, ap (λ (fs : List (List ℕ)). record p { from_r = fs }) (sym (append-nil p.from_r)))
+hears_like E (v ∷ vs) p =
+    let t : Station = finishes (receives p.moment v p.e) in
+    let b : Station × List Outcome = frames_heard p.moment vs (settled t) in
+    let more = hears_like E vs (did E t p) in
+    let fs : (p.from_e ++ said_octets t) ++ frames_in b.1 ≡ p.from_e ++ frames_in (told_by t ++ b.1) =
+    append_assoc p.from_e (said_octets t) (frames_in b.1)
+    ∙ ap (λ (xs : List (List ℕ)). p.from_e ++ xs) (ap (λ (xs : List (List ℕ)). xs ++ frames_in b.1) (sym (frames_told t)) ∙ sym (frames_append (told_by t) b.1)) in
+    (more.0, more.1 ∙ ap (λ (xs : List (List ℕ)). record p { e = b.0; from_e = xs; came = more.0 }) fs)
+hears_like R (v ∷ vs) p =
+    let t : Station = finishes (receives p.moment v p.r) in
+    let b : Station × List Outcome = frames_heard p.moment vs (settled t) in
+    let more = hears_like R vs (did R t p) in
+    let fs : (p.from_r ++ said_octets t) ++ frames_in b.1 ≡ p.from_r ++ frames_in (told_by t ++ b.1) =
+    append_assoc p.from_r (said_octets t) (frames_in b.1)
+    ∙ ap (λ (xs : List (List ℕ)). p.from_r ++ xs) (ap (λ (xs : List (List ℕ)). xs ++ frames_in b.1) (sym (frames_told t)) ∙ sym (frames_append (told_by t) b.1)) in
+    (more.0, more.1 ∙ ap (λ (xs : List (List ℕ)). record p { r = b.0; from_r = xs; came = more.0 }) fs)
+
+-- octets are read
+pub reads_like : (side : Side) (octets : List ℕ) (p : Pair)
+    → Like (reads side octets p) (acted side (read_of p side ++ octets) (frames_heard p.moment (news (read_of p side) octets) (station_of p side)) p.loss_free p)
+reads_like E octets p = hears_like E (news p.read_e octets) (record p { read_e = p.read_e ++ octets })
+reads_like R octets p = hears_like R (news p.read_r octets) (record p { read_r = p.read_r ++ octets })
+
+-- a payload is handed down, or refused
+handed_like : (side : Side) (payload : List ℕ) (p : Pair)
+    → Like (did side (finishes (hands p.moment payload (station_of p side))) p)
+    (acted side (read_of p side) (handed_unless None p.moment payload (station_of p side)) p.loss_free p)
+handed_like E payload p = did_like E (finishes (hands p.moment payload p.e)) p
+handed_like R payload p = did_like R (finishes (hands p.moment payload p.r)) p
+
+refused_like : (side : Side) (came : Came) (refusal : SendRefusal) (p : Pair)
+    → Like (tells (came ∷ []) p) (acted side (read_of p side) (station_of p side, Refused refusal ∷ []) p.loss_free p)
+refused_like E came refusal p = (p.came ++ came ∷ [], ap (λ (fs : List (List ℕ)). record p { from_e = fs; came = p.came ++ came ∷ [] }) (sym (append-nil p.from_e)))
+refused_like R came refusal p = (p.came ++ came ∷ [], ap (λ (fs : List (List ℕ)). record p { from_r = fs; came = p.came ++ came ∷ [] }) (sym (append-nil p.from_r)))
+
+send_like_if : (side : Side) (payload : List ℕ) (p : Pair) (long full : Bool) (x y : Came) (x' y' : SendRefusal)
+    → Like (send_unless (if long then (if full then None else Some x) else Some y) side payload p)
+    (acted side (read_of p side) (handed_unless (if long then (if full then None else Some x') else Some y') p.moment payload (station_of p side)) p.loss_free p)
+send_like_if side payload p true true x y x' y' = handed_like side payload p
+send_like_if side payload p true false x y x' y' = refused_like side x x' p
+send_like_if side payload p false full x y x' y' = refused_like side y y' p
+
+pub send_like : (side : Side) (payload : List ℕ) (p : Pair) (o : Option Release)
+    → Like (send_unless (refusal_at side (station_of p side) payload o) side payload p)
+    (acted side (read_of p side) (handed_unless (refusal_of (station_of p side) payload o) p.moment payload (station_of p side)) p.loss_free p)
+send_like side payload p (Some release) = refused_like side (pair.RefusedReleased side release) (RefusedReleased release) p
+send_like side payload p None =
+    send_like_if side payload p (nat_le 1 (length payload) && nat_le (length payload) 1026) (nat_lt (waiting (station_of p side)) 16)
+    (pair.RefusedFull side (waiting (station_of p side))) (pair.RefusedLength side (length payload)) _ _

@@ -1,0 +1,16 @@
+use Rattle.drill_laws.proofs.Tellings.{StationLaws}
+use Rattle.drill_laws.proofs.Losing.{in_order_always}
+use Rattle.drill_laws.proofs.laws.in_order.Goals as goal
+
+pub returns : goal.returns
+returns c =
+    let stations : StationLaws = record {
+      receives_give = c.station_laws.ensures.receives;
+      ticks_give = c.station_laws.ensures.ticks;
+      hands_keep = c.station_laws.ensures.hands;
+      others_keep = c.station_laws.ensures.others;
+      releases = c.station_laws.ensures.releases;
+      finish = c.station_laws.ensures.finish;
+      inert = c.station_laws.ensures.inert;
+    } in
+    in_order_always stations c.allowed_are_bounded.ensures c.histories.ensures.facts c.histories.ensures.grow c.histories.ensures.own c.histories.ensures.other c.prefix.ensures

@@ -1,0 +1,93 @@
+-- The end of a link at level link: a station in asynchronous balanced mode (ISO/IEC 13239), and what a call of it tells and sends. Each call
+-- is followed by the answer that is still owed.
+use Rattle.std.specs.Prelude.{ℕ, nat_le, nat_lt, Bool, true, false, ◌&&◌, if◌then◌else◌, List, [], ◌∷◌, ◌++◌, length, map, Option, Some, None}
+use Rattle.er_base.specs.declared.release.Release.{Release}
+use Rattle.hdlc_frames.specs.Framing.{Verdict}
+use Rattle.station_model.specs.Stations.{Station, settled, is_down}
+use Rattle.station_model.specs.Sending.{waiting}
+use Rattle.station_model.specs.Calls.{starts, receives, hands, finishes, ticks}
+use Rattle.station_pair.specs.Links.{said_octets}
+use Rattle.station_pair.specs.Steps.{quits, is_late}
+use Rattle.drill_model.specs.Outcomes.{SendRefusal, RefusedReleased, RefusedLength, RefusedFull, Outcome, Handed, Arrived, Up, Refused, Released, Frame, Expired}
+
+-- ---- a call
+
+abbrev pub if_up : Bool → List Outcome
+if_up true = Up ∷ []
+if_up false = []
+
+abbrev pub if_arrived : Option (List ℕ) → List Outcome
+if_arrived None = []
+if_arrived (Some payload) = Arrived payload ∷ []
+
+abbrev pub if_released : Option Release → List Outcome
+if_released None = []
+if_released (Some release) = Released release ∷ []
+
+-- what a call told, in the order of the table of lines, and then the frames that it sent
+abbrev pub told_by : Station → List Outcome
+told_by s = ((if_up s.deed.up ++ if_arrived s.deed.payload) ++ if_released s.deed.released) ++ map Frame (said_octets s)
+
+-- the station behind a call, and what came of it
+abbrev pub called : Station → Station × List Outcome
+called s = (settled s, told_by s)
+
+-- ---- octets come
+
+-- each frame that they close is one event
+abbrev pub frames_heard : (moment : ℕ) → List Verdict → Station → Station × List Outcome
+frames_heard moment [] s = (s, [])
+frames_heard moment (verdict ∷ verdicts) s =
+    let a = called (finishes (receives moment verdict s)) in
+    let b = frames_heard moment verdicts a.0 in
+    (b.0, a.1 ++ b.1)
+
+-- what came of each frame
+abbrev pub heard_parts : (moment : ℕ) → List Verdict → Station → List (List Outcome)
+heard_parts moment [] s = []
+heard_parts moment (verdict ∷ verdicts) s =
+    let a = called (finishes (receives moment verdict s)) in
+    a.1 ∷ heard_parts moment verdicts a.0
+
+-- ---- the user sends
+
+-- why a payload is refused, if it is: the station is released; it isn't one of 1 to 1,026 octets; 16 payloads wait to be sent
+abbrev pub refusal_of : Station → (payload : List ℕ) → Option Release → Option SendRefusal
+refusal_of s payload (Some release) = Some (RefusedReleased release)
+refusal_of s payload None =
+    if nat_le 1 (length payload) && nat_le (length payload) 1026
+    then (if nat_lt (waiting s) 16 then None else Some (RefusedFull (waiting s)))
+    else Some (RefusedLength (length payload))
+
+-- a payload is handed down, where nothing refuses it
+abbrev pub handed_unless : Option SendRefusal → (moment : ℕ) → (payload : List ℕ) → Station → Station × List Outcome
+handed_unless (Some refusal) moment payload s = (s, Refused refusal ∷ [])
+handed_unless None moment payload s =
+    let a = called (finishes (hands moment payload s)) in
+    (a.0, Handed payload ∷ a.1)
+
+abbrev pub user_sends : (moment : ℕ) → (payload : List ℕ) → Station → Station × List Outcome
+user_sends moment payload s = handed_unless (refusal_of s payload s.released) moment payload s
+
+-- ---- the user releases
+
+-- a station that was released before does nothing
+abbrev pub user_releases : (sub : ℕ) → Station → Station × List Outcome
+user_releases sub s = if is_down s.phase then (s, []) else called (quits sub s)
+
+-- ---- the moment has come
+
+abbrev pub if_expired : Bool → List Outcome
+if_expired true = Expired ∷ []
+if_expired false = []
+
+-- T1 is found expired or isn't
+abbrev pub time_goes_on : (moment : ℕ) → Station → Station × List Outcome
+time_goes_on moment s =
+    let a = called (finishes (ticks moment s)) in
+    (a.0, if_expired (is_late moment s) ++ a.1)
+
+-- ---- the set-up
+
+abbrev pub begins : (moment : ℕ) → Station → Station × List Outcome
+begins moment s = called (finishes (starts moment s))
