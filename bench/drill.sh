@@ -20,19 +20,8 @@ drill() {
   awk -v count="$1" 'BEGIN { for (i = 0; i < count; i++) printf "send 1 e %0260x\npass 1 e\n", i }'
 }
 
-# Runs the program on a drill, and prints seconds of processor time, MiB, and the status.
-measure() {
-  python3 - "$program" "$1" << 'PY'
-import os, resource, subprocess, sys
-with open(os.devnull, "wb") as nothing:
-    status = subprocess.run([sys.argv[1], "drill", sys.argv[2]], stdout=nothing).returncode
-used = resource.getrusage(resource.RUSAGE_CHILDREN)
-print(f"{used.ru_utime + used.ru_stime:.2f} {used.ru_maxrss / 1024:.0f} {status}")
-PY
-}
-
 report() {
-  read -r seconds memory status <<< "$(measure "$work/$1")"
+  read -r seconds memory status <<< "$(python3 bench/measure.py "$program" drill "$work/$1")"
   printf '%-34s %9s octets %6s s %5s MiB, status %s\n' "$2" "$(stat -c %s "$work/$1")" "$seconds" "$memory" "$status"
 }
 
