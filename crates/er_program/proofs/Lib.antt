@@ -5,3 +5,5 @@ pub mod DrillRuns
 pub mod RunEndings
 pub mod RunMeanings
 pub mod HoldsAlways
+pub mod BitRuns
+pub mod BitMeanings

@@ -12,12 +12,13 @@ use Rattle.drill_model.specs.declared.world_fault.WorldFault.TheVariants.{NoLink
 use Rattle.drill_model.specs.Texts.{drill_text}
 use Rattle.link_trait.specs.Outside.{Grew, GrewPart, Rose, HasFile}
 use Rattle.link_trait.specs.Growth.{grew_then}
-use Rattle.er_program.specs.Commands.{Command, Misused, Drill, names_of}
+use Rattle.er_program.specs.Commands.{Command, Misused, Drill, Bits, names_of}
 use Rattle.er_program.specs.LastLines.{fault_line, why_word, fetch_line, usage_line, memory_line}
 use Rattle.er_program.specs.Answers.{Answer, HasFetched, IsFetchedAnswer, Files, FirstFault, AreDone, IsDrillAnswer, IsWhole, BreaksOff, IsScenarioAnswer, lines_of_first, fault_answer}
 use Rattle.er_program.specs.Runs.{HoldsAlways, BrokeOff, AreFirstLines, Means, HasStatus, IsSinkFailed, IsOutOfMemory, IsComplete}
 use Rattle.er_program.specs.Writing.{HasReadable, IsReadable, IsBegun, Finished, Broken, Exhausted, Exhausts}
 use Rattle.er_program.specs.declared.status.Status.{Status}
+use Rattle.er_program.proofs.BitMeanings.{means_bits}
 
 -- what is claimed of the world holds at every moment of the steps that are done
 abbrev pub AlwaysHolds : Type 0
@@ -61,6 +62,7 @@ means_unfetched name files p q c d f g before now status asked is rose printed =
 memory_complete : (command : Command) (files : Files) (c d f g status : ℕ) → status ≡ 7 → IsComplete command files c d f g status
 memory_complete Misused files c d f g status is = λ fine. inr is
 memory_complete (Drill name) files c d f g status is = λ good fine. inr is
+memory_complete (Bits name) files c d f g status is = λ good fine. inr is
 
 means_memory : (command : Command) (files : Files) (p q : Names) (c d f g : ℕ) (before now : Option (List ℕ)) (status : ℕ)
     → status ≡ 7 → IsOutOfMemory command files before now → Means command files p q c d f g before now status
@@ -80,6 +82,7 @@ means_memory command files p q c d f g before now status is out = record {
 not_complete : (command : Command) (files : Files) (c d f g status : ℕ) → Rose f g → IsComplete command files c d f g status
 not_complete Misused files c d f g status rose = λ fine. absurd (fine rose)
 not_complete (Drill name) files c d f g status rose = λ good fine. absurd (fine rose)
+not_complete (Bits name) files c d f g status rose = λ good fine. absurd (fine rose)
 
 means_sink : (command : Command) (files : Files) (p q : Names) (c d f g : ℕ) (before now : Option (List ℕ)) (status : ℕ)
     → status ≡ 5 → IsSinkFailed command files c d f g before now → Means command files p q c d f g before now status
@@ -276,6 +279,8 @@ means_finished law Misused files p q c d before now f g status asked ends =
 means_finished law (Drill name) files p q c d before now f g status asked ends =
     let given = ends.is.answer in
     means_fetched name given.fetched ends.answer files p q c d f g before now status asked law given.stands ends.is.readable given.is ends.stated ends.printed
+means_finished law (Bits name) files p q c d before now f g status asked ends =
+    means_bits name ends.is.fetched ends.answer files p q c d f g before now status asked ends.is.stands ends.is.is ends.stated ends.printed
 
 -- a write failed
 pub means_broken : (command : Command) (files : Files) (p q : Names) (c d : ℕ) (before now : Option (List ℕ)) (f g : ℕ)
@@ -299,6 +304,7 @@ first_lines_hold law (Drill name) files text begun =
         holds = law first.scenario first.readable first.count first.are_done;
       })
     ]
+first_lines_hold law (Bits name) files text begun = begun
 
 -- memory ran out, and the last line was written
 means_exhausted : AlwaysHolds → (command : Command) (files : Files) (p q : Names) (c d : ℕ) (before mid now : Option (List ℕ)) (f g h : ℕ)

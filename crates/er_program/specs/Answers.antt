@@ -1,5 +1,5 @@
 -- What a run of the program answers where no write fails and memory suffices: a status and a text (this profile).
-use Rattle.std.specs.Prelude.{◌≡◌, ◌<◌, ℕ, List, ◌++◌, take, length, slice_get, Option, Some, None, Result, Ok, Err, codes}
+use Rattle.std.specs.Prelude.{◌≡◌, ◌<◌, ℕ, List, ◌++◌, take, length, slice_get, nat_lt, if◌then◌else◌, Option, Some, None, Result, Ok, Err, codes}
 use Rattle.er_base.specs.declared.text_fault.TextFault.{TextFault}
 use Rattle.er_base.specs.declared.text_fault.TextFault.TheVariants as text
 use Rattle.er_scenario.specs.declared.step.Step.{Step}
@@ -12,7 +12,8 @@ use Rattle.drill_model.specs.Worlds.{plan_of, steps_of}
 use Rattle.drill_model.specs.Faults.{fault_behind}
 use Rattle.drill_model.specs.Texts.{first_lines, drill_text}
 use Rattle.link_trait.specs.Outside.{HasFile, Rose}
-use Rattle.er_program.specs.Commands.{Command, Misused, Drill}
+use Rattle.er_program.specs.Commands.{Command, Misused, Drill, Bits}
+use Rattle.er_program.specs.BitTexts.{most_line_octets, bits_text}
 use Rattle.er_program.specs.LastLines.{usage_line, fetch_line, fault_line, memory_line, overfull_line, why_word}
 
 pub record Answer : Type 0 where
@@ -88,7 +89,29 @@ pub record IsFileAnswer (name : List ℕ) (files : Files) (c d : ℕ) (a : Answe
   pub stands : HasFetched name fetched files c d
   pub is : IsFetchedAnswer name fetched a
 
+-- ---- a recorded line
+
+-- a file of too many octets is refused; any other is read as frames
+abbrev pub bits_answer : List ℕ → Answer
+bits_answer file =
+    if nat_lt most_line_octets (length file)
+    then record { status = 3; text = fault_line 0 (codes "long") }
+    else record { status = 0; text = bits_text file }
+
+abbrev pub IsFetchedBits : List ℕ → Option (List ℕ) → Answer → Type 0
+IsFetchedBits name None a = a ≡ record { status = 2; text = fetch_line name }
+IsFetchedBits name (Some file) a = a ≡ bits_answer file
+
+-- the answer to the file word of a recorded line
+pub record IsBitsAnswer (name : List ℕ) (files : Files) (c d : ℕ) (a : Answer) : Type 0 where
+  pub fetched : Option (List ℕ)
+  pub stands : HasFetched name fetched files c d
+  pub is : IsFetchedBits name fetched a
+
+-- ---- the words
+
 -- the answer to a command, by the files and the cabinet's count of faults before and after
 abbrev pub IsAnswer : Command → Files → ℕ → ℕ → Answer → Type 0
 IsAnswer Misused files c d a = a ≡ record { status = 1; text = usage_line }
 IsAnswer (Drill name) files c d a = IsFileAnswer name files c d a
+IsAnswer (Bits name) files c d a = IsBitsAnswer name files c d a

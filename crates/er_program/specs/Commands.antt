@@ -8,6 +8,8 @@ pub data Command : Type 0 where
   Misused : Command
   -- `drill SCENARIO`: the file word
   Drill : (name : List ℕ) → Command
+  -- `bits FILE`: the file word
+  Bits : (name : List ℕ) → Command
 
 -- words as octets
 abbrev pub texts : List (String Global) → List (List ℕ)
@@ -15,7 +17,9 @@ texts words = map string_bytes words
 
 -- the command that two words fit
 abbrev pub command_of_two : List ℕ → List ℕ → Command
-command_of_two command name = if bytes_eq command (codes "drill") then Drill name else Misused
+command_of_two command name =
+    if bytes_eq command (codes "drill") then Drill name else
+    if bytes_eq command (codes "bits") then Bits name else Misused
 
 abbrev pub command_of : List (List ℕ) → Command
 command_of [] = Misused
@@ -27,3 +31,4 @@ command_of (command ∷ name ∷ more ∷ rest) = Misused
 abbrev pub names_of : Command → List (List ℕ)
 names_of Misused = []
 names_of (Drill name) = name ∷ []
+names_of (Bits name) = name ∷ []

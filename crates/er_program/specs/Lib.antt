@@ -5,3 +5,5 @@ pub mod Answers
 pub mod Runs
 pub mod Writing
 pub mod WriterSinks
+pub mod BitTexts
+pub mod BitWriting

@@ -1,5 +1,5 @@
 -- What is claimed of a run of the program: each status with its cause, what the sink got, the names that were asked for (this profile).
-use Rattle.std.specs.Prelude.{◌≡◌, ◌⊎◌, ◌≤◌, ℕ, List, [], ◌∷◌, ◌++◌, length, Option, Some, None, Ok, Err}
+use Rattle.std.specs.Prelude.{◌≡◌, ◌⊎◌, ◌≤◌, ℕ, ◌<◌, List, [], ◌∷◌, ◌++◌, length, take, Option, Some, None, Ok, Err, codes}
 use Rattle.std.specs.Option.{option_map}
 use Rattle.er_base.specs.declared.why.Why.{Why}
 use Rattle.er_base.specs.declared.text_fault.TextFault.TheVariants.{At}
@@ -12,9 +12,10 @@ use Rattle.drill_model.specs.Texts.{drill_text}
 use Rattle.drill_model.specs.Kinds.{IsLossFree}
 use Rattle.drill_model.specs.Headline.{opening_of, LawfulAt, Delivers}
 use Rattle.link_trait.specs.Outside.{Grew, GrewPart, Rose, HasFile}
-use Rattle.er_program.specs.Commands.{Command, Misused, Drill, names_of}
+use Rattle.er_program.specs.Commands.{Command, Misused, Drill, Bits, names_of}
 use Rattle.er_program.specs.LastLines.{usage_line, memory_line, fetch_line, fault_line, why_word}
-use Rattle.er_program.specs.Answers.{Answer, IsAnswer, IsScenarioAnswer, Files, FirstFault, AreDone, first_steps, lines_of_first, fault_answer}
+use Rattle.er_program.specs.Answers.{Answer, IsAnswer, IsScenarioAnswer, Files, FirstFault, AreDone, first_steps, lines_of_first, fault_answer, bits_answer}
+use Rattle.er_program.specs.BitTexts.{most_line_octets, verdict_lines, verdicts_in, bits_text}
 
 -- the closed list of statuses
 abbrev pub IsStatus : ℕ → Type 0
@@ -53,15 +54,24 @@ pub record Drilled (name : List ℕ) (files : Files) (before now : Option (List 
   pub printed : Grew before now (drill_text scenario)
   pub holds : HoldsAlways scenario (length scenario.steps)
 
+-- the file of that name is short enough, and what it is read as was written
+pub record BitsRead (name : List ℕ) (files : Files) (before now : Option (List ℕ)) : Type 0 where
+  pub file : List ℕ
+  pub stands : HasFile files name file
+  pub short : length file ≤ most_line_octets
+  pub printed : Grew before now (bits_text file)
+
 abbrev pub IsDone : Command → Files → Option (List ℕ) → Option (List ℕ) → Type 0
 IsDone Misused files before now = ⊥
 IsDone (Drill name) files before now = Drilled name files before now
+IsDone (Bits name) files before now = BitsRead name files before now
 
 -- ---- status 1
 
 abbrev pub IsMisused : Command → Option (List ℕ) → Option (List ℕ) → Type 0
 IsMisused Misused before now = Grew before now usage_line
 IsMisused (Drill name) before now = ⊥
+IsMisused (Bits name) before now = ⊥
 
 -- ---- status 2
 
@@ -96,15 +106,24 @@ pub record BrokeOff (name : List ℕ) (files : Files) (status : ℕ) (before now
   pub printed : Grew before now (lines_of_first scenario first.count ++ (fault_answer first.step.line first.fault).text)
   pub holds : HoldsAlways scenario first.count
 
+-- the file of that name has too many octets for a recorded line, which is printed alone
+pub record BitsTooLong (name : List ℕ) (files : Files) (before now : Option (List ℕ)) : Type 0 where
+  pub file : List ℕ
+  pub stands : HasFile files name file
+  pub long : most_line_octets < length file
+  pub printed : Grew before now (fault_line 0 (codes "long"))
+
 -- status 3: the file is out of its grammar, or a step is refused
 abbrev pub IsRefused : Command → Files → Option (List ℕ) → Option (List ℕ) → Type 0
 IsRefused Misused files before now = ⊥
 IsRefused (Drill name) files before now = IsOutOfForm name files before now ⊎ BrokeOff name files 3 before now
+IsRefused (Bits name) files before now = BitsTooLong name files before now
 
 -- status 8: a frame would be one more than may wait in one direction
 abbrev pub IsOverfull : Command → Files → Option (List ℕ) → Option (List ℕ) → Type 0
 IsOverfull Misused files before now = ⊥
 IsOverfull (Drill name) files before now = BrokeOff name files 8 before now
+IsOverfull (Bits name) files before now = ⊥
 
 -- ---- status 7
 
@@ -117,10 +136,18 @@ pub record FirstLines (name : List ℕ) (files : Files) (text : List ℕ) : Type
   pub is : text ≡ lines_of_first scenario count
   pub holds : HoldsAlways scenario count
 
+-- the lines of some first verdicts on the file
+pub record FirstVerdictLines (name : List ℕ) (files : Files) (text : List ℕ) : Type 0 where
+  pub file : List ℕ
+  pub stands : HasFile files name file
+  pub count : ℕ
+  pub is : text ≡ verdict_lines (take count (verdicts_in file))
+
 -- nothing was written where memory ran out before the first step
 abbrev pub AreFirstLines : Command → Files → List ℕ → Type 0
 AreFirstLines Misused files text = text ≡ []
 AreFirstLines (Drill name) files text = (text ≡ []) ⊎ FirstLines name files text
+AreFirstLines (Bits name) files text = (text ≡ []) ⊎ FirstVerdictLines name files text
 
 -- want of memory: the sink got the lines of some first steps, and then the last line
 pub record IsOutOfMemory (command : Command) (files : Files) (before now : Option (List ℕ)) : Type 0 where
@@ -166,6 +193,9 @@ IsComplete Misused files c d f g status = (Rose f g → ⊥) → (status ≡ 1) 
 IsComplete (Drill name) files c d f g status =
     (Rose c d → ⊥) → (Rose f g → ⊥)
     → ((file : List ℕ) × HasFile files name file × HasStatus file status) ⊎ (status ≡ 7)
+IsComplete (Bits name) files c d f g status =
+    (Rose c d → ⊥) → (Rose f g → ⊥)
+    → ((file : List ℕ) × HasFile files name file × (status ≡ (bits_answer file).status)) ⊎ (status ≡ 7)
 
 -- ---- a run
 

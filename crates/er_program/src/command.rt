@@ -14,6 +14,11 @@ pub enum Command<'a> {
         /// The name of the file.
         name: &'a str,
     },
+    /// `bits FILE`.
+    Bits {
+        /// The name of the file.
+        name: &'a str,
+    },
 }
 
 fn command_of_two<'a>(command: &str, name: &'a str) -> Command<'a>
@@ -21,6 +26,8 @@ fn command_of_two<'a>(command: &str, name: &'a str) -> Command<'a>
 {
     if command == "drill" {
         Command::Drill { name }
+    } else if command == "bits" {
+        Command::Bits { name }
     } else {
         Command::Misused
     }

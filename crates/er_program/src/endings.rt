@@ -29,8 +29,8 @@ pub fn say<K: Sink>(text: &[u8], sink: &mut K) -> Result<(), Failed>
     sink.write(text)
 }
 
-// Writes a text, and gives the status that goes with it.
-fn last<K: Sink>(status: u8, text: &[u8], sink: &mut K) -> Result<Status, Stop>
+/// Writes a text, and gives the status that goes with it.
+pub fn last<K: Sink>(status: u8, text: &[u8], sink: &mut K) -> Result<Status, Stop>
     ensures gives { Gives (record { status = status; text = text.now }) (K.held sink.old) (K.held sink.new)
         (K.faults sink.old) (K.faults sink.new) result }
     ensures sink_count { K.faults sink.old ≤ K.faults sink.new }

@@ -4,6 +4,9 @@
 //! the order of things: the layers below read, run and print.
 #![tactic(auto)]
 
+mod bits;
+#[cfg(test)]
+mod bits_tests;
 mod command;
 mod drill;
 mod endings;

@@ -8,6 +8,7 @@ ghost use Rattle.er_program.specs.CommandViews.{command_view};
 ghost use Rattle.er_program.specs.Writing.{EndsFile, Ends};
 ghost use Rattle.er_program.specs.Runs.{Means, IsStatus, IsDone, IsMisused, IsUnfetched, IsRefused, IsSinkFailed, IsOutOfMemory, IsOverfull, IsComplete};
 
+use crate::bits::bits_run;
 use crate::command::{Command, command_from};
 use crate::drill::drill;
 use crate::endings::{misused, out_of_form, out_of_memory, unfetched};
@@ -72,6 +73,7 @@ fn answered<F: Cabinet, K: Sink>(
     match command_from(words) {
         Command::Misused => misused(sink),
         Command::Drill { name } => drill_run(alloc, name, cabinet, sink),
+        Command::Bits { name } => bits_run(alloc, name, cabinet, sink),
     }
 }
 
@@ -106,12 +108,13 @@ fn ran<F: Cabinet, K: Sink>(
 /// name.
 ///
 /// `drill SCENARIO` fetches the file SCENARIO, does its steps and prints their text, the lines of each step as soon as
-/// it is done. The statuses:
+/// it is done. `bits FILE` fetches the file FILE, a recorded line of at most 16,777,216 octets, reads its bits as frames
+/// and prints a line for each verdict as soon as it comes, and then how many bits and frames there are. The statuses:
 ///
 /// - 0: the file was read to its end, all its steps are done and all was printed.
 /// - 1: the words fit no command; `! usage` is printed.
-/// - 2: the fetch of the file failed; `! fetch SCENARIO` is printed.
-/// - 3: the file is out of its grammar; `! line LINE WHY` is printed alone. Or a step is refused; behind the lines of the
+/// - 2: the fetch of the file failed; `! fetch SCENARIO` is printed, with the file's name.
+/// - 3: the file is out of its grammar; `! line LINE WHY` is printed alone. A recorded line is too long: `! line 0 long`. Or a step is refused; behind the lines of the
 ///   steps before it, `! line LINE nolink`, `! line LINE twice` or `! line LINE back` is printed.
 /// - 5: a write to the sink failed, in place of any other status; nothing is written after it.
 /// - 7: memory ran out; what was printed stays, and `! memory` is printed. It may come in place of any other.

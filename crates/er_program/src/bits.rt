@@ -1,0 +1,158 @@
+//! `bits FILE`: a recorded synchronous line, read as frames with zero insertion.
+
+ghost use Rattle.std.specs.Prelude.{◌≡◌, ◌≤◌, ◌*◌, ◌++◌, [], ◌∷◌, length, IfOk, OnOk, option_map};
+ghost use Rattle.std.specs.Option.{option_to_list};
+ghost use Rattle.link_trait.specs.Outside.{Grew, GrewPart, Kept};
+ghost use Rattle.er_base.specs.LineTexts.{line_text};
+ghost use Rattle.hdlc_bits.specs.Shown.{shown};
+ghost use Rattle.er_program.specs.Answers.{bits_answer};
+ghost use Rattle.er_program.specs.BitTexts.{verdict_words, verdict_lines, counts_line};
+ghost use Rattle.er_program.specs.BitWriting.{found_count, Tells, EndsBits};
+ghost use Rattle.er_program.specs.Commands.{Bits};
+ghost use Rattle.er_program.specs.Writing.{Gives, Ends};
+
+use crate::endings::{last, out_of_form, say, unfetched};
+use crate::status::Status;
+use crate::stop::Stop;
+use er_base::{NoMemory, PrintedWord, Why, put_line};
+use hdlc_bits::laws::{frames_grow, nothing_is_read, reading_goes_on};
+use hdlc_bits::{BitDeframer, BitFound};
+use link_trait::{Cabinet, FetchFault, Sink};
+use std::alloc::Global;
+
+/// The greatest number of octets that a recorded line may have (this profile).
+const MOST_LINE_OCTETS: usize = 16_777_216;
+
+// Appends the line of a verdict.
+fn put_verdict(found: &BitFound<'_>, out: &mut Vec<u8>) -> Result<(), NoMemory>
+    ensures { OnOk result (out.new.items ≡ out.old.items ++ line_text (verdict_words (shown found.now))) }
+{
+    match found {
+        BitFound::Frame { address, body } => put_line(
+            &PrintedWord::Plain(b"frame"),
+            &[
+                PrintedWord::Hexadecimal(&[*address]),
+                PrintedWord::Hexadecimal(body),
+            ],
+            out,
+        ),
+        BitFound::Ragged(bits) => put_line(
+            &PrintedWord::Plain(b"ragged"),
+            &[PrintedWord::Decimal(*bits as u64)],
+            out,
+        ),
+        BitFound::BadFcs => put_line(&PrintedWord::Plain(b"badfcs"), &[], out),
+        BitFound::TooShort => put_line(&PrintedWord::Plain(b"short"), &[], out),
+        BitFound::TooLong => put_line(&PrintedWord::Plain(b"long"), &[], out),
+        BitFound::Aborted => put_line(&PrintedWord::Plain(b"aborted"), &[], out),
+    }
+}
+
+// How many frames that is.
+fn frames_in(found: &BitFound<'_>) -> u64
+    ensures { result ≡ found_count (Some (shown found.now)) }
+{
+    matches!(found, BitFound::Frame { .. }) as u64
+}
+
+// Writes the line of what was found, and answers how many frames that is.
+fn tell_found<K: Sink>(alloc: Global, found: &BitFound<'_>, sink: &mut K) -> Result<u64, Stop>
+    ensures tells { Tells (line_text (verdict_words (shown found.now))) (found_count (Some (shown found.now)))
+        (K.held sink.old) (K.held sink.new) (K.faults sink.old) (K.faults sink.new) result }
+    ensures sink_count { K.faults sink.old ≤ K.faults sink.new }
+{
+    let mut line = Vec::new(alloc);
+    put_verdict(found, &mut line)?;
+    match say(line.as_slice(), sink) {
+        Ok(()) => Ok(frames_in(found)),
+        Err(_) => Err(Stop::Sink),
+    }
+}
+
+// The same of what one call found, which may be nothing.
+fn tell<K: Sink>(alloc: Global, found: &Option<BitFound<'_>>, sink: &mut K) -> Result<u64, Stop>
+    ensures tells { Tells (verdict_lines (option_to_list (option_map shown found.now))) (found_count (option_map shown found.now))
+        (K.held sink.old) (K.held sink.new) (K.faults sink.old) (K.faults sink.new) result }
+    ensures sink_count { K.faults sink.old ≤ K.faults sink.new }
+{
+    match found {
+        Some(found) => tell_found(alloc, found, sink),
+        None => Ok(0),
+    }
+}
+
+// The last line: how many bits there are, and how many frames.
+fn counted<K: Sink>(alloc: Global, bits: u64, frames: u64, sink: &mut K) -> Result<Status, Stop>
+    ensures gives { Gives (record { status = 0; text = counts_line bits frames }) (K.held sink.old) (K.held sink.new)
+        (K.faults sink.old) (K.faults sink.new) result }
+    ensures sink_count { K.faults sink.old ≤ K.faults sink.new }
+{
+    let mut line = Vec::new(alloc);
+    put_line(
+        &PrintedWord::Plain(b"bits"),
+        &[
+            PrintedWord::Decimal(bits),
+            PrintedWord::Plain(b"frames"),
+            PrintedWord::Decimal(frames),
+        ],
+        &mut line,
+    )?;
+    last(0, line.as_slice(), sink)
+}
+
+// Reads a line, and writes the line of each verdict as soon as it comes.
+fn read_line<K: Sink>(alloc: Global, octets: &[u8], sink: &mut K) -> Result<Status, Stop>
+    requires short { length octets.now ≤ 16777216 }
+    ensures ends { EndsBits octets.now (K.held sink.old) (K.held sink.new) (K.faults sink.old) (K.faults sink.new) result }
+    ensures sink_count { K.faults sink.old ≤ K.faults sink.new }
+{
+    reading_goes_on();
+    nothing_is_read();
+    frames_grow();
+    let bits = 8 * octets.len() as u64;
+    let mut deframer = BitDeframer::new();
+    let mut frames = 0;
+    let mut at = 0;
+    while at < bits {
+        let (used, found) = deframer.feed(octets, at, bits);
+        at += used;
+        match tell(alloc, &found, sink) {
+            Ok(more) => frames += more,
+            Err(stop) => return Err(stop),
+        }
+    }
+    counted(alloc, bits, frames, sink)
+}
+
+// The octets of the file.
+fn bits_file<K: Sink>(alloc: Global, octets: &[u8], sink: &mut K) -> Result<Status, Stop>
+    ensures ends { EndsBits octets.now (K.held sink.old) (K.held sink.new) (K.faults sink.old) (K.faults sink.new) result }
+    ensures sink_count { K.faults sink.old ≤ K.faults sink.new }
+{
+    if octets.len() > MOST_LINE_OCTETS {
+        return out_of_form(alloc, 0, Why::Long, sink);
+    }
+    read_line(alloc, octets, sink)
+}
+
+/// `bits NAME`: fetches the file, and prints what it is read as.
+pub fn bits_run<F: Cabinet, K: Sink>(
+    alloc: Global,
+    name: &str,
+    cabinet: &mut F,
+    sink: &mut K,
+) -> Result<Status, Stop>
+    ensures ends { Ends (Bits name.now) (F.files cabinet.new) (F.faults cabinet.old) (F.faults cabinet.new)
+        (K.held sink.old) (K.held sink.new) (K.faults sink.old) (K.faults sink.new) result }
+    ensures asked { IfOk result (λ _. Grew (F.asked cabinet.old) (F.asked cabinet.new) (name.now ∷ [])) }
+    ensures part { GrewPart (F.asked cabinet.old) (F.asked cabinet.new) (name.now ∷ []) }
+    ensures files { Kept (F.files cabinet.old) (F.files cabinet.new) }
+    ensures count { F.faults cabinet.old ≤ F.faults cabinet.new }
+    ensures sink_count { K.faults sink.old ≤ K.faults sink.new }
+{
+    match cabinet.fetch(alloc, name) {
+        Ok(octets) => bits_file(alloc, octets.as_slice(), sink),
+        Err(FetchFault::Failed) => unfetched(alloc, name, sink),
+        Err(FetchFault::NoMemory(want)) => Err(Stop::NoMemory(want)),
+    }
+}

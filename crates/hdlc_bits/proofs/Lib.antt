@@ -1,0 +1,12 @@
+pub mod KnownAnswers
+pub mod RunLaws
+pub mod KeptLaws
+pub mod DeframingLaws
+pub mod BitLaws
+pub mod BufferLaws
+pub mod ScanningLaws
+pub mod TurnLaws
+pub mod CallLaws
+pub mod WrittenLaws
+pub mod RoomLaws
+pub mod WritingLaws

@@ -1,0 +1,93 @@
+//! A deframer of a line that comes in pieces.
+
+ghost use Rattle.std.specs.Prelude.{◌≡◌, ◌≤◌, ◌<◌, ◌+◌, ◌-◌, ◌*◌, [], length, take, option_map, IsNone};
+ghost use Rattle.std.specs.Borrow.{sem};
+ghost use Rattle.hdlc_bits.specs.Keeping.{IsKept, kept_of, kept_after, scan_of};
+ghost use Rattle.hdlc_bits.specs.Pieces.{bits_between, AddsToFrames, FewerAddNothing};
+ghost use Rattle.hdlc_bits.specs.Shown.{shown};
+ghost use Rattle.hdlc_bits.specs.Resting.{Rests};
+
+use crate::found::BitFound;
+use crate::judgement::Judgement;
+use crate::segment::Segment;
+use std::marker::Model;
+
+/// Reads frames out of a line of bits that comes in pieces, cut at any bit. A contract sees what it keeps of the
+/// line since the newest flag.
+#[derive(Drop)]
+pub struct BitDeframer {
+    segment: Segment,
+}
+
+impl Model for BitDeframer {
+    ghost use Rattle.hdlc_bits.specs.Keeping.{Kept, IsKept};
+    ghost use Rattle.hdlc_bits.specs.SegmentViews.{kept_in};
+
+    ghost Value = { Kept };
+
+    ghost view = { λ d. kept_in d.segment };
+
+    ghost invariant = { λ d. IsKept (kept_in d.segment) };
+}
+
+impl BitDeframer {
+    /// A deframer of which no bit was read.
+    pub fn new() -> BitDeframer
+        ensures { result ≡ kept_of [] }
+    {
+        BitDeframer {
+            segment: Segment::new(),
+        }
+    }
+
+    /// Reads the bits from `first` to before `end` of the octets, each octet with its lowest bit first, up to and with
+    /// the first zero that ends a flag or abort and brings a verdict. It answers how many bits it used and what it
+    /// found. Where these bits bring no verdict, it uses them all and answers None.
+    pub fn feed<'a>(
+        &'a mut self,
+        octets: &[u8],
+        first: u64,
+        end: u64,
+    ) -> (u64, Option<BitFound<'a>>)
+        requires order { first ≤ end }
+        requires within { end ≤ 8 * length octets.now }
+        ensures* after { sem 𝓛 (Rests self.entry (kept_after self.old (take result.0 (bits_between octets.now first end)))) }
+        ensures stands { IsKept self.old }
+        ensures frames { AddsToFrames self.old (bits_between octets.now first end) result.0 (option_map shown result.1) }
+        ensures first { FewerAddNothing self.old (bits_between octets.now first end) result.0 }
+        ensures whole { IsNone result.1 → result.0 ≡ end - first }
+        ensures most { first + result.0 ≤ end }
+        ensures moves { first < end → 0 < result.0 }
+    {
+        self.read(octets, first, end)
+    }
+
+    // Reads on, and lends the frame out of the buffer.
+    fn read<'a>(&'a mut self, octets: &[u8], first: u64, end: u64) -> (u64, Option<BitFound<'a>>)
+        requires order { first ≤ end }
+        requires within { end ≤ 8 * length octets.now }
+        ensures* after { sem 𝓛 (Rests self.entry (scan_of self.old (bits_between octets.now first end)).kept) }
+        ensures stands { IsKept self.old }
+        ensures used { result.0 ≡ (scan_of self.old (bits_between octets.now first end)).used }
+        ensures found { option_map shown result.1 ≡ (scan_of self.old (bits_between octets.now first end)).verdict }
+    {
+        let (used, judgement) = self.segment.scan(octets, first, end);
+        let segment: &Segment = &self.segment;
+        let found = match judgement {
+            None => None,
+            Some(Judgement::Frame { end }) => {
+                let body = &segment.octets[1..end];
+                Some(BitFound::Frame {
+                    address: segment.octets[0],
+                    body,
+                })
+            }
+            Some(Judgement::Aborted) => Some(BitFound::Aborted),
+            Some(Judgement::TooLong) => Some(BitFound::TooLong),
+            Some(Judgement::Ragged { bits }) => Some(BitFound::Ragged(bits)),
+            Some(Judgement::TooShort) => Some(BitFound::TooShort),
+            Some(Judgement::BadFcs) => Some(BitFound::BadFcs),
+        };
+        (used, found)
+    }
+}
