@@ -22,7 +22,7 @@ use Rattle.station_model.specs.Stations.{Station, Deed, no_deed, is_up, is_down,
 use Rattle.station_model.specs.Sending.{info_at, started, can_send, waiting, sends_next, sends_up_to, sends_waiting, frames_again, sends_again_some, sends_again, starts_timer, settles, gives_up, counts_expiry, expires_at, expires, expires_if_due, is_due, refuses_frame, releases}
 use Rattle.station_model.specs.Receiving.{strays, is_known_address, is_addressed, is_error, errs, named, acknowledges, acknowledging, by_number, accepts, rejects, takes, marks_busy, repeats_rejected, comes_up, agrees, sets_up_again, row, hears, hears_control}
 use Rattle.station_model.specs.Calls.{starts_at, starts, receives, hands, ticks, closes_at, closes}
-use Rattle.hdlc_balanced.specs.Kept.{Kept, kept_of, texts, Follows, Tells}
+use Rattle.hdlc_balanced.specs.Kept.{Kept, kept_of, texts, Follows, Tells, Shown}
 use Rattle.hdlc_balanced.specs.Alike.{model_of, Sound, Alike, StepsAlike, KeptIsModelled, Ranged, Does}
 
 -- ---- tests that are the same on both sides
@@ -547,6 +547,10 @@ pub kept_is_modelled : KeptIsModelled
 kept_is_modelled s h said deed =
     let r = ranged_of s h in
     (sym (whole (kept_of s) r), sound_made (kept_of s) r.all_sent, h, sym deed, sym (ap (texts s.calling s.extended) said))
+
+-- what holds of each station that is kept so holds of that one
+pub shown_made : (k : Kept) (P : Station → Type 0) → Ranged k → Shown k P → P (model_of k)
+shown_made k P r shown = let o = sound_made k r.all_sent in shown (model_of k) (whole k r) o.0 o.1
 
 -- ---- a call of the code, as what it does to that station
 

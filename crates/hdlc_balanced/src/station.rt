@@ -178,6 +178,9 @@ impl Station {
         ensures unchanged { IfErr result (λ full. self.new ≡ self.old) }
         ensures unwritten { IfErr result (λ full. out.new ≡ out.old) }
         ensures within { Within self.old out.old self.new out.new self.old.window }
+        ensures waited { IfErr result (λ full. length self.old.ring ≡ self.old.ahead + 16) }
+        ensures grows { self.old.ahead ≤ self.new.ahead }
+        ensures sent { length out.new.items + self.old.ahead * 2064 ≤ length out.old.items + self.new.ahead * 2064 }
     {
         let _ = &self.calling;
         let waiting = self.waits();
@@ -253,7 +256,8 @@ impl Station {
 
     /// The moment at which the station wants a tick: that at which T1 expires, where T1 runs.
     pub fn deadline(&self) -> Option<u64>
-        ensures { Shown self.now (λ s. result ≡ deadline s) }
+        ensures shown { Shown self.now (λ s. result ≡ deadline s) }
+        ensures kept { result ≡ self.now.timer }
     {
         self.timer
     }
@@ -262,20 +266,32 @@ impl Station {
     pub fn waiting(&self) -> usize
         ensures shown { Shown self.now (λ s. result ≡ waiting s) }
         ensures few { result ≤ 16 }
+        ensures kept { result + self.now.ahead ≡ length self.now.ring }
     {
         self.waits() as usize
     }
 
     /// Whether a payload that is handed down now is sent at once.
     pub fn may_send(&self) -> bool
-        ensures { Shown self.now (λ s. result ≡ may_send s) }
+        ensures shown { Shown self.now (λ s. result ≡ may_send s) }
+        ensures kept { result ≡ may_send (model_of self.now) }
+        ensures free { result ≡ true → length self.now.ring ≡ self.now.ahead }
+    {
+        let _ = &self.calling;
+        self.sends_at_once()
+    }
+
+    fn sends_at_once(&self) -> bool
+        ensures shown { Shown self.now (λ s. result ≡ may_send s) }
+        ensures free { result ≡ true → length self.now.ring ≡ self.now.ahead }
     {
         self.can_send() && self.waits() == 0
     }
 
     /// The frames that were ignored so far, by their kind.
     pub fn counts(&self) -> Counts
-        ensures { Shown self.now (λ s. result ≡ s.counts) }
+        ensures shown { Shown self.now (λ s. result ≡ s.counts) }
+        ensures kept { result ≡ self.now.counts }
     {
         self.counts
     }

@@ -10,10 +10,10 @@ use Rattle.station_model.specs.Stations.{Station, is_down}
 use Rattle.station_pair.specs.Links.{Came, Link, station_of, line_of, with_line, did, opened}
 use Rattle.station_pair.specs.Steps.{LinkStep, Send, Pass, Lose, Repeat, Alter, Put, UserRelease, Drain, Tick, refusal_at, send_unless, pass, lose, repeat, altered, alter, quits, release, is_late, tick_at, tick, next_of, is_overfull, Draining, pass_next, drained, step, happens, run}
 use Rattle.station_pair.specs.Laws.{after, passed_of, deliveries_of, deliveries, DeliveriesBound, FewWait}
-use Rattle.station_pair.specs.Invariant.{Way, Climbs, infos, numbers}
+use Rattle.station_pair.specs.Invariant.{Way, Climbs, Pair, infos, numbers}
+use Rattle.station_pair.specs.Flowing.{Consecutive, AllData, Rises, Shape}
 use Rattle.station_pair.proofs.Ways.{way_bounds}
 use Rattle.station_pair.proofs.Runs.{Frames, refused_long}
-use Rattle.station_pair.proofs.Flows.{Consecutive, AllData, Rises}
 use Rattle.station_pair.proofs.Delivers.{Flows, Passed, e_sends, r_sends, e_ticks, r_ticks, e_pass, r_pass, e_sends_n, r_sends_n, e_ticks_n, r_ticks_n}
 use Rattle.station_pair.proofs.Delivered.{none_next, full_next, delivers, both_false, bound_flows, sent_free, passed_free, drained_free, opened_flows, opened_none, after_flows}
 
@@ -71,23 +71,23 @@ small : (extended : Bool) (k : ℕ) → k + 1 ≡ modulo extended → k ≤ 127
 small true k h = omega (arith, h)
 small false k h = omega (arith, h)
 
-few_flow : (l : Link) (g : Flows l) → (length g.fe ≤ 254) × (length g.fr ≤ 254)
-few_flow l g =
-    let k : g.k ≤ 127 = small l.e.extended g.k g.stands.pair.4 in
-    elim g.shape [
-      | inl a ↦ let x : length g.fe ≡ 1 = ap length a.2 in let y : length g.fr ≡ 0 = ap length a.3 in (omega arith, omega arith)
-      | inr (inl a) ↦ let x : length g.fe ≡ 0 = ap length a.2 in let y : length g.fr ≡ 1 = ap length a.3 in (omega arith, omega arith)
+pub few_at : (k n : ℕ) (lx : List Frame) (x : Station) (ly : List Frame) (y : Station) → Pair k lx x ly y → Shape n lx x ly y → (length lx ≤ 254) × (length ly ≤ 254)
+few_at k n lx x ly y p shape =
+    let most : k ≤ 127 = small x.extended k p.4 in
+    elim shape [
+      | inl a ↦ let ex : length lx ≡ 1 = ap length a.2 in let ey : length ly ≡ 0 = ap length a.3 in (omega arith, omega arith)
+      | inr (inl a) ↦ let ex : length lx ≡ 0 = ap length a.2 in let ey : length ly ≡ 1 = ap length a.3 in (omega arith, omega arith)
       | inr (inr a) ↦
-          let e = few_of g.k g.fe l.e g.fr l.r g.stands.pair.0.0 g.stands.pair.1.0 a.0.2 a.0.0.2 a.0.5.own in
-          let r = few_of g.k g.fr l.r g.fe l.e g.stands.pair.1.0 g.stands.pair.0.0 a.0.3 a.0.1.2 a.0.5.peers in
-          (omega (arith, e), omega (arith, r))
+          let fx = few_of k lx x ly y p.0.0 p.1.0 a.0.2 a.0.0.2 a.0.5.own in
+          let fy = few_of k ly y lx x p.1.0 p.0.0 a.0.3 a.0.1.2 a.0.5.peers in
+          (omega (arith, fx), omega (arith, fy))
     ]
 
 pub few_wait : Frames → FewWait
 few_wait laws s steps free =
     let l : Link = after s steps in
     let g = after_flows laws s steps free in
-    let few = few_flow l g in
+    let few = few_at g.k g.n g.fe l.e g.fr l.r g.stands.pair g.shape in
     let e : length l.from_e ≡ length g.fe = ap length g.stands.lined_x ∙ length-map g.fe _ in
     let r : length l.from_r ≡ length g.fr = ap length g.stands.lined_y ∙ length-map g.fr _ in
     (omega (arith, few.0), omega (arith, few.1))

@@ -1,5 +1,5 @@
 -- A loss-free line over a list of steps: the laws of delivery.
-use Rattle.std.proofs.Common.{if◌then◌else◌, ◌≡◌, ℕ, zero, suc, ◌+◌, ◌-◌, ◌<◌, ◌≤◌, ◌⊎◌, inl, inr, max, Bool, true, false, not, ◌&&◌, ◌||◌, List, [], ◌∷◌, length, map, take, Option, Some, None, refl, sym, ◌∙◌, ap, subst, arith, lt-ltb, true≢false, take_all}
+use Rattle.std.proofs.Common.{if◌then◌else◌, ◌≡◌, ℕ, zero, suc, ◌+◌, ◌-◌, ◌*◌, ◌<◌, ◌≤◌, ◌⊎◌, inl, inr, max, Bool, true, false, not, ◌&&◌, ◌||◌, List, [], ◌∷◌, length, map, take, Option, Some, None, refl, sym, ◌∙◌, ap, subst, arith, lt-ltb, true≢false, take_all}
 use Rattle.std.specs.Prelude.{nat_lt, ◌==◌}
 use Rattle.std.proofs.lemmas.Bool.{cond_both}
 use Rattle.er_base.specs.declared.side.Side.{Side}
@@ -14,11 +14,11 @@ use Rattle.station_model.specs.Calls.{receives, finishes}
 use Rattle.station_pair.specs.Links.{Came, Link, station_of, line_of, with_line, did, news, hears_each, opened}
 use Rattle.station_pair.specs.Steps.{LinkStep, Send, Pass, Lose, Repeat, Alter, Put, UserRelease, Drain, Tick, refusal_at, send_unless, pass, lose, repeat, altered, alter, quits, release, is_late, tick_at, tick, next_of, is_overfull, Draining, pass_next, drained, step, happens, run}
 use Rattle.station_pair.specs.Laws.{Opening, after, IsEmpty, bound, Delivery, DeliveryBound, DrainEmpties}
-use Rattle.station_pair.specs.Invariant.{infos, numbers}
+use Rattle.station_pair.specs.Invariant.{Pair, infos, numbers}
+use Rattle.station_pair.specs.Flowing.{Rests, Shape}
 use Rattle.station_pair.proofs.Ways.{way_bounds}
 use Rattle.station_pair.proofs.Lines.{none_on_line}
 use Rattle.station_pair.proofs.Runs.{Frames, refused_long, opened_stands}
-use Rattle.station_pair.proofs.Flows.{Still, Rests, AtRest}
 use Rattle.station_pair.proofs.Delivers.{Flows, Passed, e_sends, r_sends, e_ticks, r_ticks, e_pass, r_pass}
 
 -- the parts of a link that the shape doesn't speak of
@@ -240,17 +240,21 @@ after_flows laws s steps = run_clean laws steps (opened s.extended s.window s.n2
 
 -- ---- the bound
 
-pub bound_flows : (l : Link) (g : Flows l) → g.n + (length g.fe + length g.fr) ≤ bound l
-bound_flows l g =
-    let be = way_bounds g.k l.e.handed l.e.acked l.e.sent l.r.taken (infos g.fe) (numbers g.fr) g.stands.pair.0.0 in
-    let br = way_bounds g.k l.r.handed l.r.acked l.r.sent l.e.taken (infos g.fr) (numbers g.fe) g.stands.pair.1.0 in
-    let ge = g.stands.pair.0.0.given in
-    let gr = g.stands.pair.1.0.given in
-    elim g.shape [
-      | inl a ↦ let x : length g.fe ≡ 1 = ap length a.2 in let y : length g.fr ≡ 0 = ap length a.3 in omega (arith, a.6)
-      | inr (inl a) ↦ let x : length g.fe ≡ 0 = ap length a.2 in let y : length g.fr ≡ 1 = ap length a.3 in omega (arith, a.6)
+pub bound_at : (k n : ℕ) (lx : List Frame) (x : Station) (ly : List Frame) (y : Station) → Pair k lx x ly y → Shape n lx x ly y
+    → n + (length lx + length ly) ≤ 2 + 2 * (length x.handed + length y.handed)
+bound_at k n lx x ly y p shape =
+    let bx = way_bounds k x.handed x.acked x.sent y.taken (infos lx) (numbers ly) p.0.0 in
+    let by = way_bounds k y.handed y.acked y.sent x.taken (infos ly) (numbers lx) p.1.0 in
+    let gx = p.0.0.given in
+    let gy = p.1.0.given in
+    elim shape [
+      | inl a ↦ let ex : length lx ≡ 1 = ap length a.2 in let ey : length ly ≡ 0 = ap length a.3 in omega (arith, a.6)
+      | inr (inl a) ↦ let ex : length lx ≡ 0 = ap length a.2 in let ey : length ly ≡ 1 = ap length a.3 in omega (arith, a.6)
       | inr (inr a) ↦ omega (arith, a.0.4)
     ]
+
+pub bound_flows : (l : Link) (g : Flows l) → g.n + (length g.fe + length g.fr) ≤ bound l
+bound_flows l g = bound_at g.k g.n g.fe l.e g.fr l.r g.stands.pair g.shape
 
 pub delivery_bound : Frames → DeliveryBound
 delivery_bound laws s steps e = let g = after_flows laws s steps e in omega (arith, g.passes, bound_flows (after s steps) g)
@@ -271,35 +275,37 @@ all_sent x c up ready same some may (inl cannot) =
 whole : (taken handed : List (List ℕ)) (s : ℕ) → taken ≡ take (length taken) handed → length taken ≡ s → s ≡ length handed → taken ≡ handed
 whole taken handed s prefix same all = prefix ∙ take_all (length taken) handed (omega arith)
 
+-- no frame waits
+pub emptied_at : (k n : ℕ) (x : Station) (y : Station) → Pair k [] x [] y → Shape n [] x [] y
+    → (x.phase ≡ Up) × (y.phase ≡ Up) × (y.taken ≡ x.handed) × (1 ≤ length x.handed → x.taken ≡ y.handed)
+emptied_at k n x y p (inl a) = absurd (let e : [] ≡ SetUp ∷ [] = a.2 in let u : ⊥ = cc in u)
+emptied_at k n x y p (inr (inl a)) = absurd (let e : [] ≡ Ua true ∷ [] = a.3 in let u : ⊥ = cc in u)
+emptied_at k n x y p (inr (inr a)) =
+    let t = a.0 in
+    let sent_x : x.sent ≡ x.acked = sym t.0.2 ∙ sym (t.0.3 a.2.0) in
+    let sent_y : y.sent ≡ y.acked = sym t.1.2 ∙ sym (t.1.3 a.1.0) in
+    let all_x : x.sent ≡ length x.handed = all_sent x true t.0.0 t.0.1 sent_x t.0.5 (ap (λ (c : Bool). c || nat_lt 0 (length x.taken)) t.0.4) a.1.1 in
+    let took_x : y.taken ≡ x.handed = whole y.taken x.handed x.sent p.0.0.prefix t.0.2 all_x in (
+      t.0.0,
+      t.1.0,
+      took_x,
+      λ some.
+          let took : 0 < length y.taken = omega (arith, t.0.2) in
+          let may : (y.calling || nat_lt 0 (length y.taken)) ≡ true =
+          ap (λ (c : Bool). c || nat_lt 0 (length y.taken)) t.1.4 ∙ lt-ltb 0 (length y.taken) took in
+          let all_y : y.sent ≡ length y.handed = all_sent y false t.1.0 t.1.1 sent_y t.1.5 may a.2.1 in
+          whole x.taken y.handed y.sent p.1.0.prefix t.1.2 all_y,
+    )
+
 pub delivery : Frames → Delivery
 delivery laws s steps free empty =
     let l : Link = after s steps in
     let g = after_flows laws s steps free in
     let ne : g.fe ≡ [] = none_on_line l.e g.fe (sym empty.0 ∙ g.stands.lined_x) in
     let nr : g.fr ≡ [] = none_on_line l.r g.fr (sym empty.1 ∙ g.stands.lined_y) in
-    elim g.shape [
-      | inl a ↦ absurd (let e : SetUp ∷ [] ≡ [] = sym a.2 ∙ ne in let u : ⊥ = cc in u)
-      | inr (inl a) ↦ absurd (let e : Ua true ∷ [] ≡ [] = sym a.3 ∙ nr in let u : ⊥ = cc in u)
-      | inr (inr a) ↦ flowing_delivers l g (subst (λ (t : List Frame). Still true g.n t l.e g.fr l.r) ne a.0) nr a.1 a.2
-    ] where
-      flowing_delivers : (l : Link) (g : Flows l) → Still true g.n [] l.e g.fr l.r → g.fr ≡ [] → AtRest l.e → AtRest l.r
-          → (l.e.phase ≡ Up) × (l.r.phase ≡ Up) × (l.r.taken ≡ l.e.handed) × (1 ≤ length l.e.handed → l.e.taken ≡ l.r.handed)
-      flowing_delivers l g still none re rr =
-          let t = subst (λ (ts : List Frame). Still true g.n [] l.e ts l.r) none still in
-          let sent_e : l.e.sent ≡ l.e.acked = sym t.0.2 ∙ sym (t.0.3 rr.0) in
-          let sent_r : l.r.sent ≡ l.r.acked = sym t.1.2 ∙ sym (t.1.3 re.0) in
-          let all_e : l.e.sent ≡ length l.e.handed = all_sent l.e true t.0.0 t.0.1 sent_e t.0.5 (ap (λ (c : Bool). c || nat_lt 0 (length l.e.taken)) t.0.4) re.1 in
-          let took_e : l.r.taken ≡ l.e.handed = whole l.r.taken l.e.handed l.e.sent g.stands.pair.0.0.prefix t.0.2 all_e in (
-            t.0.0,
-            t.1.0,
-            took_e,
-            λ some.
-                let took : 0 < length l.r.taken = omega (arith, t.0.2) in
-                let may : (l.r.calling || nat_lt 0 (length l.r.taken)) ≡ true =
-                ap (λ (c : Bool). c || nat_lt 0 (length l.r.taken)) t.1.4 ∙ lt-ltb 0 (length l.r.taken) took in
-                let all_r : l.r.sent ≡ length l.r.handed = all_sent l.r false t.1.0 t.1.1 sent_r t.1.5 may rr.1 in
-                whole l.e.taken l.r.handed l.r.sent g.stands.pair.1.0.prefix t.1.2 all_r,
-          )
+    emptied_at g.k g.n l.e l.r
+    (subst (λ (t : List Frame). Pair g.k t l.e [] l.r) ne (subst (λ (t : List Frame). Pair g.k g.fe l.e t l.r) nr g.stands.pair))
+    (subst (λ (t : List Frame). Shape g.n t l.e [] l.r) ne (subst (λ (t : List Frame). Shape g.n g.fe l.e t l.r) nr g.shape))
 
 pub drain_empties : Frames → DrainEmpties
 drain_empties laws s steps most free enough not_full =

@@ -1,5 +1,5 @@
 -- A loss-free line: each step keeps the shape of what flows, so once it is empty all was taken, and the deliveries are bounded.
-use Rattle.std.proofs.Common.{if◌then◌else◌, ◌≡◌, ℕ, zero, suc, ◌+◌, ◌-◌, ◌≤◌, ◌⊎◌, inl, inr, Bool, true, false, not, ◌&&◌, ◌||◌, List, [], ◌∷◌, ◌++◌, length, None, refl, sym, ◌∙◌, ap, subst, arith, append-nil, true≢false}
+use Rattle.std.proofs.Common.{if◌then◌else◌, ◌≡◌, ℕ, zero, suc, ◌+◌, ◌-◌, ◌≤◌, inl, inr, Bool, true, false, not, ◌&&◌, ◌||◌, List, [], ◌∷◌, ◌++◌, length, None, refl, sym, ◌∙◌, ap, subst, arith, append-nil, true≢false}
 use Rattle.std.specs.Prelude.{nat_lt}
 use Rattle.std.proofs.lemmas.Bool.{cond_both}
 use Rattle.er_base.specs.declared.side.Side.TheVariants.{E, R}
@@ -15,30 +15,11 @@ use Rattle.station_model.specs.Calls.{hands, finishes, ticks}
 use Rattle.station_pair.specs.Links.{Link, did, hears_each, reads}
 use Rattle.station_pair.specs.Steps.{counted, pass, is_late, tick_at}
 use Rattle.station_pair.specs.Invariant.{Pair, Both}
+use Rattle.station_pair.specs.Flowing.{one_if, Still, AtRest, Fresh, Shape}
 use Rattle.station_pair.proofs.Events.{finishes_keeps, hands_keeps, ticks_keeps}
 use Rattle.station_pair.proofs.Lines.{octets_of, Stands, turned, begun, acted, First, first_of_line, answered, one_event, flag_behind, answered_keeps}
 use Rattle.station_pair.proofs.Runs.{Frames}
-use Rattle.station_pair.proofs.Flows.{one_if, Still, AtRest, still_swap, still_back, Within, ends_well, heard_live, heard_row, answered_flows, handed_flows, not_due, ticked_flows}
-
--- ---- the shape of a link
-
--- a station that sent and took nothing yet
-abbrev pub Fresh : Bool → Station → Type 0
-Fresh c x = (x.sent ≡ 0) × (x.acked ≡ 0) × (length x.taken ≡ 0) × (x.busy ≡ false) × (x.owed ≡ false) × (x.calling ≡ c) × (1 ≤ x.window)
-
--- the set-up frame waits
-abbrev pub Asked : ℕ → List Frame → Station → List Frame → Station → Type 0
-Asked n lx x ly y = (x.phase ≡ Setting) × (y.phase ≡ Idle) × (lx ≡ SetUp ∷ []) × (ly ≡ []) × Fresh true x × Fresh false y × (n ≡ 0)
-
--- its answer waits
-abbrev pub Agreed : ℕ → List Frame → Station → List Frame → Station → Type 0
-Agreed n lx x ly y = (x.phase ≡ Setting) × (y.phase ≡ Up) × (lx ≡ []) × (ly ≡ Ua true ∷ []) × Fresh true x × Fresh false y × (n ≡ 1)
-
-abbrev pub Flowing : ℕ → List Frame → Station → List Frame → Station → Type 0
-Flowing n lx x ly y = Still true n lx x ly y × AtRest x × AtRest y
-
-abbrev pub Shape : ℕ → List Frame → Station → List Frame → Station → Type 0
-Shape n lx x ly y = Asked n lx x ly y ⊎ Agreed n lx x ly y ⊎ Flowing n lx x ly y
+use Rattle.station_pair.proofs.Flows.{still_swap, still_back, Within, ends_well, heard_live, heard_row, answered_flows, handed_flows, not_due, ticked_flows}
 
 pub record Flows (l : Link) : Type 0 where
   pub k : ℕ
@@ -52,20 +33,20 @@ pub record Flows (l : Link) : Type 0 where
 
 -- ---- stations that can't send yet
 
-stays : (m : ℕ) (x : Station) → can_send x ≡ false → sends_up_to m x ≡ x
+pub stays : (m : ℕ) (x : Station) → can_send x ≡ false → sends_up_to m x ≡ x
 stays zero x h = refl
 stays (suc m) x h = ap (λ (b : Bool). if b then sends_up_to m (sends_next x) else x) h
 
-nothing_owed : (x : Station) → x.owed ≡ false → settles x ≡ x
+pub nothing_owed : (x : Station) → x.owed ≡ false → settles x ≡ x
 nothing_owed x h = cond_both x.owed _ x (λ t. t ≡ x) (λ e. absurd (true≢false (sym e ∙ h))) (λ e. refl)
 
-quiet : (x : Station) → can_send x ≡ false → x.owed ≡ false → finishes (sends_waiting x) ≡ x
+pub quiet : (x : Station) → can_send x ≡ false → x.owed ≡ false → finishes (sends_waiting x) ≡ x
 quiet x cannot owes =
     ap finishes (stays (waiting x) x cannot)
     ∙ cond_both (is_down x.phase) x (settles x) (λ t. t ≡ x) (λ e. refl) (λ e. nothing_owed x owes)
 
 -- not up
-early_cannot : (x : Station) → is_up x.phase ≡ false → can_send x ≡ false
+pub early_cannot : (x : Station) → is_up x.phase ≡ false → can_send x ≡ false
 early_cannot x h = ap (λ (b : Bool). b && not x.busy && nat_lt (x.sent - x.acked) x.window && (x.calling || nat_lt 0 (length x.taken))) h
 
 false_behind : (b : Bool) → (b && false) ≡ false
@@ -194,7 +175,7 @@ r_ticks l now late g =
 
 -- ---- the set-up frame comes to the called station, its answer to the calling one
 
-idle_row : (e : Bool) (x : Station) → row_idle x (set_up e) [] ≡ agrees true (comes_up x)
+pub idle_row : (e : Bool) (x : Station) → row_idle x (set_up e) [] ≡ agrees true (comes_up x)
 idle_row true x = refl
 idle_row false x = refl
 
@@ -291,7 +272,7 @@ e_arrives laws l g octets rest f p b =
     ]
 
 -- the calling station is up, and what was handed to it before flows
-up_flows : (n : ℕ) (w : List Frame) (x : Station) (y : Station) → x.said ≡ [] → w ≡ [] → y.phase ≡ Up → n ≤ 2 → Fresh true x → Fresh false y → Within true n w (record x { phase = Up }) [] y
+pub up_flows : (n : ℕ) (w : List Frame) (x : Station) (y : Station) → x.said ≡ [] → w ≡ [] → y.phase ≡ Up → n ≤ 2 → Fresh true x → Fresh false y → Within true n w (record x { phase = Up }) [] y
 up_flows n w x y quiet none up few hx hy =
     subst (λ (t : List Frame). Still true n t (record x { phase = Up }) [] y) (sym (unsaid w x quiet ∙ none)) (
       (refl, hx.3, hy.2 ∙ sym hx.0, λ e. hx.1 ∙ sym hy.2, hx.5, hx.6),

@@ -65,7 +65,7 @@ hands_keeps k w now x l y p short b =
     (λ e. sends_waiting_keeps k w (record (sees now x) { handed = x.handed ++ p ∷ [] }) l y (hand_keeps k w (sees now x) l y p short b))
 
 -- a calling station that sent no I frame sends the set-up frame
-set_up_sent : (k : ℕ) (w : List Frame) (x : Station) (l : List Frame) (y : Station) → x.sent ≡ 0 → x.calling ≡ true → Both k w x l y → Both k w (puts SetUp x) l y
+pub set_up_sent : (k : ℕ) (w : List Frame) (x : Station) (l : List Frame) (y : Station) → x.sent ≡ 0 → x.calling ≡ true → Both k w x l y → Both k w (puts SetUp x) l y
 set_up_sent k w x l y none calling b =
     let lx : List Frame = w ++ x.said in
     let e : greatest_mark x.calling x.sent ≡ 0 = rw (calling, none) refl in
@@ -108,7 +108,7 @@ ticks_keeps k w now x l y b =
     cond_both (is_down x.phase) x (sends_waiting (expires_if_due (sees now x))) (λ t. Both k w t l y) (λ e. b)
     (λ e. sends_waiting_keeps k w (expires_if_due (sees now x)) l y (expires_keeps k w (sees now x) l y b))
 
-closes_at_keeps : (k : ℕ) (w : List Frame) (p : Phase) (x : Station) (l : List Frame) (y : Station) → Both k w x l y → Both k w (closes_at p x) l y
+pub closes_at_keeps : (k : ℕ) (w : List Frame) (p : Phase) (x : Station) (l : List Frame) (y : Station) → Both k w x l y → Both k w (closes_at p x) l y
 closes_at_keeps k w Idle x l y b = b
 closes_at_keeps k w Setting x l y b = puts_quiet k w x l y Disc refl refl refl b
 closes_at_keeps k w Up x l y b = puts_quiet k w x l y Disc refl refl refl b

@@ -1,5 +1,5 @@
 -- A loss-free line whose stations are both up: one station acts, and what flows keeps its shape.
-use Rattle.std.proofs.Common.{if◌then◌else◌, ◌≡◌, ℕ, zero, suc, ◌+◌, ◌%◌, ◌<◌, ◌≤◌, ◌⊎◌, inl, inr, Bool, true, false, not, List, [], ◌∷◌, ◌++◌, length, Option, refl, sym, ◌∙◌, ap, subst, arith, length-append, append_assoc, append-nil, eq-eqb, true≢false}
+use Rattle.std.proofs.Common.{if◌then◌else◌, ◌≡◌, ℕ, zero, suc, ◌+◌, ◌%◌, ◌<◌, ◌≤◌, inl, inr, Bool, true, false, not, List, [], ◌∷◌, ◌++◌, length, Option, refl, sym, ◌∙◌, ap, subst, arith, length-append, append_assoc, append-nil, eq-eqb, true≢false}
 use Rattle.std.specs.Prelude.{slice_index_or}
 use Rattle.std.proofs.lemmas.Bool.{cases_Bool, cond_both}
 use Rattle.hdlc_frames.specs.Framing.{Frame as Frame_found}
@@ -13,85 +13,12 @@ use Rattle.station_model.specs.Receiving.{acknowledges, acknowledging, accepts, 
 use Rattle.station_model.specs.Calls.{hands, finishes, ticks}
 use Rattle.station_pair.specs.Steps.{is_late}
 use Rattle.station_pair.specs.Invariant.{Pair, infos, numbers, marks, info_of, number_of}
+use Rattle.station_pair.specs.Flowing.{Consecutive, Ends, IsData, AllData, one_if, Flow, Rises, Still, Rests, AtRest}
 use Rattle.station_pair.proofs.Keeps.{more}
 use Rattle.station_pair.proofs.Rows.{named_is, may_come}
 use Rattle.station_pair.proofs.Hearing.{frame_heard}
 use Rattle.station_pair.proofs.Events.{not_not}
 use Rattle.station_pair.proofs.Lines.{answered}
-
--- ---- the shape
-
--- the I frames that wait are low, low + 1, .. up to high - 1
-abbrev pub Consecutive : ℕ → List (ℕ × List ℕ) → ℕ → Type 0
-Consecutive low [] high = low ≡ high
-Consecutive low (f ∷ fs) high = (f.0 ≡ low) × Consecutive (low + 1) fs high
-
--- the last of these numbers, or low where there is none, is high
-abbrev pub Ends : ℕ → List ℕ → ℕ → Type 0
-Ends low [] high = low ≡ high
-Ends low (x ∷ xs) high = Ends x xs high
-
--- I frames and RR alone wait
-abbrev pub IsData : Frame → Type 0
-IsData (Info ns nr payload) = Unit {0}
-IsData (Rr nr) = Unit {0}
-IsData (Rej nr) = ⊥
-IsData SetUp = ⊥
-IsData Disc = ⊥
-IsData Dm = ⊥
-IsData (Ua final) = ⊥
-
-abbrev pub AllData : List Frame → Type 0
-AllData [] = Unit {0}
-AllData (f ∷ fs) = IsData f × AllData fs
-
-abbrev pub one_if : Bool → ℕ
-one_if true = 1
-one_if false = 0
-
--- of what x sends to y: its I frames that wait, and the numbers N(R) that wait from y
-abbrev pub Flow : Bool → List (ℕ × List ℕ) → List ℕ → Station → Station → Type 0
-Flow c waits shows x y =
-    (x.phase ≡ Up)
-    × (x.busy ≡ false)
-    × Consecutive (length y.taken) waits x.sent
-    × (y.owed ≡ false → Ends x.acked shows (length y.taken))
-    × (x.calling ≡ c)
-    × (1 ≤ x.window)
-
--- every frame that was sent waits or was delivered, once, and an answer that is owed counts as a frame; n is the number of deliveries
-abbrev pub Count : ℕ → List Frame → Station → List Frame → Station → Type 0
-Count n lx x ly y =
-    n + length lx + one_if x.owed + length ly + one_if y.owed ≤ 2 + x.sent + length x.taken + y.sent + length y.taken
-
--- each RR that waits shows more than the number before it, or than the number acknowledged; and so will the answer that is owed
-abbrev pub Rises : ℕ → List Frame → ℕ → Bool → Type 0
-Rises low [] high owed = owed ≡ true → low < high
-Rises low (Info ns nr payload ∷ fs) high owed = Rises nr fs high owed
-Rises low (Rr nr ∷ fs) high owed = (low < nr) × Rises nr fs high owed
-Rises low (Rej nr ∷ fs) high owed = Rises nr fs high owed
-Rises low (SetUp ∷ fs) high owed = Rises low fs high owed
-Rises low (Disc ∷ fs) high owed = Rises low fs high owed
-Rises low (Dm ∷ fs) high owed = Rises low fs high owed
-Rises low (Ua final ∷ fs) high owed = Rises low fs high owed
-
--- of what waits in both directions: ax and rx are V(A) and V(R) of x, ox says whether it owes an answer
-pub record Rising (lx ly : List Frame) (ax rx : ℕ) (ox : Bool) (ay ry : ℕ) (oy : Bool) : Type 0 where
-  pub own : Rises ay lx rx ox
-  pub peers : Rises ax ly ry oy
-
-abbrev pub Still : Bool → ℕ → List Frame → Station → List Frame → Station → Type 0
-Still c n lx x ly y =
-    Flow c (infos lx) (numbers ly) x y × Flow (not c) (infos ly) (numbers lx) y x × AllData lx × AllData ly × Count n lx x ly y
-    × Rising lx ly x.acked (length x.taken) x.owed y.acked (length y.taken) y.owed
-
--- no payload may be sent, or none is left
-abbrev pub Rests : Station → Type 0
-Rests x = (can_send x ≡ false) ⊎ (x.sent ≡ length x.handed)
-
--- and no answer is owed
-abbrev pub AtRest : Station → Type 0
-AtRest x = (x.owed ≡ false) × Rests x
 
 pub still_swap : (n : ℕ) (lx : List Frame) (x : Station) (ly : List Frame) (y : Station) → Still true n lx x ly y → Still false n ly y lx x
 still_swap n lx x ly y h = (h.1, h.0, h.3, h.2, omega (arith, h.4), record { own = h.5.peers; peers = h.5.own })
@@ -196,7 +123,7 @@ next_flows c n lx x ly y h =
 abbrev pub Within : Bool → ℕ → List Frame → Station → List Frame → Station → Type 0
 Within c n w x l y = Still c n (w ++ x.said) x l y
 
-up_to_flows : (c : Bool) (n : ℕ) (w : List Frame) (m : ℕ) (x : Station) (l : List Frame) (y : Station) → Within c n w x l y → Within c n w (sends_up_to m x) l y
+pub up_to_flows : (c : Bool) (n : ℕ) (w : List Frame) (m : ℕ) (x : Station) (l : List Frame) (y : Station) → Within c n w x l y → Within c n w (sends_up_to m x) l y
 up_to_flows c n w zero x l y h = h
 up_to_flows c n w (suc m) x l y h =
     elim (cases_Bool (can_send x)) [
@@ -205,7 +132,7 @@ up_to_flows c n w (suc m) x l y h =
       | inr cannot ↦ rw cannot h
     ]
 
-up_to_rests : (m : ℕ) (x : Station) → x.sent + m ≡ length x.handed → Rests (sends_up_to m x)
+pub up_to_rests : (m : ℕ) (x : Station) → x.sent + m ≡ length x.handed → Rests (sends_up_to m x)
 up_to_rests zero x h = inr (omega arith)
 up_to_rests (suc m) x h =
     elim (cases_Bool (can_send x)) [
@@ -224,7 +151,7 @@ Done c n w l y handed x = Within c n w x l y × AtRest x × (x.handed ≡ handed
 up_not_down : (p : Phase) → p ≡ Up → is_down p ≡ false
 up_not_down p h = ap is_down h
 
-settles_done : (c : Bool) (n : ℕ) (w : List Frame) (x : Station) (l : List Frame) (y : Station) → Rests x → Within c n w x l y → Done c n w l y x.handed (settles x)
+pub settles_done : (c : Bool) (n : ℕ) (w : List Frame) (x : Station) (l : List Frame) (y : Station) → Rests x → Within c n w x l y → Done c n w l y x.handed (settles x)
 settles_done c n w x l y rests h =
     cond_both x.owed (record (puts (Rr (length x.taken)) x) { owed = false }) x (Done c n w l y x.handed)
     (λ owed. (
@@ -261,7 +188,7 @@ heard_row law k lx x f fs y h =
     ∙ ap (λ (e : Bool). hears (Frame_found (sent_address (not x.calling) f) (sent_body e f)) x) (sym h.3)
     ∙ frame_heard law x f (may_come k lx x f fs y h)
 
-info_is : ControlReadsBack → (k : ℕ) (lx : List Frame) (x : Station) (m r : ℕ) (p : List ℕ) (fs : List Frame) (y : Station) → x.phase ≡ Up → length x.taken ≡ m
+pub info_is : ControlReadsBack → (k : ℕ) (lx : List Frame) (x : Station) (m r : ℕ) (p : List ℕ) (fs : List Frame) (y : Station) → x.phase ≡ Up → length x.taken ≡ m
     → Pair k lx x (Info m r p ∷ fs) y → hears (Frame_found (sent_address y.calling (Info m r p)) (sent_body y.extended (Info m r p))) x ≡ accepts p (acknowledges r x)
 info_is law k lx x m r p fs y up same h =
     heard_row law k lx x (Info m r p) fs y h
@@ -270,14 +197,14 @@ info_is law k lx x m r p fs y up same h =
     ∙ ap (λ (b : Bool). if b then accepts p (acknowledges r x) else rejects (acknowledges r x))
     (eq-eqb (length x.taken % modulo x.extended) (m % modulo x.extended) (ap (λ t. t % modulo x.extended) same))
 
-rr_is : ControlReadsBack → (k : ℕ) (lx : List Frame) (x : Station) (r : ℕ) (fs : List Frame) (y : Station) → x.phase ≡ Up
+pub rr_is : ControlReadsBack → (k : ℕ) (lx : List Frame) (x : Station) (r : ℕ) (fs : List Frame) (y : Station) → x.phase ≡ Up
     → Pair k lx x (Rr r ∷ fs) y → hears (Frame_found (sent_address y.calling (Rr r)) (sent_body y.extended (Rr r))) x ≡ marks_busy false (acknowledges r x)
 rr_is law k lx x r fs y up h =
     heard_row law k lx x (Rr r) fs y h
     ∙ ap (λ (q : Phase). row q x (shown x.extended (Rr r)) []) up
     ∙ ap (λ (o : Option ℕ). acknowledging o (marks_busy false) x) (named_is k r (infos lx) (marks lx) (numbers fs) x y h.4 h.0)
 
-info_flows : (c : Bool) (n : ℕ) (lx : List Frame) (x : Station) (m r : ℕ) (p : List ℕ) (fs : List Frame) (y : Station)
+pub info_flows : (c : Bool) (n : ℕ) (lx : List Frame) (x : Station) (m r : ℕ) (p : List ℕ) (fs : List Frame) (y : Station)
     → Still c n lx x (Info m r p ∷ fs) y → Still c (n + 1) lx (accepts p (acknowledges r x)) fs y
 info_flows c n lx x m r p fs y h =
     let len : length (x.taken ++ p ∷ []) ≡ length x.taken + 1 = length-append x.taken (p ∷ []) in (
@@ -292,7 +219,7 @@ info_flows c n lx x m r p fs y h =
       },
     )
 
-rr_heard_flows : (c : Bool) (n : ℕ) (lx : List Frame) (x : Station) (r : ℕ) (fs : List Frame) (y : Station)
+pub rr_heard_flows : (c : Bool) (n : ℕ) (lx : List Frame) (x : Station) (r : ℕ) (fs : List Frame) (y : Station)
     → Still c n lx x (Rr r ∷ fs) y → Still c (n + 1) lx (marks_busy false (acknowledges r x)) fs y
 rr_heard_flows c n lx x r fs y h =
     ((h.0.0, refl, h.0.2, h.0.3, h.0.4, h.0.5), (h.1.0, h.1.1, h.1.2, h.1.3, h.1.4, h.1.5), h.2, h.3.1, omega (arith, h.4), record { own = h.5.own; peers = h.5.peers.1 })

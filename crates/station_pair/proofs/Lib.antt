@@ -10,4 +10,7 @@ pub mod Runs
 pub mod Flows
 pub mod Delivers
 pub mod Delivered
-mod Counted
+pub mod Counted
+pub mod Telling
+pub mod Keeping
+pub mod LossFree

@@ -1,5 +1,7 @@
 //! What holds of two stations over two lines, as facts that a caller can cite.
 
+ghost use Rattle.station_pair.specs.Keeping.{CallsKeep, PhasesStay, ReceivesTell, TicksTell};
+ghost use Rattle.station_pair.specs.LossFree.{FlowBounds, FlowKeeps};
 ghost use Rattle.station_pair.specs.Laws.{Prefix, LosingLineReasons, Delivery, DeliveryBound, DrainEmpties, DeliveriesBound, FewWait};
 
 use hdlc_frames::laws::{control_reads_back, flag_parts, frame_alone};
@@ -51,4 +53,25 @@ pub fn few_wait()
     control_reads_back();
     flag_parts();
     frame_alone();
+}
+
+/// Whatever layers stand above two stations: each call keeps what a losing line rests on, and tells the phase that it leads to.
+pub fn calls_keep()
+    ensures pair { CallsKeep }
+    ensures receives { ReceivesTell }
+    ensures ticks { TicksTell }
+    ensures phases { PhasesStay }
+{
+    control_reads_back();
+    flag_parts();
+    frame_alone();
+}
+
+/// Whatever layers stand above two stations: while the line loses nothing, each call keeps what flows, and that bounds the deliveries and
+/// the frames that wait; once none waits, all was taken.
+pub fn loss_free_keeps()
+    ensures calls { FlowKeeps }
+    ensures bounds { FlowBounds }
+{
+    control_reads_back();
 }

@@ -1,4 +1,4 @@
-ghost use Rattle.std.specs.Prelude.{◌≡◌, ◌≢◌, ◌+◌, ◌<◌, ◌≤◌, [], length, true, false, IfOk, MatchResult, min, is_some, if◌then◌else◌};
+ghost use Rattle.std.specs.Prelude.{◌≡◌, ◌≢◌, ◌+◌, ◌<◌, ◌≤◌, ◌&&◌, [], length, true, false, IfOk, MatchResult, min, is_some, if◌then◌else◌};
 ghost use Rattle.std.specs.Borrow.{sem};
 ghost use Rattle.er_base.specs.Stored.{HasRoom, Appends};
 ghost use Rattle.er_settings.specs.Ranges.{AllAllowed};
@@ -137,6 +137,22 @@ impl Transport {
     {
         self.due = Some(user_data(user));
         self.stage = Stage::Calling;
+    }
+
+    /// Whether this is a caller that was just made, so that it may connect.
+    pub fn may_connect(&self) -> bool
+        ensures test { result ≡ (self.now.is_caller && is_new self.now.stage) }
+        ensures caller { result ≡ true → self.now.is_caller ≡ true }
+        ensures new { result ≡ true → is_new self.now.stage ≡ true }
+    {
+        self.is_caller && self.stage == Stage::New
+    }
+
+    /// Whether the connection is made, so that messages may be handed.
+    pub fn is_open(&self) -> bool
+        ensures { result ≡ is_open self.now.stage }
+    {
+        self.stage == Stage::Open
     }
 
     /// The callee, whose last deed was `Called`, accepts: a CC with this user data, 1 to 32 octets, is due.

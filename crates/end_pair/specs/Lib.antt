@@ -1,0 +1,5 @@
+pub mod Openings
+pub mod Reasons
+pub mod Links
+pub mod Steps
+pub mod Laws

@@ -1,0 +1,113 @@
+//! What holds of two ends of the whole stack over two lines, as facts that a caller can cite.
+
+ghost use Rattle.end_pair.specs.Laws.{Delivery, DeliveryBound, DrainEmpties, FewWait, LosingLineReasons, Prefix};
+
+/// A line that only loses and repeats: what an end accepted is a prefix of what the other sent, whatever the keys.
+pub fn prefix()
+    ensures { Prefix }
+{
+    er_settings::laws::allowed_are_bounded();
+    station_model::laws::receives_give();
+    station_model::laws::ticks_give();
+    station_model::laws::others_keep();
+    station_pair::laws::calls_keep();
+    t70_header::laws::wrapping();
+    x224_tpdu::laws::writing();
+    x224_class2::laws::segments();
+    sapdu::laws::messages();
+    sapdu::laws::spelled_is_read();
+    sapdu::laws::lengths_of_spellings();
+    safety_automaton::laws::steps();
+    safety_automaton::laws::lengths();
+    cbc_mac::laws::mac_below();
+}
+
+/// A line that only loses and repeats, where the radio block centre finds the engine's KMAC: each release is 0.x, 1.1, 1.2, 1.4 or
+/// 6.1, by this end or by the peer.
+pub fn losing_line_reasons()
+    ensures { LosingLineReasons }
+{
+    er_settings::laws::allowed_are_bounded();
+    station_model::laws::receives_give();
+    station_model::laws::ticks_give();
+    station_model::laws::others_keep();
+    station_pair::laws::calls_keep();
+    t70_header::laws::wrapping();
+    x224_tpdu::laws::writing();
+    x224_class2::laws::segments();
+    sapdu::laws::messages();
+    sapdu::laws::spelled_is_read();
+    sapdu::laws::lengths_of_spellings();
+    safety_automaton::laws::steps();
+    safety_automaton::laws::lengths();
+    cbc_mac::laws::mac_below();
+}
+
+/// A loss-free line, where the radio block centre finds the engine's KMAC: once no frame waits and every accepted message was taken,
+/// both ends are connected, and each accepted all that the other sent, in order.
+pub fn delivery()
+    ensures { Delivery }
+{
+    er_settings::laws::allowed_are_bounded();
+    station_model::laws::receives_give();
+    station_model::laws::ticks_give();
+    station_model::laws::others_keep();
+    station_model::laws::releases_are_told();
+    station_pair::laws::calls_keep();
+    station_pair::laws::loss_free_keeps();
+    t70_header::laws::wrapping();
+    x224_tpdu::laws::writing();
+    x224_class2::laws::segments();
+    sapdu::laws::messages();
+    sapdu::laws::spelled_is_read();
+    sapdu::laws::lengths_of_spellings();
+    safety_automaton::laws::steps();
+    safety_automaton::laws::lengths();
+    cbc_mac::laws::mac_below();
+}
+
+/// A loss-free line, where the radio block centre finds the engine's KMAC: at most fourteen deliveries and four for each segment of the
+/// users' messages are ever made, so a drain of as many passes leaves no frame waiting.
+pub fn delivery_bound()
+    ensures bound { DeliveryBound }
+    ensures drain { DrainEmpties }
+{
+    er_settings::laws::allowed_are_bounded();
+    station_model::laws::receives_give();
+    station_model::laws::ticks_give();
+    station_model::laws::others_keep();
+    station_model::laws::releases_are_told();
+    station_pair::laws::calls_keep();
+    station_pair::laws::loss_free_keeps();
+    t70_header::laws::wrapping();
+    x224_tpdu::laws::writing();
+    x224_class2::laws::segments();
+    sapdu::laws::messages();
+    sapdu::laws::spelled_is_read();
+    sapdu::laws::lengths_of_spellings();
+    safety_automaton::laws::steps();
+    safety_automaton::laws::lengths();
+    cbc_mac::laws::mac_below();
+}
+
+/// A loss-free line, where the radio block centre finds the engine's KMAC: never more than 254 frames wait in one direction.
+pub fn few_wait()
+    ensures { FewWait }
+{
+    er_settings::laws::allowed_are_bounded();
+    station_model::laws::receives_give();
+    station_model::laws::ticks_give();
+    station_model::laws::others_keep();
+    station_model::laws::releases_are_told();
+    station_pair::laws::calls_keep();
+    station_pair::laws::loss_free_keeps();
+    t70_header::laws::wrapping();
+    x224_tpdu::laws::writing();
+    x224_class2::laws::segments();
+    sapdu::laws::messages();
+    sapdu::laws::spelled_is_read();
+    sapdu::laws::lengths_of_spellings();
+    safety_automaton::laws::steps();
+    safety_automaton::laws::lengths();
+    cbc_mac::laws::mac_below();
+}

@@ -1,0 +1,5 @@
+pub mod Offers
+pub mod Tying
+pub mod Lines
+pub mod Uppers
+pub mod Standings

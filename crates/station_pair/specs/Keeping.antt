@@ -1,0 +1,73 @@
+-- Representation: what two stations and the frames between them keep at each call, whatever layers stand above them; help for the proofs
+-- of the crates of such layers. Everywhere x acts and y doesn't, w waited from x before the call, and l waits from y.
+use Rattle.std.specs.Prelude.{◌≡◌, ◌⊎◌, ℕ, ◌-◌, ◌<◌, ◌≤◌, Bool, true, false, List, [], ◌∷◌, ◌++◌, length, drop, None}
+use Rattle.hdlc_frames.specs.Framing.{flag, Verdict, Frame as Frame_found, frames_of}
+use Rattle.station_model.specs.Frames.{Frame, modulo, sent_address, sent_body, sent_octets}
+use Rattle.station_model.specs.Stations.{Station, no_deed, is_up, is_down, made}
+use Rattle.station_model.specs.Calls.{starts, receives, hands, finishes, ticks, closes}
+use Rattle.station_pair.specs.Invariant.{Pair, Both}
+
+-- what a frame of y is found as
+abbrev pub found : Station → Frame → Verdict
+found y f = Frame_found (sent_address y.calling f) (sent_body y.extended f)
+
+-- its octets on the line
+abbrev pub octets_from : Station → Frame → List ℕ
+octets_from y f = sent_octets y.calling y.extended f
+
+-- nothing stands behind the newest flag of what was read
+abbrev pub IsAtFlag : List ℕ → Type 0
+IsAtFlag read = (read ≡ []) ⊎ ((before : List ℕ) × (read ≡ before ++ flag ∷ []))
+
+-- each call keeps the invariant
+pub record CallsKeep : Type 0 where
+  pub swapped : (k : ℕ) (lx : List Frame) (x : Station) (ly : List Frame) (y : Station) → Pair k lx x ly y → Pair k ly y lx x
+  pub made_pair : (extended : Bool) (window n2 t1 : ℕ) → 1 ≤ window → window < modulo extended
+      → Pair (modulo extended - 1) [] (made true extended window n2 t1) [] (made false extended window n2 t1)
+  pub started : (k : ℕ) (w : List Frame) (now : ℕ) (x : Station) (l : List Frame) (y : Station) → Both k w x l y → Both k w (starts now x) l y
+  pub received : (k : ℕ) (w : List Frame) (now : ℕ) (x : Station) (f : Frame) (fs : List Frame) (y : Station)
+      → Both k w x (f ∷ fs) y → Both k w (receives now (found y f) x) fs y
+  pub handed : (k : ℕ) (w : List Frame) (now : ℕ) (x : Station) (l : List Frame) (y : Station) (p : List ℕ) → length p ≤ 1026
+      → Both k w x l y → Both k w (hands now p x) l y
+  pub finished : (k : ℕ) (w : List Frame) (x : Station) (l : List Frame) (y : Station) → Both k w x l y → Both k w (finishes x) l y
+  pub ticked : (k : ℕ) (w : List Frame) (now : ℕ) (x : Station) (l : List Frame) (y : Station) → Both k w x l y → Both k w (ticks now x) l y
+  pub closed : (k : ℕ) (w : List Frame) (x : Station) (l : List Frame) (y : Station) → Both k w x l y → Both k w (closes x) l y
+  -- the first frame of y is lost, or stands twice
+  pub lost : (k : ℕ) (lx : List Frame) (x : Station) (f : Frame) (fs : List Frame) (y : Station) → Pair k lx x (f ∷ fs) y → Pair k lx x fs y
+  pub repeated : (k : ℕ) (lx : List Frame) (x : Station) (f : Frame) (fs : List Frame) (y : Station) → Pair k lx x (f ∷ fs) y → Pair k lx x (f ∷ f ∷ fs) y
+  -- it is the one frame that its octets close
+  pub one_frame : (k : ℕ) (lx : List Frame) (x : Station) (f : Frame) (fs : List Frame) (y : Station) (read : List ℕ) → IsAtFlag read
+      → Pair k lx x (f ∷ fs) y → drop (length (frames_of read)) (frames_of (read ++ octets_from y f)) ≡ found y f ∷ []
+  pub at_flag : (y : Station) (f : Frame) (read : List ℕ) → IsAtFlag (read ++ octets_from y f)
+
+-- what a call tells of the phase behind it, and of the release
+pub record Tells (s t : Station) : Type 0 where
+  pub reason : (t.deed.released ≡ None) ⊎ (t.deed.released ≡ t.released)
+  -- of a station that isn't up: it takes nothing, and tells that it came up
+  pub asleep : is_up s.phase ≡ false → (t.deed.payload ≡ None) × (is_up t.phase ≡ true → t.deed.up ≡ true)
+  -- of a station that is: it stays so, unless it is released
+  pub awake : is_up s.phase ≡ true → (t.deed.up ≡ false) × (t.deed.released ≡ None → is_up t.phase ≡ true)
+  -- a station that tells no release isn't released
+  pub lives : is_down s.phase ≡ false → t.deed.released ≡ None → is_down t.phase ≡ false
+  -- a station that tells that it came up is up
+  pub came : t.deed.up ≡ true → is_up t.phase ≡ true
+  -- a release is told alone
+  pub alone : (t.deed.released ≡ None) ⊎ ((t.deed.payload ≡ None) × (t.deed.up ≡ false))
+
+abbrev pub ReceivesTell : Type 0
+ReceivesTell = (now : ℕ) (verdict : Verdict) (s : Station) → s.deed ≡ no_deed → Tells s (receives now verdict s)
+
+-- time doesn't bring a station up
+pub record TicksTell : Type 0 where
+  pub reason : (now : ℕ) (s : Station) → s.deed ≡ no_deed
+      → ((ticks now s).deed.released ≡ None) ⊎ ((ticks now s).deed.released ≡ (ticks now s).released)
+  pub asleep : (now : ℕ) (s : Station) → is_up s.phase ≡ false → is_up (ticks now s).phase ≡ false
+  pub awake : (now : ℕ) (s : Station) → s.deed ≡ no_deed → is_up s.phase ≡ true → (ticks now s).deed.released ≡ None → is_up (ticks now s).phase ≡ true
+  pub lives : (now : ℕ) (s : Station) → s.deed ≡ no_deed → is_down s.phase ≡ false → (ticks now s).deed.released ≡ None → is_down (ticks now s).phase ≡ false
+
+-- to hand a payload down and to finish change the phase of no station, and a start brings none up or down
+pub record PhasesStay : Type 0 where
+  pub starts_up : (now : ℕ) (s : Station) → is_up (starts now s).phase ≡ is_up s.phase
+  pub starts_down : (now : ℕ) (s : Station) → is_down (starts now s).phase ≡ is_down s.phase
+  pub hands : (now : ℕ) (payload : List ℕ) (s : Station) → (hands now payload s).phase ≡ s.phase
+  pub finishes : (s : Station) → (finishes s).phase ≡ s.phase
