@@ -14,10 +14,12 @@ use Rattle.er_scenario.specs.declared.numbered.Numbered.{Numbered}
 use Rattle.er_scenario.specs.declared.scenario.Scenario.{Scenario}
 use Rattle.er_scenario.specs.StepRanges.{IsInRange, IsText}
 use Rattle.er_scenario.specs.Texts.{AreReadable}
-use Rattle.drill_model.specs.Links.{Link}
+use Rattle.er_settings.specs.declared.settings.Settings.{Settings}
+use Rattle.er_settings.specs.Ranges.{AllAllowed}
+use Rattle.drill_model.specs.Links.{LinkOpening, OfPair, OfStations, Link}
 use Rattle.drill_model.specs.Steps.{HasOctets, FitsFields}
 use Rattle.drill_model.specs.Worlds.{plan_of, link_at, overfull_side, world_run}
-use Rattle.drill_model.specs.Headline.{LawfulAlways, OpensAlways, RoomAlways, DeliversAlways}
+use Rattle.drill_model.specs.Headline.{LawfulAlways, OpensAlways, RoomAlways, FitsSettings, InOrderAlways, LosingLineReasonsAlways, DeliversAlways}
 use Rattle.er_program.specs.Answers.{AreDone, first_steps}
 use Rattle.er_program.proofs.DrillSteps.{etcs_numbers, first_more, all_steps}
 use Rattle.er_program.proofs.RunMeanings.{AlwaysHolds}
@@ -72,10 +74,18 @@ room law s (suc k) done n l at =
           room law s k (λ j x lt next. done j x (omega (arith, lt)) next) n l (subst At is at)
     ]
 
-pub holds_always : LawfulAlways → OpensAlways → DeliversAlways → RoomAlways → AlwaysHolds
-holds_always lawful opens delivers law s readable count done k le = record {
+-- the settings of a file are in their ranges
+fits : (settings : Settings) (opening : LinkOpening) → AllAllowed settings → FitsSettings settings opening
+fits settings (OfPair opening) allowed = tt
+fits settings OfStations allowed = allowed
+
+pub holds_always : LawfulAlways → OpensAlways → InOrderAlways → LosingLineReasonsAlways → DeliversAlways → RoomAlways → AlwaysHolds
+holds_always lawful opens in_order reasons delivers law s readable count done k le = record {
   opens = opens (plan_of s) (first_steps s k);
   lawful = lawful (plan_of s) (first_steps s k);
-  delivers = delivers (plan_of s) (first_steps s k) (first_fit Running s.level s.steps k readable.steps);
+  in_order = λ n l at. in_order (plan_of s) (first_steps s k) n l at (fits s.settings l.opening readable.settings);
+  reasons = λ n l at. reasons (plan_of s) (first_steps s k) n l at (fits s.settings l.opening readable.settings);
+  delivers = λ n l at.
+      delivers (plan_of s) (first_steps s k) (first_fit Running s.level s.steps k readable.steps) n l at (fits s.settings l.opening readable.settings);
   room = room law s k (λ j x lt is. done j x (omega (arith, lt, le)) is);
 }

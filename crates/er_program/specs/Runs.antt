@@ -1,5 +1,6 @@
 -- What is claimed of a run of the program: each status with its cause, what the sink got, the names that were asked for (this profile).
 use Rattle.std.specs.Prelude.{◌≡◌, ◌⊎◌, ◌≤◌, ℕ, ◌<◌, List, [], ◌∷◌, ◌++◌, length, take, Option, Some, None, Ok, Err, codes}
+use Rattle.std.specs.List.{AllByRecursion}
 use Rattle.std.specs.Option.{option_map}
 use Rattle.er_base.specs.declared.why.Why.{Why}
 use Rattle.er_base.specs.declared.text_fault.TextFault.TheVariants.{At}
@@ -9,8 +10,8 @@ use Rattle.er_scenario.specs.Files.{scenario_of}
 use Rattle.drill_model.specs.Links.{Link}
 use Rattle.drill_model.specs.Worlds.{Plan, plan_of, link_at, history_on, overfull_side, world_run}
 use Rattle.drill_model.specs.Texts.{drill_text}
-use Rattle.drill_model.specs.Kinds.{IsLossFree}
-use Rattle.drill_model.specs.Headline.{opening_of, LawfulAt, Delivers}
+use Rattle.drill_model.specs.Kinds.{releases_in, IsOrderKeeping, IsLossFree}
+use Rattle.drill_model.specs.Headline.{opening_of, LawfulAt, IsInOrder, IsLosingLineReason, Delivers}
 use Rattle.link_trait.specs.Outside.{Grew, GrewPart, Rose, HasFile}
 use Rattle.er_program.specs.Commands.{Command, Misused, Drill, Bits, names_of}
 use Rattle.er_program.specs.LastLines.{usage_line, memory_line, fetch_line, fault_line, why_word}
@@ -24,11 +25,18 @@ IsStatus s = (s ≡ 0) ⊎ (s ≡ 1) ⊎ (s ≡ 2) ⊎ (s ≡ 3) ⊎ (s ≡ 5) �
 -- ---- what holds of a world
 
 -- what is claimed of the world that a list of steps leads to: each link has the opening of the step that opened it; at each link the
--- messages and the peers are authentic; where the link is loss-free, all is delivered, and nothing is forged; and at most 4,096 frames
--- wait in one direction
+-- messages and the peers are authentic; where the link keeps its order, what an end accepted is a prefix of what the other sent, and each
+-- release has one of the reasons of a line that only loses and repeats; where it is loss-free, all is delivered within its bound, and
+-- nothing is forged; and at most 4,096 frames wait in one direction
 pub record Holds (plan : Plan) (steps : List Step) : Type 0 where
   pub opens : (n : ℕ) → option_map (λ l. l.opening) (link_at (world_run plan steps).0 n) ≡ opening_of plan n steps
   pub lawful : (n : ℕ) → LawfulAt (link_at (world_run plan steps).0 n) (history_on n (world_run plan steps).1)
+  pub in_order : (n : ℕ) (l : Link) → link_at (world_run plan steps).0 n ≡ Some l
+      → IsOrderKeeping l.opening (history_on n (world_run plan steps).1)
+      → IsInOrder (history_on n (world_run plan steps).1)
+  pub reasons : (n : ℕ) (l : Link) → link_at (world_run plan steps).0 n ≡ Some l
+      → IsOrderKeeping l.opening (history_on n (world_run plan steps).1)
+      → AllByRecursion (IsLosingLineReason l.opening) (releases_in (history_on n (world_run plan steps).1))
   pub delivers : (n : ℕ) (l : Link) → link_at (world_run plan steps).0 n ≡ Some l
       → IsLossFree l.opening (history_on n (world_run plan steps).1)
       → Delivers plan.settings (history_on n (world_run plan steps).1) l

@@ -3,7 +3,7 @@
 ghost use Rattle.std.specs.Prelude.{◌≡◌, ◌≤◌, List, false};
 ghost use Rattle.er_scenario.specs.declared.step.Step.{Step as AnyStep};
 ghost use Rattle.er_scenario.specs.Texts.{CanBeRead};
-ghost use Rattle.drill_model.specs.Steps.{IsOfLevel, HasEtcsNumbers};
+ghost use Rattle.drill_model.specs.Steps.{IsOfLevel, HasEtcsNumbers, HasMoment};
 ghost use Rattle.drill_model.specs.Worlds.{Plan};
 ghost use Rattle.er_world.specs.Standing.{Ran};
 ghost use Rattle.er_program.specs.Writing.{Drills, StepsOne};
@@ -26,6 +26,7 @@ fn step_once<K: Sink>(
 ) -> Result<(), Halt>
     requires level { IsOfLevel world.old.plan.level step.now }
     requires numbers { HasEtcsNumbers step.now }
+    requires moment { HasMoment step.now }
     requires unspent { world.old.spent ≡ false }
     ensures drills { (plan : Plan) (done : List AnyStep) → Ran world.old plan done
         → StepsOne plan done world.old step.now world.new (K.held sink.old) (K.held sink.new) (K.faults sink.old)

@@ -95,6 +95,8 @@ fn ran<F: Cabinet, K: Sink>(
     ensures sink_count { K.faults sink.old ≤ K.faults sink.new }
 {
     drill_laws::laws::lawful();
+    drill_laws::laws::in_order();
+    drill_laws::laws::losing_line_reasons();
     drill_laws::laws::delivery();
     drill_laws::laws::worlds();
     match answered(alloc, words, cabinet, sink) {

@@ -30,9 +30,10 @@ const ALL_STEPS: [StepName; 14] = [
     StepName::Drain,
 ];
 
-const RUNNING_STEPS: [StepName; 11] = [
+const RUNNING_STEPS: [StepName; 13] = [
     StepName::Fixed,
     StepName::Link,
+    StepName::Wire,
     StepName::Send,
     StepName::Pass,
     StepName::Lose,
@@ -41,6 +42,7 @@ const RUNNING_STEPS: [StepName; 11] = [
     StepName::Put,
     StepName::Copy,
     StepName::Release,
+    StepName::Tick,
     StepName::Drain,
 ];
 
@@ -51,7 +53,7 @@ impl Grammar {
     {
         match self {
             Grammar::Whole => &[Level::Safe, Level::Link, Level::Full],
-            Grammar::Running => &[Level::Safe],
+            Grammar::Running => &[Level::Safe, Level::Link],
         }
     }
 

@@ -200,18 +200,17 @@ const FAULTS: &str = "\
 1 Header|drill 1
 1 Header|drill 1 safe safe
 1 Header|drill 01 safe
-1 Header|drill 1 link
 1 Header|drill 1 full
+1 Header|drill 1 link-sr
+1 Header|drill 1 Link
 1 Header|Drill 1 safe
 1 Header|drill 1 safe\r
 1 Header|pass 1 e;drill 1 safe
 2 Word|drill 1 safe;drill 1 safe
 2 Word|drill 1 safe; # x
 2 Word|drill 1 safe;foo
-2 Word|drill 1 safe;wire 1
-2 Word|drill 1 safe;wire 1 2
 2 Word|drill 1 safe;take 1 e
-2 Word|drill 1 safe;tick 5
+2 Word|drill 1 link;take 1 e
 2 Word|drill 1 safe;Pass 1 e
 2 Word|drill 1 safe;pass\r 1 e
 2 Value|drill 1 safe;send 0 e 41;foo
@@ -413,12 +412,7 @@ const FAULTS: &str = "\
 2 Value|drill 1 safe;set setup 999
 2 Value|drill 1 safe;set setup 600001
 2 Number|drill 1 safe;set show x
-2 Value|drill 1 safe;set show 2";
-
-// The same of lines and levels that the program can't run yet, by the whole grammar.
-const FAULTS_OF_THE_WHOLE: &str = "\
-1 Header|drill 1 link-sr
-1 Header|drill 1 Link
+2 Value|drill 1 safe;set show 2
 2 Value|drill 1 link;set window 8
 3 Value|drill 1 link;set modulo 128;set window 32
 4 Value|drill 1 link;set modulo 128;set window 31;set modulo 8
@@ -426,24 +420,36 @@ const FAULTS_OF_THE_WHOLE: &str = "\
 2 Level|drill 1 safe;wire 1
 2 Level|drill 1 safe;wire 65
 2 Count|drill 1 safe;wire
+2 Count|drill 1 safe;wire 1 2
 2 Count|drill 1 link;wire 1 2
 2 Number|drill 1 link;wire a
 2 Value|drill 1 link;wire 0
 2 Value|drill 1 link;wire 65
-2 Level|drill 1 full;wire 1
 2 Level|drill 1 link;fixed 1 5 9 K K
-2 Level|drill 1 full;fixed 1 5 9 K ?
+3 Level|drill 1 link;wire 1;fixed ? 5 9 K K
 2 Level|drill 1 link;link 1 5 9 K K R R
+2 Count|drill 1 link;link 1 5 9 K K R
+2 Level|drill 1 safe;tick 5
+2 Level|drill 1 safe;tick x
+2 Count|drill 1 safe;tick
+2 Count|drill 1 link;tick
+2 Count|drill 1 link;tick 1 2
+2 Number|drill 1 link;tick -1
+2 Number|drill 1 link;tick 01
+2 Value|drill 1 link;tick 1000000000000001";
+
+// The same of lines and levels that the program can't run yet, by the whole grammar.
+const FAULTS_OF_THE_WHOLE: &str = "\
+1 Header|drill 1 Full
+2 Value|drill 1 full;set window 8
+2 Level|drill 1 full;wire 1
+2 Level|drill 1 full;fixed 1 5 9 K ?
 2 Level|drill 1 safe;take ? ?
 2 Level|drill 1 link;take 1 e
 2 Count|drill 1 full;take 1
 2 Number|drill 1 full;take a ?
 2 Value|drill 1 full;take 0 ?
 2 Number|drill 1 full;take 1 E
-2 Level|drill 1 safe;tick 5
-2 Count|drill 1 safe;tick
-2 Count|drill 1 link;tick 1 2
-2 Number|drill 1 link;tick -1
 2 Number|drill 1 full;tick 01
 2 Value|drill 1 full;tick 1000000000000001";
 

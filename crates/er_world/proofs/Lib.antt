@@ -9,3 +9,6 @@ pub mod Opening
 pub mod Ticks
 pub mod Overfull
 pub mod WorldEnds
+pub mod StationFrames
+pub mod StationCalls
+pub mod StationRows

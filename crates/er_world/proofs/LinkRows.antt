@@ -1,5 +1,5 @@
 -- How a link of the code goes on, wherever it stands among the links of the model.
-use Rattle.std.proofs.Common.{◌≡◌, ℕ, ◌+◌, ◌-◌, ◌<◌, ◌^◌, min, Bool, List, [], ◌∷◌, ◌++◌, map, length, refl, sym, ap, ◌∙◌, subst, append_assoc, append-nil, length-append, Option, Some, None, arith}
+use Rattle.std.proofs.Common.{◌≡◌, ℕ, ◌+◌, ◌-◌, ◌<◌, ◌^◌, min, Bool, List, [], ◌∷◌, ◌++◌, map, length, refl, sym, ap, ◌∙◌, subst, append_assoc, append-nil, length-append, Option, Some, None, arith, max}
 use Rattle.std.specs.List.{flat_map}
 use Rattle.std.proofs.lemmas.List.Concat.{flat_map-append}
 use Rattle.er_base.specs.declared.side.Side.{Side}
@@ -9,7 +9,7 @@ use Rattle.des_block.specs.declared.triple_key.TripleKey.{TripleKey}
 use Rattle.safety_automaton.specs.Keys.{key_at}
 use Rattle.safe_pair.specs.Facts.{MarkedFact, SideFact, marked, marked_from}
 use Rattle.safe_pair.specs.Marks.{MarksGrow}
-use Rattle.drill_model.specs.Outcomes.{Outcome, OfSafety, Refused, Released, Frame, UserReleased, Passed, NothingWaits, Occurrence, at_end, facts_in, frames_in}
+use Rattle.drill_model.specs.Outcomes.{Outcome, OfSafety, Refused, Released, Frame, UserReleased, Passed, NothingWaits, Occurrence, at_end, facts_in, frames_in, Handed, Arrived, Up, Expired}
 use Rattle.drill_model.specs.Ends.{End, EndEvent, end_step}
 use Rattle.drill_model.specs.Ends as model
 use Rattle.drill_model.specs.Waiting.{changes}
@@ -28,7 +28,7 @@ use Rattle.er_world.specs.declared.waiting.Change.{Change as Changed}
 use Rattle.er_world.specs.declared.waiting.Change.TheVariants as result
 use Rattle.er_world.specs.Changes.{outcomes_of, change_of, change_line}
 use Rattle.er_world.specs.Tellings.{IsTold, AreTold}
-use Rattle.er_world.specs.SafeEnds.{StandsEnd}
+use Rattle.er_world.specs.KeptEnds.{StandsEnd}
 use Rattle.er_world.specs.Ledgers.{HoldsLedger}
 use Rattle.er_world.specs.Ports.{PortWent}
 use Rattle.er_world.specs.KeptLinks.{waiting_at, with_waiting_at, StandsLink, LinkWent, LinkDoes, TakesFirst, ChangesFrames}
@@ -46,14 +46,19 @@ none_passed (OfSafety fact) t is = refl
 none_passed (Refused refusal) t is = refl
 none_passed (Released release) t is = refl
 none_passed (Frame octets) t is = refl
+none_passed (Arrived payload) t is = refl
+none_passed Up t is = refl
 none_passed o t is = absurd is
 
 no_deliveries : (side : Side) (outcomes : List Outcome) (list : List Told) → AreTold outcomes list
     → flat_map (λ (o : Occurrence). passed_in o.outcome) (map (at_end side) outcomes) ≡ []
-no_deliveries side [] [] are = refl
-no_deliveries side [] (t ∷ list) are = absurd are
+no_deliveries side [] list are = refl
+no_deliveries side (Handed payload ∷ outcomes) list are = no_deliveries side outcomes list are
+no_deliveries side (Expired ∷ outcomes) list are = no_deliveries side outcomes list are
 no_deliveries side (o ∷ outcomes) [] are = absurd are
-no_deliveries side (o ∷ outcomes) (t ∷ list) are = rw (none_passed o t are.0) (no_deliveries side outcomes list are.1)
+no_deliveries side (o ∷ outcomes) (t ∷ list) are =
+    ap (λ (xs : List (List ℕ)). xs ++ flat_map (λ (p : Occurrence). passed_in p.outcome) (map (at_end side) outcomes)) (none_passed o t are.0)
+    ∙ no_deliveries side outcomes list are.1
 
 -- what a law of the crates below says of marks and facts
 pub record Grows : Type 0 where
@@ -349,27 +354,29 @@ passes_some grows place there old mid new frame passes before now takes far coun
 
 -- ---- a tick
 
--- the moment is set
+-- the moment is set, but never back
 stands_at : (kept : KeptLink) (l : Link) (history : List Occurrence) (moment : ℕ) → StandsLink kept l history
-    → StandsLink (record kept { moment = moment }) (record l { moment = moment }) history
+    → StandsLink (record kept { moment = max kept.moment moment }) (record l { moment = max l.moment moment }) history
 stands_at kept l history moment st = record {
   of_e = st.of_e;
   of_r = st.of_r;
   from_e = st.from_e;
   from_r = st.from_r;
   keys = st.keys;
-  moment = refl;
+  moment = ap (λ (m : ℕ). max m moment) st.moment;
   holds = st.holds;
   passes = st.passes;
 }
 
-pub ticks_so : Grows → (number : ℕ) (show : Bool) (moment : ℕ) (old mid new : KeptLink) (before between now : List ℕ)
-    → LinkDoes (λ l. give l E model.Tick) show number (record old { moment = moment }) mid before between
+pub ticks_so : Grows → (number : ℕ) (show : Bool) (moment later : ℕ) (old mid new : KeptLink) (before between now : List ℕ) → later ≡ max old.moment moment
+    → LinkDoes (λ l. give l E model.Tick) show number (record old { moment = later }) mid before between
     → LinkDoes (λ l. give l R model.Tick) show number mid new between now
     → LinkDoes (λ l. link_step l (Tick moment)) show number old new before now
-ticks_so grows number show moment old mid new before between now one two =
+ticks_so grows number show moment later old mid new before between now at one two =
     λ l history st.
-    let l' : Link = record l { moment = moment } in
+    let l' : Link = record l { moment = max l.moment moment } in
     let a : Link × List Occurrence = give l' E model.Tick in
-    let first : LinkWent a show number history mid before between = one l' history (stands_at old l history moment st) in
+    let stands : StandsLink (record old { moment = later }) l' history =
+    subst (λ (m : ℕ). StandsLink (record old { moment = m }) l' history) (sym at) (stands_at old l history moment st) in
+    let first : LinkWent a show number history mid before between = one l' history stands in
     then_went grows show number history a.1 a.0 (give a.0 R model.Tick) mid new before between now first (two a.0 (history ++ a.1) first.stands)

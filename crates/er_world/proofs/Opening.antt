@@ -7,14 +7,16 @@ use Rattle.des_block.specs.declared.triple_key.TripleKey.{TripleKey}
 use Rattle.er_settings.specs.declared.settings.Settings.{Settings}
 use Rattle.safety_automaton.specs.Keys.{Entry, key_at}
 use Rattle.safe_pair.specs.Openings.{PairOpening, OfFixed, OfKeys, key_for, begun}
-use Rattle.drill_model.specs.Ends.{OfSafe}
+use Rattle.station_model.specs.Stations.{made}
+use Rattle.drill_model.specs.Ends.{End, OfSafe, OfStation}
 use Rattle.drill_model.specs.Ends as model
-use Rattle.drill_model.specs.Links.{OfPair, joined_pair, opened, give}
+use Rattle.drill_model.specs.Links.{LinkOpening, OfPair, OfStations, key_on, joined, joined_pair, opened, give}
 use Rattle.er_world.specs.declared.place.Place.{Place}
 use Rattle.er_world.specs.declared.drill_end.DrillEnd.{DrillEnd}
 use Rattle.er_world.specs.declared.link.Link.{Link as KeptLink}
 use Rattle.er_world.specs.Keys.{entries_of}
-use Rattle.er_world.specs.SafeEnds.{StandsEnd}
+use Rattle.er_world.specs.KeptEnds.{StandsEnd}
+use Rattle.er_world.specs.KeptStations.{StandsStation}
 use Rattle.er_world.specs.KeptLinks.{new_link, StandsLink, LinkWent, LinkDoes}
 
 no_key : (b : Bool) (x : Option TripleKey) → x ≡ (if b then x else x)
@@ -36,11 +38,11 @@ one_key own_engine own_rbc (Some kmac) ke ra rb now engine rbc bound =
     its_key ((own_engine == engine) && (own_rbc == rbc)) (nat_le 0 now) (nat_le now (2 ^ 64 - 1)) kmac first last
 
 -- a link that was just made
-pub stands_new : (opening : PairOpening) (e r : DrillEnd) (keys : List Entry) (moment : ℕ)
-    → StandsEnd e (OfSafe (begun opening).e) → StandsEnd r (OfSafe (begun opening).r)
-    → ((now : ℕ) → now < 2 ^ 64 → key_at keys now ≡ key_for opening)
-    → StandsLink (new_link e r keys moment) (joined_pair opening moment) []
-stands_new opening e r keys moment of_e of_r found = record {
+stands_joined : (opening : LinkOpening) (e r : DrillEnd) (of_model_e of_model_r : End) (keys : List Entry) (moment : ℕ)
+    → StandsEnd e of_model_e → StandsEnd r of_model_r
+    → ((now : ℕ) → now < 2 ^ 64 → key_at keys now ≡ key_on opening)
+    → StandsLink (new_link e r keys moment) (joined opening moment of_model_e of_model_r) []
+stands_joined opening e r of_model_e of_model_r keys moment of_e of_r found = record {
   of_e = of_e;
   of_r = of_r;
   from_e = refl;
@@ -50,6 +52,13 @@ stands_new opening e r keys moment of_e of_r found = record {
   holds = record { same = λ key text. refl; of_e = refl; of_r = refl };
   passes = refl;
 }
+
+pub stands_new : (opening : PairOpening) (e r : DrillEnd) (keys : List Entry) (moment : ℕ)
+    → StandsEnd e (OfSafe (begun opening).e) → StandsEnd r (OfSafe (begun opening).r)
+    → ((now : ℕ) → now < 2 ^ 64 → key_at keys now ≡ key_for opening)
+    → StandsLink (new_link e r keys moment) (joined_pair opening moment) []
+stands_new opening e r keys moment of_e of_r found =
+    stands_joined (OfPair opening) e r (OfSafe (begun opening).e) (OfSafe (begun opening).r) keys moment of_e of_r found
 
 no_keys_found : (engine rbc : ℕ) (ke kr : TripleKey) (now : ℕ) → now < 2 ^ 64 → key_at (entries_of engine rbc None) now ≡ key_for (OfFixed engine rbc ke kr)
 no_keys_found engine rbc ke kr now bound = fun_ext (λ e. fun_ext (λ r. refl))
@@ -88,3 +97,25 @@ opens_called engine rbc ke kr ra rb e r keys own link new settings place show n 
     (stands_new opening e r (entries_of engine rbc kr) moment of_e of_r (key_found engine rbc ke kr ra rb)) in
     let Q : Place → Type 0 = λ p. LinkDoes (λ l. give l p.side model.Start) p.show p.number link new before now in
     (subst Q there does) (joined_pair opening moment) [] stands
+
+-- two stations, of which the calling one starts
+abbrev made_end : Bool → Settings → End
+made_end calling settings = OfStation (made calling (settings.modulo == 128) settings.window settings.n2 settings.t1) []
+
+pub opens_wired : (e r : DrillEnd) (keys : List Entry) (own : ℕ) (link new : KeptLink) (settings : Settings) (place : Place) (show : Bool) (n : ℕ) (before now : List ℕ)
+    → link ≡ new_link e r keys own
+    → StandsEnd e (OfStation (made true (settings.modulo == 128) settings.window settings.n2 settings.t1) [])
+    → StandsEnd r (OfStation (made false (settings.modulo == 128) settings.window settings.n2 settings.t1) [])
+    → keys ≡ entries_of 0 0 None
+    → place ≡ record { number = n; side = E; show = show }
+    → LinkDoes (λ l. give l place.side model.Start) place.show place.number link new before now
+    → (moment : ℕ) → own ≡ moment → LinkWent (opened settings moment OfStations) show n [] new before now
+opens_wired e r keys own link new settings place show n before now is of_e of_r keys_are there does moment at =
+    let made_so : link ≡ new_link e r (entries_of 0 0 None) moment =
+    is ∙ ap (λ (k : List Entry). new_link e r k own) keys_are ∙ ap (new_link e r (entries_of 0 0 None)) at in
+    let found : (m : ℕ) → m < 2 ^ 64 → key_at (entries_of 0 0 None) m ≡ key_on OfStations = λ m bound. fun_ext (λ x. fun_ext (λ y. refl)) in
+    let stands : StandsLink link (joined OfStations moment (made_end true settings) (made_end false settings)) [] =
+    subst (λ (k : KeptLink). StandsLink k (joined OfStations moment (made_end true settings) (made_end false settings)) []) (sym made_so)
+    (stands_joined OfStations e r (made_end true settings) (made_end false settings) (entries_of 0 0 None) moment of_e of_r found) in
+    let Q : Place → Type 0 = λ p. LinkDoes (λ l. give l p.side model.Start) p.show p.number link new before now in
+    (subst Q there does) (joined OfStations moment (made_end true settings) (made_end false settings)) [] stands

@@ -16,7 +16,8 @@ use Rattle.er_world.specs.Tellings.{AreTold}
 use Rattle.drill_model.specs.Ends.{OfSafe}
 use Rattle.er_world.specs.declared.safe_end.Checked.{Checked}
 use Rattle.er_world.specs.declared.drill_end.DrillEnd.TheVariants as code
-use Rattle.er_world.specs.SafeEnds.{EndWent, checked_text, told_report, told_sealed, told_written}
+use Rattle.er_world.specs.KeptEnds.{EndWent}
+use Rattle.er_world.specs.SafeEnds.{checked_text, told_report, told_sealed, told_written}
 
 -- ---- received octets
 

@@ -8,13 +8,13 @@ use Rattle.er_base.specs.declared.side.Side.TheVariants.{E, R}
 use Rattle.des_block.specs.declared.triple_key.TripleKey.{TripleKey}
 use Rattle.safe_pair.specs.Facts.{Fact, Sent, Sealed, Verified, Connected, Accepted, SideFact, MarkedFact, Sealing, is_sealing, sealings_of, sealings, was_sealed, is_side, is_mistrust, mistrusts, marked_from}
 use Rattle.safe_pair.specs.Marks.{MarksGrow}
-use Rattle.drill_model.specs.Outcomes.{Outcome, OfSafety, Refused, Released, Frame, at_end, facts_at, facts_in, frames_of, frames_in}
+use Rattle.drill_model.specs.Outcomes.{Outcome, OfSafety, Handed, Arrived, Up, Refused, Released, Frame, Expired, at_end, facts_at, facts_in, frames_of, frames_in}
 use Rattle.drill_model.specs.Marks.{outcome_forged, marks_behind}
 use Rattle.drill_model.specs.Texts.{outcome_line, link_lines}
 use Rattle.er_world.specs.declared.place.Place.{Place}
 use Rattle.er_world.specs.declared.ledger.Ledger.{Ledger}
 use Rattle.er_world.specs.declared.told.Told.{Told}
-use Rattle.er_world.specs.Tellings.{IsTold, AreTold, told_line, told_frames}
+use Rattle.er_world.specs.Tellings.{IsTold, heard_in, EachTold, AreTold, told_line, told_frames}
 use Rattle.er_world.specs.Ledgers.{HoldsLedger, mistrusts_of, forged_by, told_pairs, told_mark, Keeps, TellsOne, TellsAll, Telling}
 
 or_false : (a : Bool) → (a || false) ≡ a
@@ -95,6 +95,18 @@ row_of kept before side (Frame octets) t h is = rw is record {
   frames = refl;
   line = λ show number. refl;
 }
+row_of kept before side (Arrived payload) t h is = rw is record {
+  pairs = refl;
+  marks = λ mine. sym (and_false (is_side mine side));
+  frames = refl;
+  line = λ show number. refl;
+}
+row_of kept before side Up t h is = rw is record {
+  pairs = refl;
+  marks = λ mine. sym (and_false (is_side mine side));
+  frames = refl;
+  line = λ show number. refl;
+}
 row_of kept before side o t h is = absurd is
 
 -- the pairs that were sealed before, and then
@@ -128,7 +140,7 @@ holds_more kept new before side o t h row keeps =
 
 -- at the beginning
 pub telling_begins : (place : Place) (facts : List MarkedFact) (outcomes : List Outcome) (list : List Told) (kept : Ledger) (waited : List (List ℕ)) (before : List ℕ)
-    → AreTold outcomes list → HoldsLedger kept facts → Telling place facts outcomes list kept waited waited before before
+    → EachTold outcomes list → HoldsLedger kept facts → Telling place facts outcomes list kept waited waited before before
 telling_begins place facts outcomes list kept waited before are h = record {
   seen = facts;
   left = outcomes;
@@ -141,7 +153,7 @@ telling_begins place facts outcomes list kept waited before are h = record {
 
 goes_on : MarksGrow → (place : Place) (facts : List MarkedFact) (outcomes : List Outcome) (t : Told) (list : List Told) (kept new : Ledger)
     (waited waits more : List (List ℕ)) (before between now : List ℕ) (seen : List MarkedFact) (left : List Outcome)
-    → AreTold left (t ∷ list) → HoldsLedger kept seen
+    → EachTold left (t ∷ list) → HoldsLedger kept seen
     → seen ++ marked_from seen (facts_in (map (at_end place.side) left)) ≡ facts ++ marked_from facts (facts_in (map (at_end place.side) outcomes))
     → waits ++ frames_in left ≡ waited ++ frames_in outcomes
     → between ++ link_lines place.show place.number (marks_behind seen (map (at_end place.side) left))
@@ -177,20 +189,20 @@ pub telling_goes_on : MarksGrow → (place : Place) (facts : List MarkedFact) (o
     → TellsOne place t kept new waits more between now
     → Telling place facts outcomes list new waited more before now
 telling_goes_on grow place facts outcomes t all list kept new waited waits more before between now is d tells =
-    let are : AreTold d.left (t ∷ list) = subst (AreTold d.left) is d.told in
+    let are : EachTold d.left (t ∷ list) = subst (EachTold d.left) is d.told in
     goes_on grow place facts outcomes t list kept new waited waits more before between now d.seen d.left are d.holds d.marks d.queued d.printed tells
 
-none_left : (left : List Outcome) → AreTold left [] → left ≡ []
+none_left : (left : List Outcome) → EachTold left [] → left ≡ []
 none_left [] are = refl
 none_left (o ∷ left) are = absurd are
 
 -- the end
-pub telling_ends : (place : Place) (facts : List MarkedFact) (outcomes : List Outcome) (all : List Told) (kept : Ledger)
+each_ends : (place : Place) (facts : List MarkedFact) (outcomes : List Outcome) (all : List Told) (kept : Ledger)
     (waited waits : List (List ℕ)) (before now : List ℕ)
     → all ≡ [] → Telling place facts outcomes all kept waited waits before now
     → TellsAll place facts outcomes kept waited waits before now
-telling_ends place facts outcomes all kept waited waits before now is d =
-    let none : d.left ≡ [] = none_left d.left (subst (AreTold d.left) is d.told) in
+each_ends place facts outcomes all kept waited waits before now is d =
+    let none : d.left ≡ [] = none_left d.left (subst (EachTold d.left) is d.told) in
     let marks : d.seen ≡ facts ++ marked_from facts (facts_in (map (at_end place.side) outcomes)) =
     sym (append-nil d.seen) ∙ ap (λ (os : List Outcome). d.seen ++ marked_from d.seen (facts_in (map (at_end place.side) os))) (sym none) ∙ d.marks in
     record {
@@ -199,4 +211,44 @@ telling_ends place facts outcomes all kept waited waits before now is d =
       printed = sym (append-nil now)
           ∙ ap (λ (os : List Outcome). now ++ link_lines place.show place.number (marks_behind d.seen (map (at_end place.side) os))) (sym none)
           ∙ d.printed;
+    }
+
+-- ---- what nothing is told of
+
+-- it is no fact, no frame, and it has no line
+heard_facts : (side : Side) (os : List Outcome) → facts_in (map (at_end side) (heard_in os)) ≡ facts_in (map (at_end side) os)
+heard_facts side [] = refl
+heard_facts side (Handed payload ∷ os) = heard_facts side os
+heard_facts side (Expired ∷ os) = heard_facts side os
+heard_facts side (o ∷ os) = ap (λ (xs : List SideFact). facts_at side o ++ xs) (heard_facts side os)
+
+heard_frames : (os : List Outcome) → frames_in (heard_in os) ≡ frames_in os
+heard_frames [] = refl
+heard_frames (Handed payload ∷ os) = heard_frames os
+heard_frames (Expired ∷ os) = heard_frames os
+heard_frames (o ∷ os) = ap (λ (xs : List (List ℕ)). frames_of o ++ xs) (heard_frames os)
+
+heard_lines : (show : Bool) (number : ℕ) (side : Side) (facts : List MarkedFact) (os : List Outcome)
+    → link_lines show number (marks_behind facts (map (at_end side) (heard_in os))) ≡ link_lines show number (marks_behind facts (map (at_end side) os))
+heard_lines show number side facts [] = refl
+heard_lines show number side facts (Handed payload ∷ os) =
+    ap (λ (fs : List MarkedFact). link_lines show number (marks_behind fs (map (at_end side) (heard_in os)))) (sym (append-nil facts))
+    ∙ heard_lines show number side (facts ++ []) os
+heard_lines show number side facts (Expired ∷ os) =
+    ap (λ (fs : List MarkedFact). link_lines show number (marks_behind fs (map (at_end side) (heard_in os)))) (sym (append-nil facts))
+    ∙ heard_lines show number side (facts ++ []) os
+heard_lines show number side facts (o ∷ os) =
+    ap (λ (xs : List ℕ). outcome_line show number side o (outcome_forged facts side o) ++ xs) (heard_lines show number side (facts ++ marked_from facts (facts_at side o)) os)
+
+-- the end, of all outcomes
+pub telling_ends : (place : Place) (facts : List MarkedFact) (outcomes : List Outcome) (all : List Told) (kept : Ledger)
+    (waited waits : List (List ℕ)) (before now : List ℕ)
+    → all ≡ [] → Telling place facts (heard_in outcomes) all kept waited waits before now
+    → TellsAll place facts outcomes kept waited waits before now
+telling_ends place facts outcomes all kept waited waits before now is d =
+    let e : TellsAll place facts (heard_in outcomes) kept waited waits before now = each_ends place facts (heard_in outcomes) all kept waited waits before now is d in
+    record {
+      holds = subst (λ (fs : List SideFact). HoldsLedger kept (facts ++ marked_from facts fs)) (heard_facts place.side outcomes) e.holds;
+      queued = e.queued ∙ ap (λ (xs : List (List ℕ)). waited ++ xs) (heard_frames outcomes);
+      printed = e.printed ∙ ap (λ (xs : List ℕ). before ++ xs) (heard_lines place.show place.number place.side facts outcomes);
     }

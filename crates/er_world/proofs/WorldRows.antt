@@ -19,7 +19,7 @@ use Rattle.er_scenario.specs.declared.step.Step.TheVariants as does
 use Rattle.safe_pair.specs.Openings.{OfFixed}
 use Rattle.drill_model.specs.Steps.{IsOfLevel}
 use Rattle.drill_model.specs.Links.{OfPair}
-use Rattle.drill_model.specs.Worlds.{wire_opening, fixed_opening}
+use Rattle.drill_model.specs.Worlds.{fixed_opening}
 use Rattle.drill_model.specs.Faults.{wants, wants_closed, or_else}
 use Rattle.drill_model.specs.Marks.{marks_from}
 use Rattle.drill_model.specs.Texts.{lines, empty_line, passes_line}
@@ -329,11 +329,6 @@ copies_put w n m s t kept frame new before now result source some does =
     does
 
 -- ---- levels
-
-pub no_wire : (l : Level) → wire_opening l ≡ None
-no_wire level.Safe = refl
-no_wire level.Link = refl
-no_wire level.Full = refl
 
 -- only level safe has a line of fixed keys
 pub fixed_does : (l : Level) (plan : Plan) (n engine rbc : ℕ) (ke kr : TripleKey) (old new : KeptWorld) (before now : List ℕ) (result : Result (Unit {0}) WorldFault)

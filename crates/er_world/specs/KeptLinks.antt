@@ -17,7 +17,7 @@ use Rattle.er_world.specs.declared.action.LineChange.{LineChange}
 use Rattle.er_world.specs.declared.drill_end.DrillEnd.{DrillEnd}
 use Rattle.er_world.specs.declared.link.Link.{Link as KeptLink}
 use Rattle.er_world.specs.Changes.{outcomes_of, change_of}
-use Rattle.er_world.specs.SafeEnds.{StandsEnd}
+use Rattle.er_world.specs.KeptEnds.{StandsEnd}
 use Rattle.er_world.specs.Ledgers.{HoldsLedger}
 
 -- the frames of a side that wait

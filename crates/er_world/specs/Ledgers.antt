@@ -13,7 +13,7 @@ use Rattle.er_world.specs.declared.ledger.Ledger.{Ledger}
 use Rattle.er_world.specs.declared.told.Told.{Told}
 use Rattle.er_world.specs.declared.told.Told.TheVariants as told
 use Rattle.er_world.specs.Pairs.{Gains}
-use Rattle.er_world.specs.Tellings.{AreTold, told_line, told_frames}
+use Rattle.er_world.specs.Tellings.{EachTold, heard_in, told_line, told_frames}
 
 -- what is kept is what came
 pub record HoldsLedger (kept : Ledger) (facts : List MarkedFact) : Type 0 where
@@ -32,6 +32,8 @@ forged_by kept side (told.Sealed key text) = false
 forged_by kept side (told.Verified key text) = not (list_any (is_sealing key text) kept.pairs)
 forged_by kept side (told.Connected peer key text) = not (list_any (is_sealing key text) kept.pairs) || mistrusts_of kept side
 forged_by kept side (told.Accepted user key text) = not (list_any (is_sealing key text) kept.pairs)
+forged_by kept side told.Up = false
+forged_by kept side (told.Arrived payload) = false
 forged_by kept side (told.Refused refused) = false
 forged_by kept side (told.Released release) = false
 forged_by kept side (told.Frame octets) = false
@@ -42,6 +44,8 @@ told_pairs (told.Sealed key text) = record { key = key; text = text } ∷ []
 told_pairs (told.Verified key text) = []
 told_pairs (told.Connected peer key text) = []
 told_pairs (told.Accepted user key text) = []
+told_pairs told.Up = []
+told_pairs (told.Arrived payload) = []
 told_pairs (told.Refused refused) = []
 told_pairs (told.Released release) = []
 told_pairs (told.Frame octets) = []
@@ -52,6 +56,8 @@ told_mark (told.Sealed key text) forged = false
 told_mark (told.Verified key text) forged = forged
 told_mark (told.Connected peer key text) forged = false
 told_mark (told.Accepted user key text) forged = false
+told_mark told.Up forged = false
+told_mark (told.Arrived payload) forged = false
 told_mark (told.Refused refused) forged = false
 told_mark (told.Released release) forged = false
 told_mark (told.Frame octets) forged = false
@@ -86,7 +92,7 @@ pub record Telling (place : Place) (facts : List MarkedFact) (outcomes : List Ou
     (waited waits : List (List ℕ)) (before now : List ℕ) : Type 0 where
   pub seen : List MarkedFact
   pub left : List Outcome
-  pub told : AreTold left list
+  pub told : EachTold left list
   pub holds : HoldsLedger kept seen
   pub marks : seen ++ marked_from seen (facts_in (map (at_end place.side) left))
       ≡ facts ++ marked_from facts (facts_in (map (at_end place.side) outcomes))

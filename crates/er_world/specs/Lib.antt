@@ -1,10 +1,14 @@
 pub mod Keys
 pub mod Pairs
 pub mod PairKeys
+pub mod Refusals
 pub mod Tellings
 pub mod Changes
 pub mod Ledgers
+pub mod KeptStations
+pub mod KeptEnds
 pub mod SafeEnds
+pub mod StationEnds
 pub mod Ports
 pub mod KeptLinks
 pub mod Standing

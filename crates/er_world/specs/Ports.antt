@@ -8,7 +8,7 @@ use Rattle.er_world.specs.declared.port.Port.{Port}
 use Rattle.er_world.specs.declared.ledger.Ledger.{Ledger}
 use Rattle.er_world.specs.declared.told.Told.{Told}
 use Rattle.er_world.specs.Tellings.{AreTold}
-use Rattle.er_world.specs.SafeEnds.{StandsEnd}
+use Rattle.er_world.specs.KeptEnds.{StandsEnd}
 use Rattle.er_world.specs.Ledgers.{TellsAll}
 
 -- an end went on so, behind these facts of its link

@@ -3,24 +3,14 @@ use Rattle.std.specs.Prelude.{ℕ, ◌≡◌, List, [], ◌∷◌, Option, Some,
 use Rattle.des_block.specs.declared.triple_key.TripleKey.{TripleKey}
 use Rattle.safety_automaton.specs.Reports.{KeptSafe, Report, ToldAnswered, ToldConnected, ToldAccepted, ToldReleased, ToldIgnored}
 use Rattle.drill_model.specs.Outcomes.{Outcome}
-use Rattle.drill_model.specs.Ends.{End, OfSafe}
+use Rattle.drill_model.specs.Ends.{End}
 use Rattle.er_world.specs.declared.told.Told.{Told}
 use Rattle.er_world.specs.declared.told.Told.TheVariants as told
 use Rattle.er_world.specs.declared.safe_end.Checked.{Checked}
-use Rattle.er_world.specs.declared.drill_end.DrillEnd.{DrillEnd}
 use Rattle.er_world.specs.declared.drill_end.DrillEnd.TheVariants as code
-use Rattle.er_world.specs.Tellings.{AreTold}
+use Rattle.er_world.specs.KeptEnds.{EndWent}
 
--- an end of the code stands where an end of the model does
-abbrev pub StandsEnd : DrillEnd → End → Type 0
-StandsEnd (code.Safe kept) (OfSafe s) = kept.safety ≡ s
-
--- an end went on so, and told its outcomes
-pub record EndWent (new : DrillEnd) (list : List Told) (a : End × List Outcome) : Type 0 where
-  pub stands : StandsEnd new a.0
-  pub told : AreTold a.1 list
-
--- the same of a side
+-- a side went on so, and told its outcomes
 abbrev pub SafeWent : KeptSafe → List Told → End × List Outcome → Type 0
 SafeWent new list a = EndWent (code.Safe new) list a
 

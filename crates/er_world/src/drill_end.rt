@@ -4,11 +4,13 @@ ghost use Rattle.std.specs.Prelude.{IfOk};
 ghost use Rattle.safety_automaton.specs.Keys.{key_at};
 ghost use Rattle.drill_model.specs.Ends.{End, end_step};
 ghost use Rattle.er_world.specs.Changes.{event_of};
-ghost use Rattle.er_world.specs.SafeEnds.{StandsEnd, EndWent};
+ghost use Rattle.er_world.specs.KeptEnds.{StandsEnd, EndWent};
 
 use crate::end_event::EndEvent;
 use crate::finder::OneKey;
+use crate::moment::Moment;
 use crate::safe_end::safe_answer;
+use crate::station_end::StationEnd;
 use crate::told::Told;
 use er_base::NoMemory;
 use safety_automaton::Safe;
@@ -20,6 +22,8 @@ use std::collections::VecDeque;
 pub enum DrillEnd {
     /// Level safe.
     Safe(Safe),
+    /// Level link.
+    Station(StationEnd),
 }
 
 impl DrillEnd {
@@ -28,7 +32,7 @@ impl DrillEnd {
         &mut self,
         alloc: Global,
         keys: &OneKey,
-        now: u64,
+        now: Moment,
         event: &EndEvent,
     ) -> Result<VecDeque<Told>, NoMemory>
         ensures { IfOk result (λ told. (end : End) → StandsEnd self.old end
@@ -36,6 +40,7 @@ impl DrillEnd {
     {
         match self {
             DrillEnd::Safe(safe) => safe_answer(alloc, safe, keys, now, event),
+            DrillEnd::Station(station) => station.answer(alloc, now, event),
         }
     }
 }

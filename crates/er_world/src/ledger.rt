@@ -63,6 +63,8 @@ impl Ledger {
                 let text = Vec::from_slice(alloc, text.as_slice())?;
                 Ok(!self.pairs.contains(*key, text))
             }
+            Told::Up => Ok(false),
+            Told::Arrived(_) => Ok(false),
             Told::Refused(_) => Ok(false),
             Told::Released(_) => Ok(false),
             Told::Frame(_) => Ok(false),
@@ -94,6 +96,8 @@ impl Ledger {
             }
             Told::Connected { .. } => Ok(()),
             Told::Accepted { .. } => Ok(()),
+            Told::Up => Ok(()),
+            Told::Arrived(_) => Ok(()),
             Told::Refused(_) => Ok(()),
             Told::Released(_) => Ok(()),
             Told::Frame(_) => Ok(()),

@@ -2,16 +2,15 @@
 
 ghost use Rattle.std.specs.Prelude.{◌≡◌, ◌++◌, if◌then◌else◌, [], codes, IfOk, OnOk, OnErr};
 ghost use Rattle.std.specs.Fmt.{decimal};
-ghost use Rattle.drill_model.specs.Outcomes.{RefusedReleased, RefusedNotConnected, RefusedLength};
-ghost use Rattle.drill_model.specs.Ends.{refusal_of};
-ghost use Rattle.safety_automaton.specs.Reports.{refusal_view};
+ghost use Rattle.drill_model.specs.Outcomes.{RefusedReleased, RefusedNotConnected, RefusedLength, RefusedFull};
+ghost use Rattle.er_world.specs.Refusals.{shown_refusal};
 ghost use Rattle.er_world.specs.Changes.{change_line};
-ghost use Rattle.drill_model.specs.Texts.{head, forged_word, by_word, release_words, connected_line, accepted_line, released_line, refused_line, frame_line, empty_line, short_line, passes_line};
+ghost use Rattle.drill_model.specs.Texts.{head, up_line, forged_word, by_word, release_words, connected_line, accepted_line, released_line, refused_line, frame_line, empty_line, short_line, passes_line};
 
 use crate::place::Place;
+use crate::refusal::Refusal;
 use crate::waiting::Change;
 use er_base::{NoMemory, Release, decimal_word, hex_word};
-use safety_automaton::SealRefused;
 use std::alloc::Global;
 
 /// The end of a line on what verified.
@@ -58,6 +57,18 @@ fn line_at(alloc: Global, place: Place) -> Result<Vec<u8>, NoMemory>
     line.extend_from_slice(b" ")?;
     line.extend_from_slice(place.side.word())?;
     Ok(line)
+}
+
+/// Prints that the link came up at an end.
+#[tactic(auto, unfolding(drill_model::specs::Texts::up_line))]
+pub fn print_up(alloc: Global, place: Place, out: &mut Vec<u8>) -> Result<(), NoMemory>
+    ensures ok { OnOk result (out.new.items ≡ out.old.items ++ up_line place.number place.side) }
+    ensures err { OnErr result (out.new.items ≡ out.old.items) }
+{
+    let mut line = line_at(alloc, place)?;
+    line.extend_from_slice(b" up\n")?;
+    out.extend_from_slice(line.as_slice())?;
+    Ok(())
 }
 
 /// Prints that an end is connected with the peer of an ETCS number.
@@ -176,20 +187,40 @@ fn print_refused_length(
     Ok(())
 }
 
+/// Prints that a send was refused, since so many payloads wait to be sent.
+#[tactic(auto, unfolding(drill_model::specs::Texts::refused_line))]
+fn print_refused_full(
+    alloc: Global,
+    place: Place,
+    waiting: usize,
+    out: &mut Vec<u8>,
+) -> Result<(), NoMemory>
+    ensures ok { OnOk result (out.new.items ≡ out.old.items ++ refused_line place.number place.side (RefusedFull waiting)) }
+    ensures err { OnErr result (out.new.items ≡ out.old.items) }
+{
+    let mut line = line_at(alloc, place)?;
+    line.extend_from_slice(b" refused full ")?;
+    decimal_word(waiting as u64, &mut line)?;
+    line.extend_from_slice(b"\n")?;
+    out.extend_from_slice(line.as_slice())?;
+    Ok(())
+}
+
 /// Prints that a send was refused.
 pub fn print_refused(
     alloc: Global,
     place: Place,
-    refused: &SealRefused,
+    refused: &Refusal,
     out: &mut Vec<u8>,
 ) -> Result<(), NoMemory>
-    ensures ok { OnOk result (out.new.items ≡ out.old.items ++ refused_line place.number place.side (refusal_of (refusal_view refused.now))) }
+    ensures ok { OnOk result (out.new.items ≡ out.old.items ++ refused_line place.number place.side (shown_refusal refused.now)) }
     ensures err { OnErr result (out.new.items ≡ out.old.items) }
 {
     match refused {
-        SealRefused::Released(release) => print_refused_released(alloc, place, release, out),
-        SealRefused::NotConnected => print_refused_early(alloc, place, out),
-        SealRefused::Length(found) => print_refused_length(alloc, place, *found, out),
+        Refusal::Released(release) => print_refused_released(alloc, place, release, out),
+        Refusal::NotConnected => print_refused_early(alloc, place, out),
+        Refusal::Length(found) => print_refused_length(alloc, place, *found, out),
+        Refusal::Full(waiting) => print_refused_full(alloc, place, *waiting, out),
     }
 }
 

@@ -18,6 +18,7 @@ use crate::end_event::EndEvent;
 use crate::finder::OneKey;
 use crate::ledger::Ledger;
 use crate::lines::{print_change, print_empty, put_count};
+use crate::moment::Moment;
 use crate::place::Place;
 use crate::port::Port;
 use crate::waiting::Change;
@@ -34,7 +35,7 @@ pub struct Link {
     r: Port,
     keys: OneKey,
     ledger: Ledger,
-    moment: u64,
+    moment: Moment,
     passes: u64,
 }
 
@@ -51,7 +52,7 @@ fn marks_grow()
 
 impl Link {
     /// A link of these two ends, the engine's first, with no frame that waits.
-    pub fn new(alloc: Global, e: DrillEnd, r: DrillEnd, keys: OneKey, moment: u64) -> Link
+    pub fn new(alloc: Global, e: DrillEnd, r: DrillEnd, keys: OneKey, moment: Moment) -> Link
         ensures { result ≡ new_link e r keys moment }
     {
         Link {
@@ -189,13 +190,13 @@ impl Link {
         alloc: Global,
         number: u8,
         show: bool,
-        moment: u64,
+        moment: Moment,
         out: &mut Vec<u8>,
     ) -> Result<(), NoMemory>
         ensures { OnOk result (LinkDoes (λ l. link_step l (Tick moment)) show number self.old self.new out.old.items out.new.items) }
     {
         marks_grow();
-        self.moment = moment;
+        self.moment = self.moment.later(moment);
         let e = Place {
             number,
             side: Side::E,

@@ -6,7 +6,7 @@ ghost use Rattle.safe_pair.specs.Facts.{MarkedFact};
 ghost use Rattle.drill_model.specs.Ends.{End, end_step};
 ghost use Rattle.drill_model.specs.Waiting.{changes};
 ghost use Rattle.er_world.specs.Changes.{IsFirst, change_of, event_of, outcomes_of};
-ghost use Rattle.er_world.specs.SafeEnds.{StandsEnd};
+ghost use Rattle.er_world.specs.KeptEnds.{StandsEnd};
 ghost use Rattle.er_world.specs.Ledgers.{HoldsLedger};
 ghost use Rattle.er_world.specs.Ports.{PortWent};
 
@@ -15,6 +15,7 @@ use crate::drill_end::DrillEnd;
 use crate::end_event::EndEvent;
 use crate::finder::OneKey;
 use crate::ledger::Ledger;
+use crate::moment::Moment;
 use crate::place::Place;
 use crate::waiting::{Change, Waiting};
 use er_base::{NoMemory, Octets};
@@ -67,7 +68,7 @@ impl Port {
         alloc: Global,
         place: Place,
         keys: &OneKey,
-        now: u64,
+        now: Moment,
         event: &EndEvent,
         ledger: &mut Ledger,
         out: &mut Vec<u8>,
@@ -76,6 +77,7 @@ impl Port {
         ensures went { OnOk result ((end : End) (facts : List MarkedFact) → StandsEnd self.old.end end → HoldsLedger ledger.old facts
             → PortWent place facts (end_step (key_at keys.now now) now end (event_of event.now)) self.old.waiting self.new ledger.new out.old.items out.new.items) }
     {
+        let _ = now.get();
         let told = self.end.answer(alloc, keys, now, event)?;
         ledger.tell_all(alloc, place, told, &mut self.waiting, out)
     }

@@ -11,6 +11,8 @@ ghost use Rattle.er_world.specs.SafeEnds.{SafeWent, checked_text, told_report, t
 
 use crate::end_event::EndEvent;
 use crate::finder::OneKey;
+use crate::moment::Moment;
+use crate::refusal::Refusal;
 use crate::told::Told;
 use des_block::TripleKey;
 use er_base::{Cause, NoMemory, Octets, Room};
@@ -164,13 +166,13 @@ fn received(
     alloc: Global,
     safe: &mut Safe,
     keys: &OneKey,
-    now: u64,
+    now: Moment,
     octets: &[u8],
 ) -> Result<VecDeque<Told>, NoMemory>
     ensures { IfOk result (λ told. SafeWent safe.new told.items (safe_end_step (key_at keys.now now) safe.old.safety (safety_event (model.Receive octets.now)))) }
 {
     let mut room = Room::with_capacity(alloc, SAPDU_OCTETS)?;
-    let deed = safe.receive(keys, now, octets, &mut room);
+    let deed = safe.receive(keys, now.get(), octets, &mut room);
     let checked = checked_in(alloc, safe)?;
     let mut told = VecDeque::new(alloc);
     tell_report(alloc, &deed, checked, &mut told)?;
@@ -192,7 +194,7 @@ fn sent(alloc: Global, safe: &mut Safe, user: &[u8]) -> Result<VecDeque<Told>, N
             Ok(told)
         }
         Err(refused) => {
-            told.push_back(Told::Refused(refused))?;
+            told.push_back(Told::Refused(Refusal::of_side(refused)))?;
             Ok(told)
         }
     }
@@ -218,7 +220,7 @@ pub fn safe_answer(
     alloc: Global,
     safe: &mut Safe,
     keys: &OneKey,
-    now: u64,
+    now: Moment,
     event: &EndEvent,
 ) -> Result<VecDeque<Told>, NoMemory>
     ensures { IfOk result (λ told. SafeWent safe.new told.items (safe_end_step (key_at keys.now now) safe.old.safety (safety_event (event_of event.now)))) }

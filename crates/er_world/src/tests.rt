@@ -1,6 +1,6 @@
 ghost use Rattle.std.specs.Prelude.{◌≡◌, IfOk};
 ghost use Rattle.er_scenario.specs.declared.level.Level.TheVariants as level;
-ghost use Rattle.drill_model.specs.Steps.{IsOfLevel, HasEtcsNumbers};
+ghost use Rattle.drill_model.specs.Steps.{IsOfLevel, HasEtcsNumbers, HasMoment};
 
 use crate::{World, WorldFault};
 use des_block::TripleKey;
@@ -41,6 +41,7 @@ enum Move<'a> {
 fn step_of(alloc: Global, link: u8, made: &Move) -> Result<Step, NoMemory>
     ensures level { IfOk result (λ step. IsOfLevel level.Safe step) }
     ensures numbers { IfOk result HasEtcsNumbers }
+    ensures moment { IfOk result HasMoment }
 {
     match made {
         Move::Fixed => Ok(Step::Fixed {
@@ -101,9 +102,9 @@ fn step_of(alloc: Global, link: u8, made: &Move) -> Result<Step, NoMemory>
 
 /// Does a step; what came of it is printed, or the fault's name.
 fn take(alloc: Global, world: &mut World, step: &Step, out: &mut Vec<u8>) -> Result<(), NoMemory>
-    requires safe { world.old.plan.level ≡ level.Safe }
-    requires level { IsOfLevel level.Safe step.now }
+    requires level { IsOfLevel world.old.plan.level step.now }
     requires numbers { HasEtcsNumbers step.now }
+    requires moment { HasMoment step.now }
     ensures { world.new.plan ≡ world.old.plan }
 {
     if world.spent() {
@@ -175,6 +176,106 @@ fn changes_what_waits(rt: HostRuntime) -> Result<(), Fail> {
     let text = printed(rt.alloc(), true, &moves)?;
     let want =
         b"no link\nlink twice\n3 e empty\n3 e short 3\n3 r released 7 9 peer\n3 e released 0 44 local\n3 e frame 10002c\n3 e refused released 0 44\nno link\n3 end passes 1 waiting 1 0\n";
+    assert_eq!(rt; text.as_slice(), want.as_slice());
+    Ok(())
+}
+
+/// A step on the link 1 of a world of level link, or of its time.
+#[derive(Clone, Copy)]
+enum WireMove<'a> {
+    Wire,
+    Send(Side, &'a [u8]),
+    Pass(Side),
+    Lose(Side),
+    Put(Side, &'a [u8]),
+    Release(Side, u8),
+    Tick(u32),
+    Drain,
+}
+
+/// The step of a move of level link.
+fn wire_step_of(alloc: Global, made: &WireMove) -> Result<Step, NoMemory>
+    ensures level { IfOk result (λ step. IsOfLevel level.Link step) }
+    ensures numbers { IfOk result HasEtcsNumbers }
+    ensures moment { IfOk result HasMoment }
+{
+    let link = 1;
+    match made {
+        WireMove::Wire => Ok(Step::Wire { link }),
+        WireMove::Send(side, payload) => {
+            let text = Octets::new(Vec::from_slice(alloc, payload)?);
+            Ok(Step::Send {
+                link,
+                side: *side,
+                text,
+            })
+        }
+        WireMove::Pass(side) => Ok(Step::Pass { link, side: *side }),
+        WireMove::Lose(side) => Ok(Step::Lose { link, side: *side }),
+        WireMove::Put(side, octets) => {
+            let text = Octets::new(Vec::from_slice(alloc, octets)?);
+            Ok(Step::Put {
+                link,
+                side: *side,
+                text,
+            })
+        }
+        WireMove::Release(side, sub) => Ok(Step::Release {
+            link,
+            side: *side,
+            sub: *sub,
+        }),
+        WireMove::Tick(moment) => Ok(Step::Tick {
+            moment: *moment as u64,
+        }),
+        WireMove::Drain => Ok(Step::Drain { link, most: 20 }),
+    }
+}
+
+/// What these moves of level link print, the closing line included.
+fn printed_of_wire(alloc: Global, moves: &[WireMove]) -> Result<Vec<u8>, NoMemory> {
+    let mut out = Vec::new(alloc);
+    let mut world = World::new(alloc, Level::Link, Settings::usual(), false)?;
+    for made in moves {
+        let step = wire_step_of(alloc, made)?;
+        take(alloc, &mut world, &step, &mut out)?;
+    }
+    if world.spent() {
+        return Ok(out);
+    }
+    world.summary(alloc, &mut out)?;
+    Ok(out)
+}
+
+/// The first of two frames is lost and asked for by a REJ; a lost answer is made good by T1; a frame is cut over two passes; what is
+/// refused, time that goes back, and a release.
+#[test]
+fn makes_good_what_a_line_loses(rt: HostRuntime) -> Result<(), Fail> {
+    let moves = [
+        WireMove::Wire,
+        WireMove::Drain,
+        WireMove::Send(Side::E, b"A"),
+        WireMove::Send(Side::E, b"B"),
+        WireMove::Lose(Side::E),
+        WireMove::Drain,
+        WireMove::Send(Side::E, b"C"),
+        WireMove::Pass(Side::E),
+        WireMove::Lose(Side::R),
+        WireMove::Tick(1000),
+        WireMove::Tick(999),
+        WireMove::Drain,
+        WireMove::Put(Side::R, b"\x7a\xcd\x7e"),
+        WireMove::Put(Side::R, b"\x7e\x01\x0d"),
+        WireMove::Pass(Side::R),
+        WireMove::Pass(Side::R),
+        WireMove::Send(Side::R, b""),
+        WireMove::Release(Side::R, 9),
+        WireMove::Send(Side::E, b"D"),
+        WireMove::Drain,
+    ];
+    let text = printed_of_wire(rt.alloc(), &moves)?;
+    let want =
+        b"1 r up\n1 e up\n1 passes 2\n1 r accepted 41\n1 r accepted 42\n1 passes 6\n1 r accepted 43\nmoment back\n1 passes 2\n1 e released 1 3 local\n1 r refused length 0\n1 r released 0 9 local\n1 e refused released 1 3\n1 passes 2\n1 end passes 15 waiting 0 0\n";
     assert_eq!(rt; text.as_slice(), want.as_slice());
     Ok(())
 }

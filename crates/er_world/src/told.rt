@@ -3,12 +3,14 @@
 ghost use Rattle.std.specs.Prelude.{◌≡◌, ◌++◌, OnOk};
 ghost use Rattle.er_world.specs.Tellings.{IsNext, told_line, told_frames};
 
-use crate::lines::{print_accepted, print_connected, print_frame, print_refused, print_released};
+use crate::lines::{
+    print_accepted, print_connected, print_frame, print_refused, print_released, print_up,
+};
 use crate::place::Place;
+use crate::refusal::Refusal;
 use crate::waiting::Waiting;
 use des_block::TripleKey;
 use er_base::{NoMemory, Octets, Release};
-use safety_automaton::SealRefused;
 use std::alloc::Global;
 use std::collections::VecDeque;
 
@@ -47,8 +49,12 @@ pub enum Told {
         /// The text that was verified.
         text: Octets,
     },
+    /// The link came up.
+    Up,
+    /// A payload was accepted.
+    Arrived(Octets),
     /// A send was refused.
-    Refused(SealRefused),
+    Refused(Refusal),
     /// The connection ended.
     Released(Release),
     /// A frame for the peer.
@@ -77,6 +83,8 @@ pub fn print_told(
         Told::Verified { .. } => Ok(()),
         Told::Connected { peer, .. } => print_connected(alloc, place, *peer, forged, out),
         Told::Accepted { user, .. } => print_accepted(alloc, place, user.as_slice(), forged, out),
+        Told::Up => print_up(alloc, place, out),
+        Told::Arrived(payload) => print_accepted(alloc, place, payload.as_slice(), false, out),
         Told::Refused(refused) => print_refused(alloc, place, refused, out),
         Told::Released(release) => print_released(alloc, place, release, out),
         Told::Frame(octets) => print_frame(alloc, place, octets.as_slice(), out),
@@ -92,6 +100,8 @@ pub fn queue(told: Told, waiting: &mut Waiting) -> Result<(), NoMemory>
         Told::Verified { .. } => Ok(()),
         Told::Connected { .. } => Ok(()),
         Told::Accepted { .. } => Ok(()),
+        Told::Up => Ok(()),
+        Told::Arrived(_) => Ok(()),
         Told::Refused(_) => Ok(()),
         Told::Released(_) => Ok(()),
         Told::Frame(octets) => waiting.push(octets),

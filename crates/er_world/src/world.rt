@@ -9,8 +9,8 @@ ghost use Rattle.er_scenario.specs.declared.step.Step.{Step as AnyStep};
 ghost use Rattle.safe_pair.specs.Openings.{OfFixed, OfKeys};
 ghost use Rattle.safe_pair.specs.Marks.{MarksGrow};
 ghost use Rattle.drill_model.specs.Growth.{FactsGrow, HistoryGrows, HistoryOfOwn, HistoryOfOther, LinkMarksGrow, WorldMarksGrow, LinkText};
-ghost use Rattle.drill_model.specs.Steps.{IsOfLevel, HasEtcsNumbers};
-ghost use Rattle.drill_model.specs.Links.{OfPair, Tick, opened};
+ghost use Rattle.drill_model.specs.Steps.{IsOfLevel, HasEtcsNumbers, HasMoment};
+ghost use Rattle.drill_model.specs.Links.{OfPair, OfStations, Tick, opened};
 ghost use Rattle.drill_model.specs.Worlds.{Plan, link_at, is_link, link_opening, wire_opening, open_link, at_link, drain_link, copy_between, ticks, ticked, world_step};
 ghost use Rattle.drill_model.specs.Faults.{wants, wants_closed, wants_moment, or_else, refusal};
 ghost use Rattle.drill_model.specs.Texts.{last_lines};
@@ -25,7 +25,9 @@ use crate::end_event::EndEvent;
 use crate::finder::OneKey;
 use crate::lines::{print_empty, print_passes};
 use crate::link::{Link, MOST_WAITING};
+use crate::moment::Moment;
 use crate::place::Place;
+use crate::station_end::StationEnd;
 use des_block::TripleKey;
 use drill_model::WorldFault;
 use er_base::{NoMemory, Octets, Side};
@@ -45,12 +47,13 @@ pub struct World {
     settings: Settings,
     show: bool,
     places: Vec<Option<Link>>,
-    moment: u64,
+    moment: Moment,
     spent: bool,
 }
 
 impl Model for World {
     ghost use Rattle.std.specs.Prelude.{◌≡◌, length};
+    ghost use Rattle.er_settings.specs.Ranges.{AllAllowed};
     ghost use Rattle.er_world.specs.Standing.{KeptWorld};
 
     ghost Value = { KeptWorld };
@@ -62,7 +65,7 @@ impl Model for World {
       moment = w.moment;
     } };
 
-    ghost invariant = { λ w. length w.places.items ≡ 65 };
+    ghost invariant = { λ w. (length w.places.items ≡ 65) × AllAllowed w.settings };
 }
 
 /// Whether a link may have this number.
@@ -130,7 +133,7 @@ fn called(
     kr: Option<TripleKey>,
     ra: u64,
     rb: u64,
-    moment: u64,
+    moment: Moment,
     out: &mut Vec<u8>,
 ) -> Result<Link, NoMemory>
     requires engine { IsEtcsNumber engine }
@@ -141,6 +144,25 @@ fn called(
     let e = DrillEnd::Safe(Safe::initiator(engine, rbc, ke, rb));
     let r = DrillEnd::Safe(Safe::responder(rbc, ra));
     let mut link = Link::new(alloc, e, r, OneKey::new(engine, rbc, kr), moment);
+    link.give(alloc, place, &EndEvent::Start, out)?;
+    Ok(link)
+}
+
+/// A link between two stations, opened at a moment; the calling one has begun the set-up.
+fn wired(
+    alloc: Global,
+    place: Place,
+    settings: &Settings,
+    moment: Moment,
+    out: &mut Vec<u8>,
+) -> Result<Link, NoMemory>
+    requires { AllAllowed settings.now }
+    ensures { IfOk result (λ link. place.side ≡ E → (now : ℕ) → moment ≡ now
+        → LinkWent (opened settings.now now OfStations) place.show place.number [] link out.old.items out.new.items) }
+{
+    let e = DrillEnd::Station(StationEnd::calling(alloc, settings)?);
+    let r = DrillEnd::Station(StationEnd::called(alloc, settings)?);
+    let mut link = Link::new(alloc, e, r, OneKey::new(0, 0, None), moment);
     link.give(alloc, place, &EndEvent::Start, out)?;
     Ok(link)
 }
@@ -168,7 +190,7 @@ impl World {
             settings,
             show,
             places,
-            moment: 0,
+            moment: Moment::new(0),
             spent: false,
         })
     }
@@ -315,7 +337,7 @@ impl World {
         Ok(())
     }
 
-    /// Opens link N with two ends that aren't connected yet, and the engine begins the set-up. Only level safe is built.
+    /// Opens link N with two ends that aren't connected yet, and the engine begins the set-up. Level link has no such links; level full isn't built.
     fn open_called(
         &mut self,
         alloc: Global,
@@ -365,15 +387,14 @@ impl World {
         }
     }
 
-    /// Would open link N with two stations; they aren't built.
-    fn open_wire(&mut self, number: u8, out: &mut Vec<u8>) -> Result<(), WorldFault>
+    /// Opens link N with two stations, of which the calling one begins the set-up. Only level link has such links.
+    fn open_wire(&mut self, alloc: Global, number: u8, out: &mut Vec<u8>) -> Result<(), WorldFault>
         ensures does { Does (λ w. wants_closed number (link_at w number))
             (λ w. open_link self.old.plan w number (link_at w number) (wire_opening self.old.plan.level))
             self.old self.new out.old.items out.new.items result }
         ensures plan { self.new.plan ≡ self.old.plan }
         ensures spent { self.new.spent ≡ self.old.spent }
     {
-        let _ = &*out;
         world_grows();
         if self.link(number).is_some() {
             return Err(WorldFault::LinkTwice(number));
@@ -381,7 +402,16 @@ impl World {
         if !is_link(number) {
             return Err(WorldFault::NoLink(number));
         }
-        Ok(())
+        match self.level {
+            Level::Safe => Ok(()),
+            Level::Link => {
+                let place = self.place(number, Side::E);
+                let link = wired(alloc, place, &self.settings, self.moment, out)?;
+                self.open(number, link);
+                Ok(())
+            }
+            Level::Full => Ok(()),
+        }
     }
 
     /// A step of link N.
@@ -471,7 +501,7 @@ impl World {
         &mut self,
         alloc: Global,
         number: u8,
-        moment: u64,
+        moment: Moment,
         out: &mut Vec<u8>,
     ) -> Result<(), NoMemory>
         requires { number < 65 }
@@ -488,7 +518,12 @@ impl World {
     }
 
     /// Every end is ticked, the links' numbers rising, e before r.
-    fn tick_links(&mut self, alloc: Global, moment: u64, out: &mut Vec<u8>) -> Result<(), NoMemory>
+    fn tick_links(
+        &mut self,
+        alloc: Global,
+        moment: Moment,
+        out: &mut Vec<u8>,
+    ) -> Result<(), NoMemory>
         ensures went { OnOk result (WorldDoes (λ w. ticks moment w 1 64) self.old self.new out.old.items out.new.items) }
         ensures plan { self.new.plan ≡ self.old.plan }
         ensures spent { self.new.spent ≡ self.old.spent }
@@ -504,18 +539,20 @@ impl World {
 
     /// The moment is set, and every end is ticked.
     fn tick(&mut self, alloc: Global, moment: u64, out: &mut Vec<u8>) -> Result<(), WorldFault>
+        requires { moment ≤ 1000000000000000 }
         ensures does { Does (λ w. wants_moment w moment) (λ w. ticked w moment) self.old self.new out.old.items out.new.items result }
         ensures plan { self.new.plan ≡ self.old.plan }
         ensures spent { self.new.spent ≡ self.old.spent }
     {
-        if moment < self.moment {
+        if moment < self.moment.get() {
             return Err(WorldFault::MomentBack {
-                was: self.moment,
+                was: self.moment.get(),
                 now: moment,
             });
         }
-        self.moment = moment;
-        self.tick_links(alloc, moment, out)?;
+        let now = Moment::new(moment);
+        self.moment = now;
+        self.tick_links(alloc, now, out)?;
         Ok(())
     }
 
@@ -523,6 +560,7 @@ impl World {
     fn go(&mut self, alloc: Global, step: &Step, out: &mut Vec<u8>) -> Result<(), WorldFault>
         requires level { IsOfLevel self.old.plan.level step.now }
         requires numbers { HasEtcsNumbers step.now }
+        requires moment { HasMoment step.now }
         ensures does { Does (λ w. refusal w step.now) (λ w. world_step self.old.plan w step.now)
             self.old self.new out.old.items out.new.items result }
         ensures plan { self.new.plan ≡ self.old.plan }
@@ -545,7 +583,7 @@ impl World {
                 ra,
                 rb,
             } => self.open_called(alloc, *link, *engine, *rbc, *ke, *kr, *ra, *rb, out),
-            Step::Wire { link } => self.open_wire(*link, out),
+            Step::Wire { link } => self.open_wire(alloc, *link, out),
             Step::Send { link, side, text } => {
                 self.at(alloc, *link, *side, &Action::Send(text.as_slice()), out)
             }
@@ -638,6 +676,7 @@ impl World {
     pub fn apply(&mut self, alloc: Global, step: &Step, out: &mut Vec<u8>) -> Result<(), WorldFault>
         requires level { IsOfLevel self.old.plan.level step.now }
         requires numbers { HasEtcsNumbers step.now }
+        requires moment { HasMoment step.now }
         requires unspent { self.old.spent ≡ false }
         ensures ok { OnOk result ((plan : Plan) (before : List AnyStep) → Ran self.old plan before
             → Applied plan before step.now self.new out.old.items out.new.items) }

@@ -6,7 +6,7 @@ use Rattle.er_scenario.specs.declared.level.Level.{Level}
 use Rattle.er_scenario.specs.declared.numbered.Numbered.{Numbered}
 use Rattle.drill_model.specs.Steps.{IsOfLevel}
 use Rattle.drill_model.specs.Worlds.{Plan, plan_of}
-use Rattle.er_program.proofs.DrillSteps.{of_level, etcs_numbers, readable_at}
+use Rattle.er_program.proofs.DrillSteps.{of_level, etcs_numbers, has_moment, readable_at}
 use Rattle.er_program.proofs.DrillRuns.{went_more, went_sink, went_halt, went_end}
 use Rattle.er_program.proofs.drill.drill.Goals as goal
 
@@ -26,6 +26,12 @@ step_once-requires-clause-numbers g c =
     let readable = readable_at Running c.args.scenario.now.level c.args.scenario.now.steps c.loop-numbered.numbered-index c.numbered-item.result c.requires.steps
     (item_at _ _ _ _ c.as_slice-numbered-items.ensures c.loop-numbered-test.true c.numbered-item.is) in
     etcs_numbers c.numbered-item.result.step readable.range
+
+pub step_once-requires-clause-moment : goal.step_once-requires-clause-moment
+step_once-requires-clause-moment g c =
+    let readable = readable_at Running c.args.scenario.now.level c.args.scenario.now.steps c.loop-numbered.numbered-index c.numbered-item.result c.requires.steps
+    (item_at _ _ _ _ c.as_slice-numbered-items.ensures c.loop-numbered-test.true c.numbered-item.is) in
+    has_moment c.numbered-item.result.step readable.range
 
 pub returns-in-Err-Sink-clause-drills : goal.returns-in-Err-Sink-clause-drills
 returns-in-Err-Sink-clause-drills g c =

@@ -4,10 +4,10 @@ use Rattle.er_program.proofs.RunMeanings.{means_finished, means_broken, means_sp
 use Rattle.er_program.proofs.top.ran.Goals as goal
 
 pub returns-in-Ok-clause-means : goal.returns-in-Ok-clause-means
-returns-in-Ok-clause-means g c = means_finished (holds_always c.lawful.ensures c.worlds.ensures.opens c.delivery.ensures c.worlds.ensures.room) _ _ _ _ _ _ _ _ _ _ _ c.in-Ok.ensures.asked c.in-Ok.ensures.ends
+returns-in-Ok-clause-means g c = means_finished (holds_always c.lawful.ensures c.worlds.ensures.opens c.in_order.ensures c.losing_line_reasons.ensures c.delivery.ensures c.worlds.ensures.room) _ _ _ _ _ _ _ _ _ _ _ c.in-Ok.ensures.asked c.in-Ok.ensures.ends
 
 pub returns-in-Err-Sink-clause-means : goal.returns-in-Err-Sink-clause-means
 returns-in-Err-Sink-clause-means g c = means_broken _ _ _ _ _ _ _ _ _ _ (rw c.in-Err-Sink.field-0-is at c.in-Err-Sink.ensures.ends)
 
 pub returns-in-Err-NoMemory-clause-means : goal.returns-in-Err-NoMemory-clause-means
-returns-in-Err-NoMemory-clause-means g c = means_spent (holds_always c.lawful.ensures c.worlds.ensures.opens c.delivery.ensures c.worlds.ensures.room) _ _ _ _ _ _ _ _ _ _ _ _ _ (rw c.in-Err-NoMemory.field-0-is at c.in-Err-NoMemory.ensures.ends) c.out_of_memory.ensures.gives
+returns-in-Err-NoMemory-clause-means g c = means_spent (holds_always c.lawful.ensures c.worlds.ensures.opens c.in_order.ensures c.losing_line_reasons.ensures c.delivery.ensures c.worlds.ensures.room) _ _ _ _ _ _ _ _ _ _ _ _ _ (rw c.in-Err-NoMemory.field-0-is at c.in-Err-NoMemory.ensures.ends) c.out_of_memory.ensures.gives
