@@ -1,17 +1,13 @@
 -- A link of level safe that is loss-free so far delivers; and a drain as long as its bound leaves nothing waiting.
-use Rattle.std.proofs.Common.{◌≡◌, inl, inr, ℕ, zero, suc, ◌^◌, ◌+◌, ◌≤◌, ◌<◌, nat_lt, if◌then◌else◌, true, false, Bool, List, [], ◌∷◌, ◌++◌, map, length, refl, sym, ap, ap₂, subst, ◌∙◌, append-nil, arith}
+use Rattle.std.proofs.Common.{◌≡◌, inl, inr, ℕ, zero, suc, ◌+◌, ◌≤◌, nat_lt, if◌then◌else◌, true, false, Bool, List, [], ◌∷◌, ◌++◌, map, length, refl, sym, ap, ap₂, subst, ◌∙◌, append-nil, arith}
 use Rattle.std.specs.Prelude.{Option, Some, None}
-use Rattle.std.specs.List.{list_any, AllByRecursion}
+use Rattle.std.specs.List.{list_any}
 use Rattle.std.proofs.lemmas.Bool.{ltb-false, le-ltb}
 use Rattle.std.proofs.lemmas.List.Concat.{flat_map-append}
 use Rattle.er_base.specs.declared.side.Side.{Side}
 use Rattle.er_base.specs.declared.side.Side.TheVariants.{E, R}
 use Rattle.er_base.specs.Sides.{other}
 use Rattle.er_settings.specs.declared.settings.Settings.{Settings}
-use Rattle.er_scenario.specs.declared.level.Level.{Level}
-use Rattle.er_scenario.specs.declared.level.Level.TheVariants as level
-use Rattle.er_scenario.specs.declared.step.Step.{Step}
-use Rattle.er_scenario.specs.declared.step.Step.TheVariants as does
 use Rattle.des_block.specs.declared.triple_key.TripleKey.{TripleKey}
 use Rattle.safety_automaton.specs.Safety.{Safety, SafetyEvent, Received, DataRequest, SafetyOutcome, SentAu1, SentAu2, SentAu3, SentAr, ReceivedAr, AcceptedDt, SentDt, Refused, ReleasedLocally, ReleasedByPeer, NothingDone}
 use Rattle.safety_automaton.specs.Rules.{IsStep, StepsOnly}
@@ -22,10 +18,9 @@ use Rattle.safe_pair.specs.Deliveries.{sent_of, accepted_of, Flow, under_way, de
 use Rattle.safe_pair.specs.Deliveries as pair
 use Rattle.drill_model.specs.Outcomes.{Occurrence}
 use Rattle.drill_model.specs.Links.{Link, LinkOpening, OfPair, waiting_of, Pass, pass, link_step}
-use Rattle.drill_model.specs.Steps.{FitsFields, AllFit}
-use Rattle.drill_model.specs.Worlds.{Plan, fixed_opening, link_opening, wire_opening, link_at, history_on, next_of, next_side, overfull_side, Drain, drain, drain_on, world_run}
+use Rattle.drill_model.specs.Worlds.{link_at, history_on, next_of, next_side, overfull_side, Drain, drain, drain_on, world_run}
 use Rattle.drill_model.specs.Kinds.{sent_by, accepted_by, deliveries, IsLossFree, EndsAgree, bound}
-use Rattle.drill_model.specs.Headline.{FitsSettings, IsConnectedEnd, HasAll, IsEmpty, IsDelivered, DeliversAlways}
+use Rattle.drill_model.specs.Headline.{FitsSettings, IsConnectedEnd, HasAll, IsEmpty, IsDelivered, IsUnforged, DeliversAlways}
 use Rattle.drill_model.specs.Headline as claim
 use Rattle.drill_model.specs.Growth.{FactsGrow, HistoryGrows, HistoryOfOwn, HistoryOfOther}
 use Rattle.er_settings.specs.Ranges.{AllAllowed}
@@ -35,8 +30,12 @@ use Rattle.drill_laws.proofs.Tellings.{StationLaws}
 use Rattle.drill_laws.proofs.Wired.{Either}
 use Rattle.drill_laws.proofs.Losing.{allowed_of}
 use Rattle.drill_laws.proofs.Emptying.{wired_delivers}
-use Rattle.drill_laws.proofs.Worlds.{OpensFit, StepFits, AtPlace, world_lives}
-use Rattle.drill_laws.proofs.Viewing.{IsView, IsFlow, pass_view, FitsLinkStep, FitsLinkOpening, MayFlow, flow_keeps, sent_by_facts, accepted_by_facts}
+use Rattle.drill_laws.proofs.Fitting.{steps_fit}
+use Rattle.drill_laws.proofs.StackWiring.{Numbers}
+use Rattle.drill_laws.proofs.StackWired.{IsStacked}
+use Rattle.drill_laws.proofs.StackLaws.{StackLaws, stacked_delivers, stacked_at}
+use Rattle.drill_laws.proofs.Worlds.{AtPlace, world_lives}
+use Rattle.drill_laws.proofs.Viewing.{IsView, IsFlow, pass_view, FitsLinkStep, FitsLinkOpening, MayFlow, Flowing, flow_keeps, sent_by_facts, accepted_by_facts}
 
 -- ---- a delivery sends no message
 
@@ -220,7 +219,8 @@ module _ (only : StepsOnly) where
         at_e = accepted E ∙ complete.at_e ∙ sym (sent R);
       } in
       record {
-        unforged = ap (λ (fs : List SideFact). list_any (λ (m : MarkedFact). m.forged) (marked fs)) v.facts_are ∙ has.unforged;
+        unforged = subst (λ (p : LinkOpening). IsUnforged p history) (sym v.opening_is)
+            (ap (λ (fs : List SideFact). list_any (λ (m : MarkedFact). m.forged) (marked fs)) v.facts_are ∙ has.unforged);
         bounded = omega arith;
         done = subst D (sym v.opening_is) done;
         drains = λ none most enough.
@@ -230,58 +230,25 @@ module _ (only : StepsOnly) where
 
 -- ---- worlds
 
-fixed_fits : (grow : FactsGrow) (l : Level) (engine rbc : ℕ) (ke kr : TripleKey) → engine < 2 ^ 24 → rbc < 2 ^ 24
-    → OpensFit (FitsLinkOpening grow) (fixed_opening l engine rbc ke kr)
-fixed_fits grow level.Safe engine rbc ke kr e r = (e, r)
-fixed_fits grow level.Link engine rbc ke kr e r = tt
-fixed_fits grow level.Full engine rbc ke kr e r = tt
-
-link_fits : (grow : FactsGrow) (l : Level) (engine rbc : ℕ) (ke : TripleKey) (kr : Option TripleKey) (ra rb : ℕ) → engine < 2 ^ 24 → rbc < 2 ^ 24 → ra < 2 ^ 64 → rb < 2 ^ 64
-    → OpensFit (FitsLinkOpening grow) (link_opening l engine rbc ke kr ra rb)
-link_fits grow level.Safe engine rbc ke kr ra rb e r a b = (e, r, a, b)
-link_fits grow level.Link engine rbc ke kr ra rb e r a b = tt
-link_fits grow level.Full engine rbc ke kr ra rb e r a b = tt
-
-wire_fits : (grow : FactsGrow) (l : Level) → OpensFit (FitsLinkOpening grow) (wire_opening l)
-wire_fits grow level.Safe = tt
-wire_fits grow level.Link = tt
-wire_fits grow level.Full = tt
-
-step_fits : (grow : FactsGrow) (plan : Plan) (s : Step) → FitsFields s → StepFits (FitsLinkOpening grow) (FitsLinkStep grow) plan s
-step_fits grow plan (does.Fixed n engine rbc ke kr) fit = fixed_fits grow plan.level engine rbc ke kr fit.0.0 fit.0.1
-step_fits grow plan (does.Link n engine rbc ke kr ra rb) fit = link_fits grow plan.level engine rbc ke kr ra rb fit.0.0 fit.0.1 fit.1.0 fit.1.1
-step_fits grow plan (does.Wire n) fit = wire_fits grow plan.level
-step_fits grow plan (does.Send n s text) fit = fit.1
-step_fits grow plan (does.Pass n s) fit = tt
-step_fits grow plan (does.Lose n s) fit = tt
-step_fits grow plan (does.Repeat n s) fit = tt
-step_fits grow plan (does.Alter n s place mask) fit = tt
-step_fits grow plan (does.Put n s text) fit = tt
-step_fits grow plan (does.Copy n s m t) fit = tt
-step_fits grow plan (does.Take n s) fit = tt
-step_fits grow plan (does.Release n s sub) fit = tt
-step_fits grow plan (does.Tick moment) fit = tt
-step_fits grow plan (does.Drain n most) fit = tt
-
-steps_fit : (grow : FactsGrow) (plan : Plan) (steps : List Step) → AllFit steps → AllByRecursion (StepFits (FitsLinkOpening grow) (FitsLinkStep grow) plan) steps
-steps_fit grow plan [] fit = tt
-steps_fit grow plan (s ∷ steps) fit = (step_fits grow plan s fit.0, steps_fit grow plan steps fit.1)
-
-module _ (laws : StationLaws) (delivery : Delivery) (deliveries_bound : DeliveriesBound) (few : FewWait) (bounds : AllowedAreBounded) where
-  -- of two sides, or of two stations
-  delivers_either : (only : StepsOnly) → FlowsDeliver → (grow : FactsGrow) (settings : Settings) (l : Link) (history : List Occurrence) → Either settings (MayFlow grow) l history
-      → FitsSettings settings l.opening → IsLossFree l.opening history → claim.Delivers settings history l
-  delivers_either only law grow settings l history (inl may) fit free = delivers_at only grow law settings l history may free
-  delivers_either only law grow settings l history (inr w) fit free =
-      let allowed : AllAllowed settings = allowed_of settings l w.sees.opening_is fit in
-      wired_delivers laws delivery deliveries_bound few settings allowed (bounds settings allowed) l history w free
-
+module _ (laws : StationLaws) (stacks : StackLaws) (delivery : Delivery) (deliveries_bound : DeliveriesBound) (few : FewWait) (bounds : AllowedAreBounded) where
   pub delivers_always : StepsOnly → FlowsDeliver → FactsGrow → HistoryGrows → HistoryOfOwn → HistoryOfOther → DeliversAlways
   delivers_always only law facts grow own other plan steps fit n l is settings_fit free =
+      let settings : Settings = plan.settings in
       let history : List Occurrence = history_on n (world_run plan steps).1 in
-      let at : AtPlace (Either plan.settings (MayFlow facts)) (link_at (world_run plan steps).0 n) history =
-      world_lives grow own other plan (FitsLinkOpening facts) (FitsLinkStep facts) (Either plan.settings (MayFlow facts)) (flow_keeps facts laws plan.settings) steps
+      let at : AtPlace (Either settings (Flowing facts)) (link_at (world_run plan steps).0 n) history =
+      world_lives grow own other plan (FitsLinkOpening facts) (FitsLinkStep facts) (Either settings (Flowing facts)) (flow_keeps facts laws settings) steps
       (steps_fit facts plan steps fit) n in
-      let either : Either plan.settings (MayFlow facts) l history =
-      subst (λ (p : Option Link). AtPlace (Either plan.settings (MayFlow facts)) p history) is at in
-      delivers_either only law facts plan.settings l history either settings_fit free
+      -- of two sides, of two stacks or of two stations
+      elim (subst (λ (p : Option Link). AtPlace (Either settings (Flowing facts)) p history) is at) [
+        | inl flowing ↦
+            elim flowing [
+              | inl may ↦ delivers_at only facts law settings l history may free
+              | inr t ↦
+                  let k : Numbers = record { engine = t.engine; rbc = t.rbc; ke = t.ke; kr = t.kr; ra = t.ra; rb = t.rb } in
+                  let stacked : IsStacked settings l history = stacked_at stacks facts grow own other plan steps fit n l is k t.opening_is in
+                  stacked_delivers settings l history stacked (subst (FitsSettings settings) t.opening_is settings_fit) stacks free
+            ]
+        | inr w ↦
+            let allowed : AllAllowed settings = allowed_of settings l w.sees.opening_is settings_fit in
+            wired_delivers laws delivery deliveries_bound few settings allowed (bounds settings allowed) l history w free
+      ]

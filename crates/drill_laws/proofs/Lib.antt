@@ -9,3 +9,13 @@ mod Openings
 mod Losing
 mod Emptying
 mod Delivering
+mod Speaking
+mod StackTalking
+mod StackPrinting
+mod StackSaying
+mod StackGoing
+mod StackWiring
+mod StackWired
+mod Fitting
+mod StackLaws
+mod OrderKeeping

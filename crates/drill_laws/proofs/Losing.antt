@@ -7,7 +7,6 @@ use Rattle.er_base.specs.declared.side.Side.TheVariants.{E, R}
 use Rattle.er_settings.specs.declared.settings.Settings.{Settings}
 use Rattle.er_settings.specs.Ranges.{IsModulo, AllAllowed}
 use Rattle.er_settings.specs.Laws.{AreBounded, AllowedAreBounded}
-use Rattle.er_scenario.specs.declared.step.Step.{Step}
 use Rattle.station_model.specs.Frames.{modulo}
 use Rattle.station_pair.specs.Links.{Link as Pair}
 use Rattle.station_pair.specs.Steps.{run}
@@ -15,15 +14,10 @@ use Rattle.station_pair.specs.Laws.{Opening, Prefix, LosingLineReasons}
 use Rattle.station_pair.specs.Laws as of_pair
 use Rattle.drill_model.specs.Outcomes.{Occurrence}
 use Rattle.drill_model.specs.Links.{Link, LinkOpening, OfStations}
-use Rattle.drill_model.specs.Worlds.{Plan, link_at, history_on, world_run}
-use Rattle.drill_model.specs.Kinds.{sent_by, accepted_by, releases_in, IsNumbered, IsOrderKeeping}
-use Rattle.drill_model.specs.Headline.{FitsSettings, IsPrefix, IsInOrder, InOrderAlways, IsLosingLineReason, LosingLineReasonsAlways}
-use Rattle.drill_model.specs.Growth.{FactsGrow, HistoryGrows, HistoryOfOwn, HistoryOfOther}
-use Rattle.drill_laws.proofs.Tellings.{StationLaws}
+use Rattle.drill_model.specs.Kinds.{sent_by, accepted_by, releases_in, IsOrderKeeping}
+use Rattle.drill_model.specs.Headline.{FitsSettings, IsPrefix, IsInOrder, IsLosingLineReason}
 use Rattle.drill_laws.proofs.Wiring.{IsOfPair}
-use Rattle.drill_laws.proofs.Wired.{wired, IsWired, Either}
-use Rattle.drill_laws.proofs.Worlds.{AtPlace}
-use Rattle.drill_laws.proofs.Talking.{IsTalk, world_stands}
+use Rattle.drill_laws.proofs.Wired.{wired, IsWired}
 
 -- ---- the pair's opening
 
@@ -59,10 +53,10 @@ kept_of : (settings : Settings) (l : Link) (history : List Occurrence) (w : IsWi
     → (run (wired settings w.moment) w.steps).order_kept ≡ true
 kept_of settings l history w keeping = not_false (run (wired settings w.moment) w.steps).order_kept (sym w.sees.order ∙ keeping.ordered)
 
-prefix_of : (xs ys xs' ys' : List (List ℕ)) → xs ≡ xs' → ys ≡ ys' → of_pair.IsPrefix xs' ys' → IsPrefix xs ys
+pub prefix_of : (xs ys xs' ys' : List (List ℕ)) → xs ≡ xs' → ys ≡ ys' → of_pair.IsPrefix xs' ys' → IsPrefix xs ys
 prefix_of xs ys xs' ys' x y prefix = rw (x, y) prefix
 
-wired_in_order : Prefix → AllowedAreBounded → (settings : Settings) (l : Link) (history : List Occurrence) → IsWired settings l history → FitsSettings settings l.opening
+pub wired_in_order : Prefix → AllowedAreBounded → (settings : Settings) (l : Link) (history : List Occurrence) → IsWired settings l history → FitsSettings settings l.opening
     → IsOrderKeeping l.opening history → IsInOrder history
 wired_in_order law bounds settings l history w fit keeping =
     let v = w.sees in
@@ -85,7 +79,7 @@ all_reasons p [] e r all = tt
 all_reasons p (x ∷ xs) e r all =
     (elim all.0 [ inl is ↦ one_reason p.e.released x is e | inr is ↦ one_reason p.r.released x is r ], all_reasons p xs e r all.1)
 
-wired_reasons : LosingLineReasons → AllowedAreBounded → (settings : Settings) (l : Link) (history : List Occurrence) → IsWired settings l history
+pub wired_reasons : LosingLineReasons → AllowedAreBounded → (settings : Settings) (l : Link) (history : List Occurrence) → IsWired settings l history
     → FitsSettings settings l.opening → IsOrderKeeping l.opening history → AllByRecursion (IsLosingLineReason l.opening) (releases_in history)
 wired_reasons law bounds settings l history w fit keeping =
     let v = w.sees in
@@ -96,32 +90,3 @@ wired_reasons law bounds settings l history w fit keeping =
     let both : of_pair.IsLosingLineReason p.e.released × of_pair.IsLosingLineReason p.r.released = law s w.steps (kept_of settings l history w keeping) in
     subst (λ (o : LinkOpening). AllByRecursion (IsLosingLineReason o) (releases_in history)) (sym v.opening_is)
     (all_reasons p (releases_in history) both.0 both.1 v.releases)
-
--- two sides of a safe connection aren't order-keeping
-not_numbered : (l : Link) (history : List Occurrence) → IsTalk l history → IsOrderKeeping l.opening history → ⊥
-not_numbered l history t keeping = subst IsNumbered t.opening_is keeping.numbered
-
--- ---- worlds
-
-module _ (laws : StationLaws) (bounds : AllowedAreBounded) (facts : FactsGrow) (grow : HistoryGrows) (own : HistoryOfOwn) (other : HistoryOfOther) where
-  stands_at : (plan : Plan) (steps : List Step) (n : ℕ) (l : Link) → link_at (world_run plan steps).0 n ≡ Some l
-      → Either plan.settings IsTalk l (history_on n (world_run plan steps).1)
-  stands_at plan steps n l is =
-      subst (λ (place : Option Link). AtPlace (Either plan.settings IsTalk) place (history_on n (world_run plan steps).1)) is
-      (world_stands laws facts grow own other plan steps n)
-
-  pub in_order_always : Prefix → InOrderAlways
-  in_order_always law plan steps n l is fit keeping =
-      let history : List Occurrence = history_on n (world_run plan steps).1 in
-      elim (stands_at plan steps n l is) [
-        | inl t ↦ absurd (not_numbered l history t keeping)
-        | inr w ↦ wired_in_order law bounds plan.settings l history w fit keeping
-      ]
-
-  pub reasons_always : LosingLineReasons → LosingLineReasonsAlways
-  reasons_always law plan steps n l is fit keeping =
-      let history : List Occurrence = history_on n (world_run plan steps).1 in
-      elim (stands_at plan steps n l is) [
-        | inl t ↦ absurd (not_numbered l history t keeping)
-        | inr w ↦ wired_reasons law bounds plan.settings l history w fit keeping
-      ]

@@ -9,7 +9,7 @@ use Rattle.er_scenario.specs.declared.step.Step.TheVariants as does
 use Rattle.safe_pair.specs.Openings.{OfFixed, OfKeys}
 use Rattle.drill_model.specs.declared.world_fault.WorldFault.{WorldFault}
 use Rattle.drill_model.specs.Waiting.{Lose, Repeat, Alter, Put}
-use Rattle.drill_model.specs.Links.{Link, LinkOpening, OfPair, OfStations, opened, waiting_of, LinkStep, Send, Pass, Change, Take, Release, Tick, link_step}
+use Rattle.drill_model.specs.Links.{Link, LinkOpening, OfPair, OfStations, OfStacks, opened, waiting_of, LinkStep, Send, Pass, Change, Take, Release, Tick, link_step}
 use Rattle.drill_model.specs.Worlds.{Plan, World, Came, new_world, is_link, link_at, with_link, went_on, fixed_opening, link_opening, wire_opening, open_link, at_link, next_side, overfull_side, Drain, drain, drain_on, drain_link, copy_frame, copy_between, ticks, ticked, world_step, world_run_from, world_run}
 use Rattle.drill_model.specs.Faults.{or_else, refusal, overfull_fault, overfull_at, first_overfull, overfull_of}
 use Rattle.drill_model.specs.Headline.{named, opening_by, or_opening, opening_of, OpensAlways, RoomAlways}
@@ -98,6 +98,7 @@ module _ (grow : FactsGrow) where
   opened_is settings moment (OfPair (OfFixed engine rbc ke kr)) = refl
   opened_is settings moment (OfPair (OfKeys engine rbc ke kr ra rb)) = refl
   opened_is settings moment OfStations = refl
+  opened_is settings moment (OfStacks engine rbc ke kr ra rb) = refl
 
   named_other : (n m : ℕ) (opening : Option LinkOpening) → (n ≡ m → ⊥) → named n m opening ≡ None
   named_other n m opening apart = let differs : (m == n) ≡ false = ne_eqb m n (λ e. apart (sym e)) in rw differs refl

@@ -1,5 +1,5 @@
--- A link of level safe is two sides that talk: whatever its steps, what comes of them is authentic.
-use Rattle.std.proofs.Common.{◌≡◌, ℕ, max, inl, inr, ◌==◌, nat_lt, not, if◌then◌else◌, length, true, false, Bool, List, [], ◌∷◌, ◌++◌, map, refl, sym, ap, subst, ◌∙◌, append-nil, append_assoc}
+-- A link of level safe or full is two sides that talk: whatever its steps, what comes of them is authentic.
+use Rattle.std.proofs.Common.{◌≡◌, ◌⊎◌, ℕ, max, inl, inr, ◌==◌, nat_lt, not, if◌then◌else◌, length, true, false, Bool, List, [], ◌∷◌, ◌++◌, map, refl, sym, ap, subst, ◌∙◌, append-nil, append_assoc}
 use Rattle.std.specs.Prelude.{Option, Some, None}
 use Rattle.std.specs.List.{AllByRecursion}
 use Rattle.er_base.specs.declared.side.Side.{Side}
@@ -17,11 +17,12 @@ use Rattle.drill_model.specs.Outcomes.{Outcome, NothingWaits, IsShort, Altered, 
 use Rattle.drill_model.specs.Ends.{End, OfSafe, EndEvent, Start, safety_event, outcomes_by, safe_end_step, end_step}
 use Rattle.drill_model.specs.Ends as event
 use Rattle.drill_model.specs.Waiting.{LineChange, Lose, Repeat, Alter, Put, altered, changes}
-use Rattle.drill_model.specs.Links.{Link, LinkOpening, OfPair, OfStations, waiting_of, with_waiting, answered, give, joined_pair, opened_pair, opened, LinkStep, Send, Pass, Change, Take, Release, Tick, pass, link_step}
+use Rattle.drill_model.specs.Links.{Link, LinkOpening, OfPair, OfStations, OfStacks, waiting_of, with_waiting, answered, give, joined_pair, opened_pair, opened, LinkStep, Send, Pass, Change, Take, Release, Tick, pass, link_step}
 use Rattle.drill_model.specs.Worlds.{Plan, fixed_opening, link_opening, wire_opening, link_at, history_on, world_run}
 use Rattle.drill_model.specs.Headline.{LawfulAt, LawfulAlways}
 use Rattle.drill_model.specs.Growth.{HistoryGrows, HistoryOfOwn, HistoryOfOther, FactsGrow}
 use Rattle.drill_laws.proofs.Tellings.{StationLaws}
+use Rattle.drill_laws.proofs.StackTalking.{IsStackTalk, stack_step, opened_stack_talks}
 use Rattle.drill_laws.proofs.Wired.{Either, wired_opens, wired_steps}
 use Rattle.drill_laws.proofs.Worlds.{OpensFit, StepFits, AtPlace, Keeps, world_lives}
 
@@ -188,16 +189,25 @@ module _ (grow : FactsGrow) where
   opened_talks (OfKeys engine rbc ke kr ra rb) moment =
       give_talks (joined_pair (OfKeys engine rbc ke kr ra rb) moment) [] E Start (joined_talks (OfKeys engine rbc ke kr ra rb) moment)
 
-  module _ (laws : StationLaws) (settings : Settings) where
-    opens_lawfully : (moment : ℕ) (opening : LinkOpening) → Either settings IsTalk (opened settings moment opening).0 (opened settings moment opening).1
-    opens_lawfully moment (OfPair opening) = inl (opened_talks opening moment)
-    opens_lawfully moment OfStations = inr (wired_opens laws settings moment)
+  -- two sides that talk, by themselves or each in a stack
+  abbrev pub Speaks : Link → List Occurrence → Type 0
+  Speaks l history = IsTalk l history ⊎ IsStackTalk l history
 
-    talks_keep : Keeps settings (λ o. Unit {0}) (λ s. Unit {0}) (Either settings IsTalk)
+  speaks_on : (l : Link) (history : List Occurrence) (s : LinkStep) → Speaks l history → Speaks (link_step l s).0 (history ++ (link_step l s).1)
+  speaks_on l history s (inl t) = inl (step_talks l history s t)
+  speaks_on l history s (inr t) = inr (stack_step grow silent_changes l history s t)
+
+  module _ (laws : StationLaws) (settings : Settings) where
+    opens_lawfully : (moment : ℕ) (opening : LinkOpening) → Either settings Speaks (opened settings moment opening).0 (opened settings moment opening).1
+    opens_lawfully moment (OfPair opening) = inl (inl (opened_talks opening moment))
+    opens_lawfully moment OfStations = inr (wired_opens laws settings moment)
+    opens_lawfully moment (OfStacks engine rbc ke kr ra rb) = inl (inr (opened_stack_talks grow settings moment engine rbc ke kr ra rb))
+
+    talks_keep : Keeps settings (λ o. Unit {0}) (λ s. Unit {0}) (Either settings Speaks)
     talks_keep =
         record {
           opens = λ moment opening fit. opens_lawfully moment opening;
-          steps = λ l history s fit h. elim h [ inl t ↦ inl (step_talks l history s t) | inr w ↦ inr (wired_steps laws settings l history s w) ];
+          steps = λ l history s fit h. elim h [ inl t ↦ inl (speaks_on l history s t) | inr w ↦ inr (wired_steps laws settings l history s w) ];
           others = λ s none. tt;
         }
 
@@ -227,15 +237,17 @@ any_steps plan [] = tt
 any_steps plan (s ∷ steps) = (any_step plan s, any_steps plan steps)
 
 -- each link of a world is of two sides that talk, or of two stations
-pub world_stands : StationLaws → FactsGrow → HistoryGrows → HistoryOfOwn → HistoryOfOther → (plan : Plan) (steps : List Step) (n : ℕ)
-    → AtPlace (Either plan.settings IsTalk) (link_at (world_run plan steps).0 n) (history_on n (world_run plan steps).1)
+pub world_stands : StationLaws → (facts : FactsGrow) → HistoryGrows → HistoryOfOwn → HistoryOfOther → (plan : Plan) (steps : List Step) (n : ℕ)
+    → AtPlace (Either plan.settings (Speaks facts)) (link_at (world_run plan steps).0 n) (history_on n (world_run plan steps).1)
 world_stands laws facts grow own other plan steps n =
-    world_lives grow own other plan (λ x. Unit {0}) (λ x. Unit {0}) (Either plan.settings IsTalk) (talks_keep facts laws plan.settings) steps (any_steps plan steps) n
+    world_lives grow own other plan (λ x. Unit {0}) (λ x. Unit {0}) (Either plan.settings (Speaks facts)) (talks_keep facts laws plan.settings) steps (any_steps plan steps) n
 
-lawful_at : TalksAreAuthentic → (settings : Settings) (place : Option Link) (history : List Occurrence) → AtPlace (Either settings IsTalk) place history → LawfulAt place history
-lawful_at law settings None history none = none
-lawful_at law settings (Some l) history (inl t) = rw t.opening_is (law t.opening (facts_in history) t.pair t.talks)
-lawful_at law settings (Some l) history (inr w) = rw w.sees.opening_is w.sees.facts
+lawful_at : TalksAreAuthentic → (facts : FactsGrow) (settings : Settings) (place : Option Link) (history : List Occurrence) → AtPlace (Either settings (Speaks facts)) place history → LawfulAt place history
+lawful_at law facts settings None history none = none
+lawful_at law facts settings (Some l) history (inl (inl t)) = rw t.opening_is (law t.opening (facts_in history) t.pair t.talks)
+lawful_at law facts settings (Some l) history (inl (inr t)) =
+    rw t.opening_is (law (OfKeys t.engine t.rbc t.ke t.kr t.ra t.rb) (facts_in history) (record { e = t.e.core.safe.safety; r = t.r.core.safe.safety }) t.talks)
+lawful_at law facts settings (Some l) history (inr w) = rw w.sees.opening_is w.sees.facts
 
 pub lawful_always : StationLaws → TalksAreAuthentic → FactsGrow → HistoryGrows → HistoryOfOwn → HistoryOfOther → LawfulAlways
-lawful_always laws law facts grow own other plan steps n = lawful_at law plan.settings _ _ (world_stands laws facts grow own other plan steps n)
+lawful_always laws law facts grow own other plan steps n = lawful_at law facts plan.settings _ _ (world_stands laws facts grow own other plan steps n)

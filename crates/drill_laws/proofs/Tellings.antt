@@ -103,7 +103,7 @@ frames_of_frames : (frames : List (List ℕ)) → frames_in (map Frame frames) �
 frames_of_frames [] = refl
 frames_of_frames (f ∷ fs) = ap (λ (xs : List (List ℕ)). f ∷ xs) (frames_of_frames fs)
 
-frames_released : (released : Option Release) (frames : List (List ℕ)) → frames_in (if_released released ++ map Frame frames) ≡ frames
+pub frames_released : (released : Option Release) (frames : List (List ℕ)) → frames_in (if_released released ++ map Frame frames) ≡ frames
 frames_released None frames = frames_of_frames frames
 frames_released (Some release) frames = frames_of_frames frames
 

@@ -1,5 +1,5 @@
 -- A link of level safe, while nothing disturbs it, as two sides whose SaPDUs come to each other in order.
-use Rattle.std.proofs.Common.{◌≡◌, ℕ, max, inl, inr, ◌+◌, ◌==◌, nat_lt, not, if◌then◌else◌, true, false, Bool, List, [], ◌∷◌, ◌++◌, map, length, refl, sym, ap, ap₂, subst, ◌∙◌, append-nil, append_assoc, arith}
+use Rattle.std.proofs.Common.{◌≡◌, ◌⊎◌, ℕ, max, inl, inr, ◌+◌, ◌==◌, nat_lt, not, if◌then◌else◌, true, false, Bool, List, [], ◌∷◌, ◌++◌, map, length, refl, sym, ap, ap₂, subst, ◌∙◌, append-nil, append_assoc, arith}
 use Rattle.std.specs.Prelude.{Option, Some, None}
 use Rattle.std.specs.List.{flat_map, AllByRecursion}
 use Rattle.std.proofs.lemmas.Bool.{or_parts}
@@ -10,6 +10,7 @@ use Rattle.er_base.specs.declared.side.Side.TheVariants.{E, R}
 use Rattle.er_base.specs.Sides.{other}
 use Rattle.er_settings.specs.declared.settings.Settings.{Settings}
 use Rattle.er_base.specs.Octets.{AreOctets}
+use Rattle.des_block.specs.declared.triple_key.TripleKey.{TripleKey}
 use Rattle.safety_automaton.specs.Safety.{Safety, SafetyEvent, ConnectRequest, Received, DataRequest, SafetyOutcome, SentAu1, SentAu2, SentAu3, SentAr, ReceivedAr, AcceptedDt, SentDt, Refused, ReleasedLocally, ReleasedByPeer, NothingDone}
 use Rattle.safe_pair.specs.Facts.{SideFact, is_side, heard_in}
 use Rattle.safe_pair.specs.Openings.{PairOpening, OfFixed, OfKeys, key_for, safety_of}
@@ -20,7 +21,7 @@ use Rattle.drill_model.specs.Outcomes.{Outcome, OfSafety, Handed, Arrived, Passe
 use Rattle.drill_model.specs.Ends.{End, OfSafe, EndEvent, Start, safety_event, outcomes_by, safe_end_step, end_step}
 use Rattle.drill_model.specs.Ends as event
 use Rattle.drill_model.specs.Waiting.{LineChange, Lose, Repeat, Alter, Put, altered, changes}
-use Rattle.drill_model.specs.Links.{Link, LinkOpening, OfPair, OfStations, waiting_of, with_waiting, answered, give, joined_pair, opened_pair, opened, LinkStep, Send, Pass, Change, Take, Release, Tick, pass, change_waiting, link_step}
+use Rattle.drill_model.specs.Links.{Link, LinkOpening, OfPair, OfStations, OfStacks, waiting_of, with_waiting, answered, give, joined_pair, opened_pair, opened, LinkStep, Send, Pass, Change, Take, Release, Tick, pass, change_waiting, link_step}
 use Rattle.drill_model.specs.Kinds.{sent_in, accepted_in, sent_by, accepted_by, deliveries, is_disturbance, is_disturbed}
 use Rattle.drill_model.specs.Growth.{FactsGrow}
 use Rattle.drill_laws.proofs.Tellings.{StationLaws}
@@ -443,6 +444,17 @@ module _ (grow : FactsGrow) where
   abbrev pub FitsLinkOpening : LinkOpening → Type 0
   FitsLinkOpening (OfPair opening) = FitsOpening opening
   FitsLinkOpening OfStations = Unit {0}
+  FitsLinkOpening (OfStacks engine rbc ke kr ra rb) = FitsOpening (OfKeys engine rbc ke kr ra rb)
+
+  -- a link of level full
+  pub record IsOfStacks (l : Link) (history : List Occurrence) : Type 0 where
+    pub engine : ℕ
+    pub rbc : ℕ
+    pub ke : TripleKey
+    pub kr : Option TripleKey
+    pub ra : ℕ
+    pub rb : ℕ
+    pub opening_is : l.opening ≡ OfStacks engine rbc ke kr ra rb
 
   -- while nothing disturbed it, it flows
   pub record MayFlow (l : Link) (history : List Occurrence) : Type 0 where
@@ -488,7 +500,7 @@ module _ (grow : FactsGrow) where
   opened_opening (OfFixed engine rbc ke kr) moment = refl
   opened_opening (OfKeys engine rbc ke kr ra rb) moment = refl
 
-  no_send_fits : (s : LinkStep) → IsNoSend s → FitsLinkStep s
+  pub no_send_fits : (s : LinkStep) → IsNoSend s → FitsLinkStep s
   no_send_fits (Send side octets) none = absurd none
   no_send_fits (Pass side) none = tt
   no_send_fits (Change side change) none = tt
@@ -496,17 +508,27 @@ module _ (grow : FactsGrow) where
   no_send_fits (Release side sub) none = tt
   no_send_fits (Tick moment) none = tt
 
+  -- of two sides by themselves, or of two stacks
+  abbrev pub Flowing : Link → List Occurrence → Type 0
+  Flowing l history = MayFlow l history ⊎ IsOfStacks l history
+
+  flowing_on : (l : Link) (history : List Occurrence) (s : LinkStep) → FitsLinkStep s → Flowing l history → Flowing (link_step l s).0 (history ++ (link_step l s).1)
+  flowing_on l history s fit (inl may) = inl (step_may l history s fit may)
+  flowing_on l history s fit (inr t) = inr (record { engine = t.engine; rbc = t.rbc; ke = t.ke; kr = t.kr; ra = t.ra; rb = t.rb; opening_is = step_opening l s ∙ t.opening_is })
+
   module _ (laws : StationLaws) (settings : Settings) where
     opens_flowing : (moment : ℕ) (opening : LinkOpening) → FitsLinkOpening opening
-        → Either settings MayFlow (opened settings moment opening).0 (opened settings moment opening).1
+        → Either settings Flowing (opened settings moment opening).0 (opened settings moment opening).1
     opens_flowing moment (OfPair opening) fit =
-        inl (record { fit = subst FitsLinkOpening (sym (opened_opening opening moment)) fit; flow = λ u. opened_flow opening moment })
+        inl (inl (record { fit = subst FitsLinkOpening (sym (opened_opening opening moment)) fit; flow = λ u. opened_flow opening moment }))
     opens_flowing moment OfStations fit = inr (wired_opens laws settings moment)
+    opens_flowing moment (OfStacks engine rbc ke kr ra rb) fit =
+        inl (inr (record { engine = engine; rbc = rbc; ke = ke; kr = kr; ra = ra; rb = rb; opening_is = refl }))
 
-    pub flow_keeps : Keeps settings FitsLinkOpening FitsLinkStep (Either settings MayFlow)
+    pub flow_keeps : Keeps settings FitsLinkOpening FitsLinkStep (Either settings Flowing)
     flow_keeps =
         record {
           opens = opens_flowing;
-          steps = λ l history s fit h. elim h [ inl may ↦ inl (step_may l history s fit may) | inr w ↦ inr (wired_steps laws settings l history s w) ];
+          steps = λ l history s fit h. elim h [ inl f ↦ inl (flowing_on l history s fit f) | inr w ↦ inr (wired_steps laws settings l history s w) ];
           others = no_send_fits;
         }

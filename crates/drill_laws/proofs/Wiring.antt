@@ -25,7 +25,7 @@ use Rattle.drill_laws.proofs.Tellings.{Says, Ready, Went, frames_told, frames_ap
 
 -- ---- what occurrences at one side say
 
-flat_mapped : {A : Type 0} (g : Occurrence → List A) (f : Outcome → List A) (side : Side) → ((o : Outcome) → g (at_end side o) ≡ f o) → (os : List Outcome)
+pub flat_mapped : {A : Type 0} (g : Occurrence → List A) (f : Outcome → List A) (side : Side) → ((o : Outcome) → g (at_end side o) ≡ f o) → (os : List Outcome)
     → flat_map g (map (at_end side) os) ≡ flat_map f os
 flat_mapped g f side same [] = refl
 flat_mapped {A} g f side same (o ∷ os) = ap₂ (λ (xs ys : List A). xs ++ ys) (same o) (flat_mapped g f side same os)
@@ -59,25 +59,25 @@ sent_r_r os = flat_mapped (sent_of R) sent_in R (λ o. refl) os
 pub sent_r_e : (os : List Outcome) → sent_by R (map (at_end E) os) ≡ []
 sent_r_e os = flat_mapped (sent_of R) nowhere E (λ o. refl) os ∙ flat_nowhere os
 
-accepted_e_e : (os : List Outcome) → accepted_by E (map (at_end E) os) ≡ flat_map accepted_in os
+pub accepted_e_e : (os : List Outcome) → accepted_by E (map (at_end E) os) ≡ flat_map accepted_in os
 accepted_e_e os = flat_mapped (accepted_of E) accepted_in E (λ o. refl) os
 
-accepted_e_r : (os : List Outcome) → accepted_by E (map (at_end R) os) ≡ []
+pub accepted_e_r : (os : List Outcome) → accepted_by E (map (at_end R) os) ≡ []
 accepted_e_r os = flat_mapped (accepted_of E) nowhere R (λ o. refl) os ∙ flat_nowhere os
 
-accepted_r_r : (os : List Outcome) → accepted_by R (map (at_end R) os) ≡ flat_map accepted_in os
+pub accepted_r_r : (os : List Outcome) → accepted_by R (map (at_end R) os) ≡ flat_map accepted_in os
 accepted_r_r os = flat_mapped (accepted_of R) accepted_in R (λ o. refl) os
 
-accepted_r_e : (os : List Outcome) → accepted_by R (map (at_end E) os) ≡ []
+pub accepted_r_e : (os : List Outcome) → accepted_by R (map (at_end E) os) ≡ []
 accepted_r_e os = flat_mapped (accepted_of R) nowhere E (λ o. refl) os ∙ flat_nowhere os
 
-sent_grows : (s : Side) (history more : List Occurrence) → sent_by s (history ++ more) ≡ sent_by s history ++ sent_by s more
+pub sent_grows : (s : Side) (history more : List Occurrence) → sent_by s (history ++ more) ≡ sent_by s history ++ sent_by s more
 sent_grows s history more = flat_map-append (sent_of s) history more
 
-accepted_grows : (s : Side) (history more : List Occurrence) → accepted_by s (history ++ more) ≡ accepted_by s history ++ accepted_by s more
+pub accepted_grows : (s : Side) (history more : List Occurrence) → accepted_by s (history ++ more) ≡ accepted_by s history ++ accepted_by s more
 accepted_grows s history more = flat_map-append (accepted_of s) history more
 
-releases_grow : (history more : List Occurrence) → releases_in (history ++ more) ≡ releases_in history ++ releases_in more
+pub releases_grow : (history more : List Occurrence) → releases_in (history ++ more) ≡ releases_in history ++ releases_in more
 releases_grow history more = flat_map-append (λ (o : Occurrence). released_in o.outcome) history more
 
 -- the history behind these occurrences at one side, as a whole

@@ -2,6 +2,9 @@
 
 ghost use Rattle.station_model.specs.Laws.{ReceivesGive, TicksGive, HandsKeep, OthersKeep, ReleasedAreInert};
 ghost use Rattle.station_model.specs.Reports.{ReleasesAreTold, FinishKeepsRelease};
+ghost use Rattle.safety_automaton.specs.Rules.{StepsOnly};
+ghost use Rattle.end_pair.specs.Laws.{Prefix, LosingLineReasons, Delivery, DeliveryBound, DrainEmpties};
+ghost use Rattle.drill_model.specs.StackReports.{OpensOrderly, CallsReport};
 ghost use Rattle.drill_model.specs.Headline.{LawfulAlways, OpensAlways, RoomAlways, InOrderAlways, LosingLineReasonsAlways, DeliversAlways, PrintedAsMarked, LinesInOrder};
 
 // What each call of a station does to its lists and its release.
@@ -21,8 +24,27 @@ fn station_laws()
     station_model::laws::released_are_inert();
 }
 
-/// What came at each link is lawful, whatever the steps: at level safe, messages and peers are authentic; at level link nothing of a safety
-/// layer came. Nothing came at a number that wasn't opened.
+// What holds of two ends of the whole stack, and what each call of a stack reports.
+fn stack_laws()
+    ensures prefix { Prefix }
+    ensures reasons { LosingLineReasons }
+    ensures delivery { Delivery }
+    ensures deliveries_bound { DeliveryBound }
+    ensures drain_empties { DrainEmpties }
+    ensures only { StepsOnly }
+    ensures opens { OpensOrderly }
+    ensures calls { CallsReport }
+{
+    end_pair::laws::prefix();
+    end_pair::laws::losing_line_reasons();
+    end_pair::laws::delivery();
+    end_pair::laws::delivery_bound();
+    safety_automaton::laws::steps();
+    drill_model::laws::stacks_report();
+}
+
+/// What came at each link is lawful, whatever the steps: at levels safe and full, messages and peers are authentic; at level link nothing of a
+/// safety layer came. Nothing came at a number that wasn't opened.
 pub fn lawful()
     ensures { LawfulAlways }
 {
@@ -41,29 +63,33 @@ pub fn printed()
     drill_model::laws::histories();
 }
 
-/// On a link that keeps its order, whatever it loses and repeats, what an end accepted is a prefix of what the other sent, at each moment.
+/// On a link of level link or full that keeps its order, whatever it loses and repeats, what an end accepted is a prefix of what the other
+/// sent, at each moment.
 pub fn in_order()
     ensures { InOrderAlways }
 {
     station_pair::laws::prefix();
+    stack_laws();
     er_settings::laws::allowed_are_bounded();
     station_laws();
     drill_model::laws::histories();
 }
 
-/// On such a link an end is released by its own user, or since the set-up was never answered, without progress, or since the peer disconnected.
+/// On such a link an end is released by its own user, or since the set-up was never answered, without progress, or since the peer
+/// disconnected; at level full, where the keys agree, also since the time for the set-up was spent, and each by the own end or by the peer.
 pub fn losing_line_reasons()
     ensures { LosingLineReasonsAlways }
 {
     station_pair::laws::losing_line_reasons();
+    stack_laws();
     er_settings::laws::allowed_are_bounded();
     station_laws();
     drill_model::laws::histories();
 }
 
-/// Delivery: on a link that is loss-free so far nothing is forged, and no more frames were passed than its bound says; once it is empty,
-/// both ends are connected and each has accepted what the other sent, in order; and a drain of as many passes as the bound leaves nothing
-/// waiting.
+/// Delivery: on a link that is loss-free so far no more frames were passed than its bound says; once it is empty, both ends are connected and
+/// each has accepted what the other sent, in order; and a drain of as many passes as the bound leaves nothing waiting. At level safe nothing
+/// is forged there.
 pub fn delivery()
     ensures { DeliversAlways }
 {
@@ -71,6 +97,7 @@ pub fn delivery()
     safe_pair::laws::flows_deliver();
     station_pair::laws::delivery();
     station_pair::laws::few_wait();
+    stack_laws();
     er_settings::laws::allowed_are_bounded();
     station_laws();
     drill_model::laws::histories();

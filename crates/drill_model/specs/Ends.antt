@@ -1,5 +1,6 @@
 -- The ends of a link, one kind a level, and what an end does with an event (this profile). At level safe an end is a side of a safe
--- connection, and what it sends is an SaPDU; at level link it is a station, and what it sends is a frame from flag to flag.
+-- connection, and what it sends is an SaPDU; at level link it is a station, at level full a stack of four layers, and what they send is a
+-- frame from flag to flag.
 use Rattle.std.specs.Prelude.{ℕ, List, [], ◌∷◌, ◌++◌, Option, Some, None}
 use Rattle.des_block.specs.declared.triple_key.TripleKey.{TripleKey}
 use Rattle.safety_automaton.specs.Safety.{Safety, SafetyEvent, ConnectRequest, Received, DataRequest, DisconnectRequest, Refusal, SafetyOutcome, SentAu1, SentAu2, SentAu3, SentAr, ReceivedAr, AcceptedDt, SentDt, ReleasedLocally, ReleasedByPeer, NothingDone}
@@ -7,6 +8,8 @@ use Rattle.safety_automaton.specs.Safety as safety
 use Rattle.safe_pair.specs.Facts.{Sent, Sealed, Verified, Connected, Accepted, heard_in}
 use Rattle.station_model.specs.Stations.{Station}
 use Rattle.station_pair.specs.Links.{news}
+use Rattle.end_model.specs.Ends.{End as Stack}
+use Rattle.drill_model.specs.StackEnds.{stack_begins, stack_hears, stack_sends, stack_takes, stack_releases, stack_ticks}
 use Rattle.drill_model.specs.StationEnds.{begins, frames_heard, user_sends, user_releases, time_goes_on}
 use Rattle.drill_model.specs.Outcomes.{SendRefusal, RefusedReleased, RefusedNotConnected, RefusedLength, Outcome, OfSafety, Refused, Released, Frame}
 
@@ -30,6 +33,8 @@ pub data End : Type 0 where
   OfSafe : (side : Safety) → End
   -- level link: a station, and the stream of all octets that it was given
   OfStation : (station : Station) (stream : List ℕ) → End
+  -- level full: a stack, with the stream of all octets that it was given
+  OfStack : (stack : Stack) → End
 
 -- ---- level safe
 
@@ -84,9 +89,25 @@ station_end_step moment s stream Take = station_end stream (s, [])
 station_end_step moment s stream (Release sub) = station_end stream (user_releases sub s)
 station_end_step moment s stream Tick = station_end stream (time_goes_on moment s)
 
+-- ---- level full
+
+-- a stack went on so
+abbrev pub stack_end : Stack × List Outcome → End × List Outcome
+stack_end a = (OfStack a.0, a.1)
+
+-- a stack that looks KMACs up so, at every moment
+abbrev pub stack_end_step : (ℕ → ℕ → Option TripleKey) → (moment : ℕ) → Stack → EndEvent → End × List Outcome
+stack_end_step key_of moment m Start = stack_end (stack_begins moment m)
+stack_end_step key_of moment m (Receive octets) = stack_end (stack_hears (λ now. key_of) moment octets m)
+stack_end_step key_of moment m (Send user) = stack_end (stack_sends moment user m)
+stack_end_step key_of moment m Take = stack_end (stack_takes moment m)
+stack_end_step key_of moment m (Release sub) = stack_end (stack_releases moment sub m)
+stack_end_step key_of moment m Tick = stack_end (stack_ticks moment m)
+
 -- ---- any level
 
 -- an end that looks KMACs up so is given an event at a moment: the end after it, and its outcomes in their order
 abbrev pub end_step : (ℕ → ℕ → Option TripleKey) → (moment : ℕ) → End → EndEvent → End × List Outcome
 end_step key_of moment (OfSafe s) event = safe_end_step key_of s (safety_event event)
 end_step key_of moment (OfStation s stream) event = station_end_step moment s stream event
+end_step key_of moment (OfStack m) event = stack_end_step key_of moment m event

@@ -9,16 +9,22 @@ use Rattle.er_scenario.specs.declared.step.Step.{Step}
 use Rattle.er_scenario.specs.declared.step.Step.TheVariants as does
 use Rattle.des_block.specs.declared.triple_key.TripleKey.{TripleKey}
 use Rattle.safe_pair.specs.Facts.{marked}
+use Rattle.safe_pair.specs.Openings.{OfKeys}
 use Rattle.safe_pair.specs.Authentic.{Authentic}
 use Rattle.safe_pair.specs.Deliveries.{IsConnectedPhase}
 use Rattle.station_model.specs.declared.phase.Phase.TheVariants as phase
 use Rattle.station_model.specs.Stations.{Station}
 use Rattle.station_pair.specs.Links.{news}
 use Rattle.drill_model.specs.Outcomes.{Outcome, Occurrence, facts_in}
+use Rattle.end_model.specs.Layers.{model}
+use Rattle.end_model.specs.Steps.{begins_at}
+use Rattle.end_model.specs.Ends.{End as Stack}
+use Rattle.end_model.specs.Ends as stacks
 use Rattle.drill_model.specs.StationEnds.{heard_parts}
-use Rattle.drill_model.specs.Ends.{End, OfSafe, OfStation, EndEvent, station_end_step, end_step}
+use Rattle.drill_model.specs.StackEnds.{stack_parts}
+use Rattle.drill_model.specs.Ends.{End, OfSafe, OfStation, OfStack, EndEvent, station_end_step, stack_end_step, end_step}
 use Rattle.drill_model.specs.Ends as event
-use Rattle.drill_model.specs.Links.{LinkOpening, OfPair, OfStations, Link}
+use Rattle.drill_model.specs.Links.{LinkOpening, OfPair, OfStations, OfStacks, Link}
 use Rattle.drill_model.specs.Steps.{AllFit}
 use Rattle.drill_model.specs.Worlds.{Plan, Came, is_link, link_at, history_on, fixed_opening, link_opening, wire_opening, overfull_side, drain, world_run}
 use Rattle.drill_model.specs.Faults.{fault_behind}
@@ -28,10 +34,11 @@ use Rattle.drill_model.specs.Kinds.{sent_by, accepted_by, releases_in, deliverie
 
 -- ---- authentic messages and peers
 
--- what came at a link is lawful: at level safe, authentic; at level link there is no safety layer, so nothing came of it
+-- what came at a link is lawful: at levels safe and full, authentic; at level link there is no safety layer, so nothing came of it
 abbrev pub IsLawful : LinkOpening → List Occurrence → Type 0
 IsLawful (OfPair opening) history = Authentic opening (facts_in history)
 IsLawful OfStations history = facts_in history ≡ []
+IsLawful (OfStacks engine rbc ke kr ra rb) history = Authentic (OfKeys engine rbc ke kr ra rb) (facts_in history)
 
 -- and nothing came at a number that wasn't opened
 abbrev pub LawfulAt : Option Link → List Occurrence → Type 0
@@ -91,10 +98,17 @@ RoomAlways =
 
 -- ---- settings
 
--- two stations ask for settings in their ranges
+-- two stations and two stacks ask for settings in their ranges
 abbrev pub FitsSettings : Settings → LinkOpening → Type 0
 FitsSettings settings (OfPair opening) = Unit {0}
 FitsSettings settings OfStations = AllAllowed settings
+FitsSettings settings (OfStacks engine rbc ke kr ra rb) = AllAllowed settings
+
+-- at level full the users' texts are octets, and the numbers fit their fields
+abbrev pub FitsSteps : List Step → LinkOpening → Type 0
+FitsSteps steps (OfPair opening) = Unit {0}
+FitsSteps steps OfStations = Unit {0}
+FitsSteps steps (OfStacks engine rbc ke kr ra rb) = AllFit steps
 
 -- ---- a line that only loses and repeats
 
@@ -109,22 +123,29 @@ pub record IsInOrder (history : List Occurrence) : Type 0 where
 -- for every list of steps, of each link that is order-keeping so far, whether an end was released or not
 abbrev pub InOrderAlways : Type 0
 InOrderAlways =
-    (plan : Plan) (steps : List Step) (n : ℕ) (l : Link) → link_at (world_run plan steps).0 n ≡ Some l → FitsSettings plan.settings l.opening
+    (plan : Plan) (steps : List Step) (n : ℕ) (l : Link) → link_at (world_run plan steps).0 n ≡ Some l
+    → FitsSettings plan.settings l.opening → FitsSteps steps l.opening
     → IsOrderKeeping l.opening (history_on n (world_run plan steps).1)
     → IsInOrder (history_on n (world_run plan steps).1)
 
 -- why an end may be released there. At level link 0.x, its own user; 1.1, the set-up was never answered; 1.2, no progress; 1.4, the peer's
--- DISC, DM or FRMR; each is told as a local one
+-- DISC, DM or FRMR; each is told as a local one. At level full, where the radio block centre has the engine's KMAC, the same or 6.1, the time
+-- for the set-up was spent; each by the own end or by the peer
 abbrev pub IsLosingLineReason : LinkOpening → Release → Type 0
 IsLosingLineReason (OfPair opening) release = Unit {0}
 IsLosingLineReason OfStations release =
     (release.by_peer ≡ false)
     × ((release.reason ≡ 0) ⊎ ((release.reason ≡ 1) × ((release.sub ≡ 1) ⊎ (release.sub ≡ 2) ⊎ (release.sub ≡ 4))))
+IsLosingLineReason (OfStacks engine rbc ke kr ra rb) release =
+    kr ≡ Some ke
+    → (release.reason ≡ 0) ⊎ ((release.reason ≡ 1) × ((release.sub ≡ 1) ⊎ (release.sub ≡ 2) ⊎ (release.sub ≡ 4)))
+    ⊎ ((release.reason ≡ 6) × (release.sub ≡ 1))
 
 -- of each release that came
 abbrev pub LosingLineReasonsAlways : Type 0
 LosingLineReasonsAlways =
-    (plan : Plan) (steps : List Step) (n : ℕ) (l : Link) → link_at (world_run plan steps).0 n ≡ Some l → FitsSettings plan.settings l.opening
+    (plan : Plan) (steps : List Step) (n : ℕ) (l : Link) → link_at (world_run plan steps).0 n ≡ Some l
+    → FitsSettings plan.settings l.opening → FitsSteps steps l.opening
     → IsOrderKeeping l.opening (history_on n (world_run plan steps).1)
     → AllByRecursion (IsLosingLineReason l.opening) (releases_in (history_on n (world_run plan steps).1))
 
@@ -134,6 +155,7 @@ LosingLineReasonsAlways =
 abbrev pub IsConnectedEnd : End → Type 0
 IsConnectedEnd (OfSafe s) = IsConnectedPhase s.phase
 IsConnectedEnd (OfStation s stream) = s.phase ≡ phase.Up
+IsConnectedEnd (OfStack m) = IsConnectedPhase m.core.safe.safety.phase
 
 -- both ends are connected, and each accepted all that the other sent, in order
 pub record HasAll (history : List Occurrence) (l : Link) : Type 0 where
@@ -150,20 +172,35 @@ pub record HasAllPayloads (history : List Occurrence) (l : Link) : Type 0 where
   pub at_r : accepted_by R history ≡ sent_by E history
   pub at_e : 1 ≤ length (sent_by E history) → accepted_by E history ≡ sent_by R history
 
--- an empty link: at level safe and at level link no frame waits
+-- the user of an end took every message that was accepted; at levels safe and link a message counts as taken at once
+abbrev pub HasTakenAll : End → Type 0
+HasTakenAll (OfSafe s) = Unit {0}
+HasTakenAll (OfStation s stream) = Unit {0}
+HasTakenAll (OfStack m) = m.core.upper.used ≡ length m.core.upper.accepted
+
+-- an empty link: no frame waits, and at level full every accepted message was taken
 abbrev pub IsEmpty : LinkOpening → Link → Type 0
 IsEmpty (OfPair opening) l = (l.from_e ≡ []) × (l.from_r ≡ [])
 IsEmpty OfStations l = (l.from_e ≡ []) × (l.from_r ≡ [])
+IsEmpty (OfStacks engine rbc ke kr ra rb) l = (l.from_e ≡ []) × (l.from_r ≡ []) × HasTakenAll l.e × HasTakenAll l.r
 
 -- what is delivered on an empty link
 abbrev pub IsDelivered : LinkOpening → List Occurrence → Link → Type 0
 IsDelivered (OfPair opening) history l = HasAll history l
 IsDelivered OfStations history l = HasAllPayloads history l
+IsDelivered (OfStacks engine rbc ke kr ra rb) history l = HasAll history l
 
--- a loss-free link: nothing is forged; no more deliveries than the bound, ever; once it is empty, all is delivered; and where not too many
--- frames wait, a drain of at least as many passes as the bound leaves none waiting
+-- nothing is forged: at level safe; at level link there is no safety layer. Of level full it isn't claimed: what is accepted is what was
+-- sent, but that each text was sealed before it is verified isn't proved
+abbrev pub IsUnforged : LinkOpening → List Occurrence → Type 0
+IsUnforged (OfPair opening) history = list_any (λ f. f.forged) (marked (facts_in history)) ≡ false
+IsUnforged OfStations history = list_any (λ f. f.forged) (marked (facts_in history)) ≡ false
+IsUnforged (OfStacks engine rbc ke kr ra rb) history = Unit {0}
+
+-- a loss-free link: nothing is forged, at level safe; no more deliveries than the bound, ever; once it is empty, all is delivered; and where
+-- not too many frames wait, a drain of at least as many passes as the bound leaves none waiting
 pub record Delivers (settings : Settings) (history : List Occurrence) (l : Link) : Type 0 where
-  pub unforged : list_any (λ f. f.forged) (marked (facts_in history)) ≡ false
+  pub unforged : IsUnforged l.opening history
   pub bounded : deliveries history ≤ bound settings l.opening history
   pub done : IsEmpty l.opening l → IsDelivered l.opening history l
   pub drains : overfull_side l ≡ None → (most : ℕ) → bound settings l.opening history ≤ most
@@ -206,9 +243,19 @@ station_parts moment s stream event.Take = (station_end_step moment s stream eve
 station_parts moment s stream (event.Release sub) = (station_end_step moment s stream (event.Release sub)).1 ∷ []
 station_parts moment s stream event.Tick = (station_end_step moment s stream event.Tick).1 ∷ []
 
+abbrev pub parts_of_stack : (ℕ → ℕ → Option TripleKey) → (moment : ℕ) → Stack → EndEvent → List (List Outcome)
+parts_of_stack key_of moment m event.Start = (stack_end_step key_of moment m event.Start).1 ∷ []
+parts_of_stack key_of moment m (event.Receive octets) =
+    stack_parts (λ now. key_of) moment (stacks.news m.stream octets) (begins_at model moment m.core)
+parts_of_stack key_of moment m (event.Send user) = (stack_end_step key_of moment m (event.Send user)).1 ∷ []
+parts_of_stack key_of moment m event.Take = (stack_end_step key_of moment m event.Take).1 ∷ []
+parts_of_stack key_of moment m (event.Release sub) = (stack_end_step key_of moment m (event.Release sub)).1 ∷ []
+parts_of_stack key_of moment m event.Tick = (stack_end_step key_of moment m event.Tick).1 ∷ []
+
 abbrev pub parts_of : (ℕ → ℕ → Option TripleKey) → (moment : ℕ) → End → EndEvent → List (List Outcome)
 parts_of key_of moment (OfSafe s) event = (end_step key_of moment (OfSafe s) event).1 ∷ []
 parts_of key_of moment (OfStation s stream) event = station_parts moment s stream event
+parts_of key_of moment (OfStack m) event = parts_of_stack key_of moment m event
 
 -- the parts are all that came of the event, and the lines of each come in the order of the table of lines
 abbrev pub LinesInOrder : Type 0

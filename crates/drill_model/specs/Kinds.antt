@@ -1,7 +1,7 @@
 -- What a link is and had so far, told by the one list of what came at it: its kind, the messages that were sent and accepted, counts and
 -- bounds (this profile).
-use Rattle.std.specs.Prelude.{ℕ, ◌+◌, ◌*◌, ◌≡◌, Bool, true, false, if◌then◌else◌, List, [], ◌∷◌, length}
-use Rattle.std.specs.List.{flat_map, list_any}
+use Rattle.std.specs.Prelude.{ℕ, ◌+◌, ◌-◌, ◌*◌, ◌/◌, ◌≡◌, Bool, true, false, if◌then◌else◌, List, [], ◌∷◌, length, Some}
+use Rattle.std.specs.List.{flat_map, list_any, sum_by}
 use Rattle.er_base.specs.declared.side.Side.{Side}
 use Rattle.er_base.specs.declared.side.Side.TheVariants.{E, R}
 use Rattle.er_base.specs.declared.release.Release.{Release}
@@ -10,7 +10,7 @@ use Rattle.safe_pair.specs.Facts.{is_side}
 use Rattle.safe_pair.specs.Openings.{Agrees}
 use Rattle.safe_pair.specs.Deliveries as pair
 use Rattle.drill_model.specs.Outcomes.{Outcome, OfSafety, Handed, Arrived, Up, Took, NothingToTake, Refused, Released, Frame, Expired, UserReleased, Passed, Lost, Repeated, Altered, Inserted, NothingWaits, IsShort, Occurrence}
-use Rattle.drill_model.specs.Links.{LinkOpening, OfPair, OfStations}
+use Rattle.drill_model.specs.Links.{LinkOpening, OfPair, OfStations, OfStacks}
 
 -- ---- messages
 
@@ -170,16 +170,18 @@ is_disordered history = list_any (λ o. is_disorder o.outcome) history
 abbrev pub IsNumbered : LinkOpening → Type 0
 IsNumbered (OfPair opening) = ⊥
 IsNumbered OfStations = Unit {0}
+IsNumbered (OfStacks engine rbc ke kr ra rb) = Unit {0}
 
 -- order-keeping so far: frames may be lost and repeated
 pub record IsOrderKeeping (opening : LinkOpening) (history : List Occurrence) : Type 0 where
   pub numbered : IsNumbered opening
   pub ordered : is_disordered history ≡ false
 
--- the ends of a link agree; two stations always do
+-- the ends of a link agree; two stations always do, and two stacks where the radio block centre has the engine's KMAC
 abbrev pub EndsAgree : LinkOpening → Type 0
 EndsAgree (OfPair opening) = Agrees opening
 EndsAgree OfStations = Unit {0}
+EndsAgree (OfStacks engine rbc ke kr ra rb) = kr ≡ Some ke
 
 -- loss-free so far
 pub record IsLossFree (opening : LinkOpening) (history : List Occurrence) : Type 0 where
@@ -188,8 +190,19 @@ pub record IsLossFree (opening : LinkOpening) (history : List Occurrence) : Type
 
 -- ---- bounds
 
+-- the segments of a message of so many octets at level full: its SaPDU has nine octets more, and a segment has the octets of a TPDU but
+-- for five; rounded up
+abbrev pub segments : Settings → (length : ℕ) → ℕ
+segments settings n = (n + 9 + (settings.size - 6)) / (settings.size - 5)
+
+abbrev pub segments_of : Settings → List (List ℕ) → ℕ
+segments_of settings messages = sum_by (λ message. segments settings (length message)) messages
+
 -- Bound: at level safe one delivery for each message that was sent, and four for a set-up; at level link two for each payload, its I frame and
--- the answer, and two for the set-up frame and its answer
+-- the answer, and two for the set-up frame and its answer; at level full four for each segment of a message, a DT and an AK with the answer of
+-- each, and fourteen for the set-up of the four layers
 abbrev pub bound : Settings → LinkOpening → List Occurrence → ℕ
 bound settings (OfPair opening) history = pair.set_up_sapdus opening + (length (sent_by E history) + length (sent_by R history))
 bound settings OfStations history = 2 + 2 * (length (sent_by E history) + length (sent_by R history))
+bound settings (OfStacks engine rbc ke kr ra rb) history =
+    14 + 4 * (segments_of settings (sent_by E history) + segments_of settings (sent_by R history))

@@ -1,5 +1,7 @@
 pub mod Outcomes
 pub mod StationEnds
+pub mod StackEnds
+pub mod StackReports
 pub mod Ends
 pub mod Waiting
 pub mod Links
@@ -8,8 +10,10 @@ pub mod Worlds
 pub mod Faults
 pub mod Marks
 pub mod Kinds
+pub mod Totals
 pub mod Texts
 pub mod Headline
 pub mod KnownAnswers
 pub mod KnownPayloads
+pub mod KnownStacks
 pub mod Growth

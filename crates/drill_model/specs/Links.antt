@@ -8,7 +8,9 @@ use Rattle.er_settings.specs.declared.settings.Settings.{Settings}
 use Rattle.safe_pair.specs.Openings.{PairOpening, OfFixed, OfKeys, key_for, begun}
 use Rattle.drill_model.specs.Outcomes.{Outcome, UserReleased, Passed, NothingWaits, Occurrence, at_end, frames_in}
 use Rattle.station_model.specs.Stations.{made}
-use Rattle.drill_model.specs.Ends.{End, OfSafe, OfStation, EndEvent, Start, end_step}
+use Rattle.end_model.specs.Ends.{Call, Answer}
+use Rattle.end_model.specs.Ends as stacks
+use Rattle.drill_model.specs.Ends.{End, OfSafe, OfStation, OfStack, EndEvent, Start, end_step}
 use Rattle.drill_model.specs.Ends
 use Rattle.drill_model.specs.Waiting.{LineChange, changes}
 
@@ -18,6 +20,9 @@ pub data LinkOpening : Type 0 where
   OfPair : (opening : PairOpening) → LinkOpening
   -- level link: two stations
   OfStations : LinkOpening
+  -- level full: two stacks of an engine that calls a radio block centre: the KMAC of each, if the radio block centre has one, and the random
+  -- number of each, the radio block centre's first
+  OfStacks : (engine rbc : ℕ) (ke : TripleKey) (kr : Option TripleKey) (ra rb : ℕ) → LinkOpening
 
 pub record Link : Type 0 where
   -- how it was opened, and at which moment
@@ -52,6 +57,7 @@ with_waiting l R frames = record l { from_r = frames }
 abbrev pub key_on : LinkOpening → (engine rbc : ℕ) → Option TripleKey
 key_on (OfPair opening) = key_for opening
 key_on OfStations = λ engine rbc. None
+key_on (OfStacks engine rbc ke kr ra rb) = key_for (OfKeys engine rbc ke kr ra rb)
 
 -- ---- an event at an end
 
@@ -94,10 +100,20 @@ opened_stations settings moment =
     (OfStation (made false (settings.modulo == 128) settings.window settings.n2 settings.t1) [])
     ) E Start
 
+-- two stacks with these settings, of which the engine's starts at once; the time for the set-up runs from this moment
+abbrev pub opened_stacks : Settings → (moment : ℕ) → (engine rbc : ℕ) (ke : TripleKey) (kr : Option TripleKey) (ra rb : ℕ) → Link × List Occurrence
+opened_stacks settings moment engine rbc ke kr ra rb =
+    give (
+    joined (OfStacks engine rbc ke kr ra rb) moment
+    (OfStack (stacks.opened (Call settings engine rbc ke rb moment)))
+    (OfStack (stacks.opened (Answer settings rbc ra moment)))
+    ) E Start
+
 -- a link that was just opened with these settings, at this moment
 abbrev pub opened : Settings → (moment : ℕ) → LinkOpening → Link × List Occurrence
 opened settings moment (OfPair opening) = opened_pair opening moment
 opened settings moment OfStations = opened_stations settings moment
+opened settings moment (OfStacks engine rbc ke kr ra rb) = opened_stacks settings moment engine rbc ke kr ra rb
 
 -- ---- steps
 

@@ -15,7 +15,7 @@ use Rattle.safe_pair.specs.Facts.{SideFact}
 use Rattle.safe_pair.specs.Openings.{OfFixed, OfKeys}
 use Rattle.drill_model.specs.Outcomes.{NothingWaits, Occurrence, at_end, facts_in}
 use Rattle.drill_model.specs.Waiting.{Lose, Repeat, Alter, Put}
-use Rattle.drill_model.specs.Links.{Link, LinkOpening, OfPair, OfStations, opened, waiting_of, LinkStep, Send, Pass, Change, Take, Release, Tick, link_step}
+use Rattle.drill_model.specs.Links.{Link, LinkOpening, OfPair, OfStations, OfStacks, opened, waiting_of, LinkStep, Send, Pass, Change, Take, Release, Tick, link_step}
 
 -- what a drill is run with: its level, the settings of its links, and whether frames are printed
 pub record Plan : Type 0 where
@@ -70,7 +70,7 @@ went_on w n a = (with_link w n a.0, map (On n) a.1)
 
 -- ---- openings
 
--- what a line `fixed`, `link` or `wire` open_link at a level, as far as the level has that line and is built
+-- what a line `fixed`, `link` or `wire` opens at a level, where the level has that line
 abbrev pub fixed_opening : Level → (engine rbc : ℕ) (ke kr : TripleKey) → Option LinkOpening
 fixed_opening level.Safe engine rbc ke kr = Some (OfPair (OfFixed engine rbc ke kr))
 fixed_opening level.Link engine rbc ke kr = None
@@ -79,7 +79,7 @@ fixed_opening level.Full engine rbc ke kr = None
 abbrev pub link_opening : Level → (engine rbc : ℕ) (ke : TripleKey) (kr : Option TripleKey) (ra rb : ℕ) → Option LinkOpening
 link_opening level.Safe engine rbc ke kr ra rb = Some (OfPair (OfKeys engine rbc ke kr ra rb))
 link_opening level.Link engine rbc ke kr ra rb = None
-link_opening level.Full engine rbc ke kr ra rb = None
+link_opening level.Full engine rbc ke kr ra rb = Some (OfStacks engine rbc ke kr ra rb)
 
 abbrev pub wire_opening : Level → Option LinkOpening
 wire_opening level.Safe = None

@@ -1,5 +1,6 @@
 //! How a run, its marks and its text grow by steps.
 
+ghost use Rattle.drill_model.specs.StackReports.{OpensOrderly, CallsReport};
 ghost use Rattle.drill_model.specs.Growth.{RunGrows, TextGrows, HistoryGrows, FactsGrow, HistoryOfOwn, HistoryOfOther, WorldMarksGrow, LinkMarksGrow, LinkText};
 
 /// A step behind others goes on from their world, and its lines stand behind theirs.
@@ -23,4 +24,14 @@ pub fn marks_grow()
     ensures text { LinkText }
 {
     safe_pair::laws::marks_grow();
+}
+
+/// A stack is orderly as it is opened and behind each call: its safety side is connected only behind its transport. And what it keeps of
+/// a call is what the step of its safety side tells.
+pub fn stacks_report()
+    ensures opens { OpensOrderly }
+    ensures calls { CallsReport }
+{
+    safety_automaton::laws::steps();
+    safety_automaton::laws::session_keys();
 }

@@ -16,10 +16,10 @@ use Rattle.er_scenario.specs.StepRanges.{IsInRange, IsText}
 use Rattle.er_scenario.specs.Texts.{AreReadable}
 use Rattle.er_settings.specs.declared.settings.Settings.{Settings}
 use Rattle.er_settings.specs.Ranges.{AllAllowed}
-use Rattle.drill_model.specs.Links.{LinkOpening, OfPair, OfStations, Link}
-use Rattle.drill_model.specs.Steps.{HasOctets, FitsFields}
+use Rattle.drill_model.specs.Links.{LinkOpening, OfPair, OfStations, OfStacks, Link}
+use Rattle.drill_model.specs.Steps.{HasOctets, FitsFields, AllFit}
 use Rattle.drill_model.specs.Worlds.{plan_of, link_at, overfull_side, world_run}
-use Rattle.drill_model.specs.Headline.{LawfulAlways, OpensAlways, RoomAlways, FitsSettings, InOrderAlways, LosingLineReasonsAlways, DeliversAlways}
+use Rattle.drill_model.specs.Headline.{LawfulAlways, OpensAlways, RoomAlways, FitsSettings, FitsSteps, InOrderAlways, LosingLineReasonsAlways, DeliversAlways}
 use Rattle.er_program.specs.Answers.{AreDone, first_steps}
 use Rattle.er_program.proofs.DrillSteps.{etcs_numbers, first_more, all_steps}
 use Rattle.er_program.proofs.RunMeanings.{AlwaysHolds}
@@ -78,14 +78,24 @@ room law s (suc k) done n l at =
 fits : (settings : Settings) (opening : LinkOpening) → AllAllowed settings → FitsSettings settings opening
 fits settings (OfPair opening) allowed = tt
 fits settings OfStations allowed = allowed
+fits settings (OfStacks engine rbc ke kr ra rb) allowed = allowed
+
+-- and so are its steps
+steps_fit : (steps : List Step) (opening : LinkOpening) → AllFit steps → FitsSteps steps opening
+steps_fit steps (OfPair opening) all = tt
+steps_fit steps OfStations all = tt
+steps_fit steps (OfStacks engine rbc ke kr ra rb) all = all
 
 pub holds_always : LawfulAlways → OpensAlways → InOrderAlways → LosingLineReasonsAlways → DeliversAlways → RoomAlways → AlwaysHolds
-holds_always lawful opens in_order reasons delivers law s readable count done k le = record {
-  opens = opens (plan_of s) (first_steps s k);
-  lawful = lawful (plan_of s) (first_steps s k);
-  in_order = λ n l at. in_order (plan_of s) (first_steps s k) n l at (fits s.settings l.opening readable.settings);
-  reasons = λ n l at. reasons (plan_of s) (first_steps s k) n l at (fits s.settings l.opening readable.settings);
-  delivers = λ n l at.
-      delivers (plan_of s) (first_steps s k) (first_fit Running s.level s.steps k readable.steps) n l at (fits s.settings l.opening readable.settings);
-  room = room law s k (λ j x lt is. done j x (omega (arith, lt, le)) is);
-}
+holds_always lawful opens in_order reasons delivers law s readable count done k le =
+    let all : AllFit (first_steps s k) = first_fit Running s.level s.steps k readable.steps in
+    record {
+      opens = opens (plan_of s) (first_steps s k);
+      lawful = lawful (plan_of s) (first_steps s k);
+      in_order = λ n l at.
+          in_order (plan_of s) (first_steps s k) n l at (fits s.settings l.opening readable.settings) (steps_fit (first_steps s k) l.opening all);
+      reasons = λ n l at.
+          reasons (plan_of s) (first_steps s k) n l at (fits s.settings l.opening readable.settings) (steps_fit (first_steps s k) l.opening all);
+      delivers = λ n l at. delivers (plan_of s) (first_steps s k) all n l at (fits s.settings l.opening readable.settings);
+      room = room law s k (λ j x lt is. done j x (omega (arith, lt, le)) is);
+    }

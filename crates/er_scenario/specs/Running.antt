@@ -11,10 +11,10 @@ use Rattle.er_scenario.specs.declared.step_name.StepName.TheVariants.{Fixed, Lin
 -- the levels that are read
 abbrev pub levels_in : Grammar → List Level
 levels_in Whole = level.Safe ∷ level.Link ∷ level.Full ∷ []
-levels_in Running = level.Safe ∷ level.Link ∷ []
+levels_in Running = level.Safe ∷ level.Link ∷ level.Full ∷ []
 
 -- the lines that are read as steps
 abbrev pub steps_in : Grammar → List StepName
 steps_in Whole =
     Fixed ∷ Link ∷ Wire ∷ Send ∷ Pass ∷ Lose ∷ Repeat ∷ Alter ∷ Put ∷ Copy ∷ Take ∷ Release ∷ Tick ∷ Drain ∷ []
-steps_in Running = Fixed ∷ Link ∷ Wire ∷ Send ∷ Pass ∷ Lose ∷ Repeat ∷ Alter ∷ Put ∷ Copy ∷ Release ∷ Tick ∷ Drain ∷ []
+steps_in Running = Fixed ∷ Link ∷ Wire ∷ Send ∷ Pass ∷ Lose ∷ Repeat ∷ Alter ∷ Put ∷ Copy ∷ Take ∷ Release ∷ Tick ∷ Drain ∷ []

@@ -30,7 +30,7 @@ const ALL_STEPS: [StepName; 14] = [
     StepName::Drain,
 ];
 
-const RUNNING_STEPS: [StepName; 13] = [
+const RUNNING_STEPS: [StepName; 14] = [
     StepName::Fixed,
     StepName::Link,
     StepName::Wire,
@@ -41,6 +41,7 @@ const RUNNING_STEPS: [StepName; 13] = [
     StepName::Alter,
     StepName::Put,
     StepName::Copy,
+    StepName::Take,
     StepName::Release,
     StepName::Tick,
     StepName::Drain,
@@ -53,7 +54,7 @@ impl Grammar {
     {
         match self {
             Grammar::Whole => &[Level::Safe, Level::Link, Level::Full],
-            Grammar::Running => &[Level::Safe, Level::Link],
+            Grammar::Running => &[Level::Safe, Level::Link, Level::Full],
         }
     }
 

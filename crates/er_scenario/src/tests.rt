@@ -200,7 +200,7 @@ const FAULTS: &str = "\
 1 Header|drill 1
 1 Header|drill 1 safe safe
 1 Header|drill 01 safe
-1 Header|drill 1 full
+1 Header|drill 1 Full
 1 Header|drill 1 link-sr
 1 Header|drill 1 Link
 1 Header|Drill 1 safe
@@ -209,8 +209,8 @@ const FAULTS: &str = "\
 2 Word|drill 1 safe;drill 1 safe
 2 Word|drill 1 safe; # x
 2 Word|drill 1 safe;foo
-2 Word|drill 1 safe;take 1 e
-2 Word|drill 1 link;take 1 e
+2 Level|drill 1 safe;take 1 e
+2 Level|drill 1 link;take 1 e
 2 Word|drill 1 safe;Pass 1 e
 2 Word|drill 1 safe;pass\r 1 e
 2 Value|drill 1 safe;send 0 e 41;foo

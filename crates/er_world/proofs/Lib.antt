@@ -12,3 +12,8 @@ pub mod WorldEnds
 pub mod StationFrames
 pub mod StationCalls
 pub mod StationRows
+pub mod StackMoments
+pub mod StackTells
+pub mod StackRows
+pub mod StackOctets
+pub mod StackCalls

@@ -9,7 +9,7 @@ use Rattle.des_block.specs.declared.triple_key.TripleKey.{TripleKey}
 use Rattle.safety_automaton.specs.Keys.{key_at}
 use Rattle.safe_pair.specs.Facts.{MarkedFact, SideFact, marked, marked_from}
 use Rattle.safe_pair.specs.Marks.{MarksGrow}
-use Rattle.drill_model.specs.Outcomes.{Outcome, OfSafety, Refused, Released, Frame, UserReleased, Passed, NothingWaits, Occurrence, at_end, facts_in, frames_in, Handed, Arrived, Up, Expired}
+use Rattle.drill_model.specs.Outcomes.{Outcome, OfSafety, Refused, Released, Frame, UserReleased, Passed, NothingWaits, Occurrence, at_end, facts_in, frames_in, Handed, Arrived, Up, Took, NothingToTake, Expired}
 use Rattle.drill_model.specs.Ends.{End, EndEvent, end_step}
 use Rattle.drill_model.specs.Ends as model
 use Rattle.drill_model.specs.Waiting.{changes}
@@ -48,6 +48,8 @@ none_passed (Released release) t is = refl
 none_passed (Frame octets) t is = refl
 none_passed (Arrived payload) t is = refl
 none_passed Up t is = refl
+none_passed (Took message) t is = refl
+none_passed NothingToTake t is = refl
 none_passed o t is = absurd is
 
 no_deliveries : (side : Side) (outcomes : List Outcome) (list : List Told) → AreTold outcomes list

@@ -1,5 +1,5 @@
 -- A link of the code that was just opened stands where that of the model does.
-use Rattle.std.proofs.Common.{◌≡◌, ℕ, ◌-◌, ◌<◌, ◌^◌, ◌==◌, ◌&&◌, nat_le, if◌then◌else◌, Bool, true, false, List, [], refl, sym, ap, ◌∙◌, subst, append-nil, Option, Some, None, arith}
+use Rattle.std.proofs.Common.{◌≡◌, ℕ, ◌-◌, ◌<◌, ◌≤◌, ◌^◌, ◌==◌, ◌&&◌, nat_le, if◌then◌else◌, Bool, true, false, List, [], refl, sym, ap, ◌∙◌, subst, append-nil, Option, Some, None, arith}
 use mathlib.Core.Path.{fun_ext}
 use Rattle.std.proofs.lemmas.Bool.{le-leb}
 use Rattle.er_base.specs.declared.side.Side.TheVariants.{E}
@@ -8,15 +8,20 @@ use Rattle.er_settings.specs.declared.settings.Settings.{Settings}
 use Rattle.safety_automaton.specs.Keys.{Entry, key_at}
 use Rattle.safe_pair.specs.Openings.{PairOpening, OfFixed, OfKeys, key_for, begun}
 use Rattle.station_model.specs.Stations.{made}
-use Rattle.drill_model.specs.Ends.{End, OfSafe, OfStation}
+use Rattle.drill_model.specs.Ends.{End, OfSafe, OfStation, OfStack}
 use Rattle.drill_model.specs.Ends as model
-use Rattle.drill_model.specs.Links.{LinkOpening, OfPair, OfStations, key_on, joined, joined_pair, opened, give}
+use Rattle.drill_model.specs.Links.{LinkOpening, OfPair, OfStations, OfStacks, key_on, joined, joined_pair, opened, give}
 use Rattle.er_world.specs.declared.place.Place.{Place}
 use Rattle.er_world.specs.declared.drill_end.DrillEnd.{DrillEnd}
 use Rattle.er_world.specs.declared.link.Link.{Link as KeptLink}
-use Rattle.er_world.specs.Keys.{entries_of}
+use Rattle.er_world.specs.Keys.{entries_of, IsSteady}
 use Rattle.er_world.specs.KeptEnds.{StandsEnd}
-use Rattle.er_world.specs.KeptStations.{StandsStation}
+use Rattle.end_model.specs.Ends.{Call, Answer}
+use Rattle.end_model.specs.Ends as stacks
+use Rattle.drill_model.specs.StackReports.{OpensOrderly}
+use Rattle.er_end.specs.KeptEnds.{KEnd, kept_opened}
+use Rattle.er_end.specs.Standing.{EndStands, IsAllowed, MadeStands}
+use Rattle.er_world.specs.KeptStacks.{StandsStack}
 use Rattle.er_world.specs.KeptLinks.{new_link, StandsLink, LinkWent, LinkDoes}
 
 no_key : (b : Bool) (x : Option TripleKey) → x ≡ (if b then x else x)
@@ -63,9 +68,15 @@ stands_new opening e r keys moment of_e of_r found =
 no_keys_found : (engine rbc : ℕ) (ke kr : TripleKey) (now : ℕ) → now < 2 ^ 64 → key_at (entries_of engine rbc None) now ≡ key_for (OfFixed engine rbc ke kr)
 no_keys_found engine rbc ke kr now bound = fun_ext (λ e. fun_ext (λ r. refl))
 
-key_found : (engine rbc : ℕ) (ke : TripleKey) (kr : Option TripleKey) (ra rb now : ℕ) → now < 2 ^ 64
+pub key_found : (engine rbc : ℕ) (ke : TripleKey) (kr : Option TripleKey) (ra rb now : ℕ) → now < 2 ^ 64
     → key_at (entries_of engine rbc kr) now ≡ key_for (OfKeys engine rbc ke kr ra rb)
 key_found engine rbc ke kr ra rb now bound = fun_ext (λ e. fun_ext (λ r. one_key engine rbc kr ke ra rb now e r bound))
+
+-- which is found alike at any two moments
+pub steady : (engine rbc : ℕ) (kr : Option TripleKey) → IsSteady (entries_of engine rbc kr)
+steady engine rbc kr a b low most =
+    let none : TripleKey = record { first = 0; second = 0; third = 0 } in
+    key_found engine rbc none kr 0 0 a (omega (arith, low)) ∙ sym (key_found engine rbc none kr 0 0 b (omega (arith, most)))
 
 -- two connected ends
 pub opens_fixed : (engine rbc : ℕ) (ke kr : TripleKey) (e r : DrillEnd) (keys : List Entry) (own : ℕ) (link : KeptLink) (settings : Settings) (show : Bool) (n : ℕ) (before : List ℕ)
@@ -119,3 +130,36 @@ opens_wired e r keys own link new settings place show n before now is of_e of_r 
     (stands_joined OfStations e r (made_end true settings) (made_end false settings) (entries_of 0 0 None) moment of_e of_r found) in
     let Q : Place → Type 0 = λ p. LinkDoes (λ l. give l p.side model.Start) p.show p.number link new before now in
     (subst Q there does) (joined OfStations moment (made_end true settings) (made_end false settings)) [] stands
+
+-- a stack that was just made
+pub stack_stands : MadeStands → OpensOrderly → (opening : stacks.Opening) → IsAllowed opening → (stacks.opened opening).core.moment ≤ 1000000000000000
+    → (k : KEnd) → k ≡ kept_opened opening → StandsStack k (stacks.opened opening)
+stack_stands made orderly opening allowed low k is =
+    record {
+      at = stacks.opened opening;
+      stands = subst (λ (x : KEnd). EndStands x (stacks.opened opening)) (sym is) (made opening allowed);
+      stream = refl;
+      same = refl;
+      orderly = orderly opening;
+      moment = low;
+    }
+
+-- two stacks, of which the engine's starts
+pub opens_stacked : (engine rbc : ℕ) (ke : TripleKey) (kr : Option TripleKey) (ra rb : ℕ) (e r : DrillEnd) (keys : List Entry) (own : ℕ) (link new : KeptLink)
+    (settings : Settings) (place : Place) (show : Bool) (n : ℕ) (before now : List ℕ)
+    → link ≡ new_link e r keys own
+    → StandsEnd e (OfStack (stacks.opened (Call settings engine rbc ke rb own))) → StandsEnd r (OfStack (stacks.opened (Answer settings rbc ra own)))
+    → keys ≡ entries_of engine rbc kr
+    → place ≡ record { number = n; side = E; show = show }
+    → LinkDoes (λ l. give l place.side model.Start) place.show place.number link new before now
+    → (moment : ℕ) → own ≡ moment → LinkWent (opened settings moment (OfStacks engine rbc ke kr ra rb)) show n [] new before now
+opens_stacked engine rbc ke kr ra rb e r keys own link new settings place show n before now is of_e of_r keys_are there does moment at =
+    let opening : LinkOpening = OfStacks engine rbc ke kr ra rb in
+    let of_model_e : End = OfStack (stacks.opened (Call settings engine rbc ke rb own)) in
+    let of_model_r : End = OfStack (stacks.opened (Answer settings rbc ra own)) in
+    let made_so : link ≡ new_link e r (entries_of engine rbc kr) own = is ∙ ap (λ (k : List Entry). new_link e r k own) keys_are in
+    let stands : StandsLink link (joined opening own of_model_e of_model_r) [] =
+    subst (λ (k : KeptLink). StandsLink k (joined opening own of_model_e of_model_r) []) (sym made_so)
+    (stands_joined opening e r of_model_e of_model_r (entries_of engine rbc kr) own of_e of_r (key_found engine rbc ke kr ra rb)) in
+    let Q : Place → Type 0 = λ p. LinkDoes (λ l. give l p.side model.Start) p.show p.number link new before now in
+    subst (λ (m : ℕ). LinkWent (opened settings m opening) show n [] new before now) at ((subst Q there does) (joined opening own of_model_e of_model_r) [] stands)

@@ -1,7 +1,6 @@
 -- What the calls of a station tell, as the outcomes of the model.
-use Rattle.std.proofs.Common.{◌≡◌, ℕ, ◌<◌, ◌≤◌, ◌&&◌, Bool, true, false, List, [], ◌∷◌, ◌++◌, length, map, Option, Some, None, refl, sym, ap, ◌∙◌, subst, append-nil, append_assoc, if◌then◌else◌}
+use Rattle.std.proofs.Common.{◌≡◌, ℕ, ◌<◌, ◌≤◌, Bool, true, false, List, [], ◌∷◌, ◌++◌, length, map, Option, Some, None, refl, sym, ap, ◌∙◌, subst, append-nil, append_assoc, if◌then◌else◌}
 use Rattle.std.specs.Prelude.{nat_le, nat_lt}
-use Rattle.std.specs.List.{flat_map}
 use Rattle.std.proofs.lemmas.Bool.{le-leb, lt-ltb}
 use Rattle.std.proofs.lemmas.Grind.{flat_map-append}
 use Rattle.er_base.specs.Stored.{Stored}
@@ -9,18 +8,18 @@ use Rattle.er_base.specs.declared.release.Release.{Release}
 use Rattle.er_base.specs.declared.cause.Cause.TheVariants.{User}
 use Rattle.er_base.specs.Causes.{release_of}
 use Rattle.station_model.specs.Frames.{Frame, sent_octets}
-use Rattle.station_model.specs.Stations.{Station, Deed, no_deed, settled}
+use Rattle.station_model.specs.Stations.{Station, Deed, no_deed}
 use Rattle.station_model.specs.Sending.{waiting}
 use Rattle.station_model.specs.Calls.{closes, hands, finishes}
 use Rattle.station_pair.specs.Links.{said_octets}
 use Rattle.station_pair.specs.Steps.{quits}
-use Rattle.hdlc_balanced.specs.Kept.{Kept, kept_of, texts, Stands}
-use Rattle.drill_model.specs.Outcomes.{Outcome, Handed, Arrived, Up, Refused, RefusedLength, RefusedFull, Released, Frame as FrameOut}
+use Rattle.hdlc_balanced.specs.Kept.{Kept, texts, Stands}
+use Rattle.drill_model.specs.Outcomes.{Outcome, RefusedFull, Frame as FrameOut}
 use Rattle.drill_model.specs.StationEnds.{if_up, if_arrived, if_released, told_by, called, refusal_of, handed_unless}
 use Rattle.er_world.specs.declared.told.Told.{Told}
 use Rattle.er_world.specs.declared.told.Told.TheVariants as told
 use Rattle.er_world.specs.declared.refusal.Refusal.TheVariants as refusal
-use Rattle.er_world.specs.Tellings.{IsTold, EachTold, AreTold, heard_of, heard_in}
+use Rattle.er_world.specs.Tellings.{EachTold, AreTold, heard_of, heard_in}
 use Rattle.er_world.specs.KeptStations.{StandsQuiet}
 use Rattle.er_world.specs.StationEnds.{told_up, told_arrived, told_released, told_deed, told_frames, TellsFrames, CallDid}
 
@@ -46,11 +45,11 @@ arrived_told : (payload : Option (List ℕ)) → AreTold (if_arrived payload) (t
 arrived_told None = tt
 arrived_told (Some payload) = (refl, tt)
 
-released_told : (release : Option Release) → AreTold (if_released release) (told_released release)
+pub released_told : (release : Option Release) → AreTold (if_released release) (told_released release)
 released_told None = tt
 released_told (Some release) = (refl, tt)
 
-frames_told : (calling extended : Bool) (frames : List Frame) → AreTold (map FrameOut (map (sent_octets calling extended) frames)) (told_frames calling extended frames)
+pub frames_told : (calling extended : Bool) (frames : List Frame) → AreTold (map FrameOut (map (sent_octets calling extended) frames)) (told_frames calling extended frames)
 frames_told calling extended [] = tt
 frames_told calling extended (f ∷ frames) = (refl, frames_told calling extended frames)
 

@@ -1,10 +1,7 @@
 -- What an end of level link does at an event: its calls, the stream that it was given, and its release.
-use Rattle.std.proofs.Common.{◌≡◌, ℕ, ◌+◌, ◌≤◌, Bool, true, false, ◌||◌, List, [], ◌∷◌, ◌++◌, length, drop, take, Option, Some, None, refl, sym, ap, ◌∙◌, subst, append-nil, append_assoc}
-use Rattle.std.specs.Option.{option_to_list, option_map}
+use Rattle.std.proofs.Common.{◌≡◌, ℕ, Bool, true, false, ◌||◌, List, [], ◌∷◌, ◌++◌, length, drop, take, Option, Some, None, refl, sym, ap, ◌∙◌, subst, append-nil, append_assoc}
 use Rattle.std.proofs.lemmas.List.{drop_at, take-append-drop}
 use Rattle.er_base.specs.declared.release.Release.{Release}
-use Rattle.er_base.specs.declared.cause.Cause.TheVariants.{User}
-use Rattle.er_base.specs.Causes.{release_of}
 use Rattle.hdlc_frames.specs.Framing.{Verdict, frames_of}
 use Rattle.hdlc_frames.specs.Deframing as frames
 use Rattle.hdlc_frames.specs.Laws.{KeptStandsForStream, GoesOn}
@@ -14,15 +11,11 @@ use Rattle.station_model.specs.Laws.{HandsKeep}
 use Rattle.hdlc_balanced.specs.Kept.{Kept}
 use Rattle.station_model.specs.Reports.{newer, is_release, TellsRelease, ReleasesAreTold, KeepsRelease, FinishKeepsRelease}
 use Rattle.station_pair.specs.Links.{news}
-use Rattle.station_pair.specs.Steps.{quits, is_late}
-use Rattle.drill_model.specs.Outcomes.{Outcome, Handed, Expired, Refused, RefusedReleased, RefusedLength, SendRefusal}
-use Rattle.drill_model.specs.StationEnds.{called, begins, frames_heard, refusal_of, handed_unless, user_sends, user_releases, if_expired, time_goes_on}
+use Rattle.station_pair.specs.Steps.{is_late}
+use Rattle.drill_model.specs.Outcomes.{Outcome, SendRefusal}
+use Rattle.drill_model.specs.StationEnds.{called, begins, frames_heard, refusal_of, handed_unless, user_sends, if_expired, time_goes_on}
 use Rattle.er_world.specs.declared.told.Told.{Told}
-use Rattle.er_world.specs.declared.told.Told.TheVariants as told
-use Rattle.er_world.specs.declared.refusal.Refusal.{Refusal}
-use Rattle.er_world.specs.declared.refusal.Refusal.TheVariants as refusal
 use Rattle.er_world.specs.declared.station_end.StationEnd.{StationEnd}
-use Rattle.er_world.specs.Refusals.{shown_refusal}
 use Rattle.er_world.specs.Tellings.{AreTold}
 use Rattle.er_world.specs.KeptStations.{StandsQuiet, StandsStation}
 use Rattle.drill_model.specs.Ends.{station_end}
@@ -85,7 +78,7 @@ starts_so laws law old k moment before now call s stream h =
     at_end (record old { station = k }) stream before now (called t) d.0 h.reads
     (known_told old.released old.released None s t (known_of old s stream h) (told_finished law s (starts moment s) (laws moment s h.station.deed).2) d.1 refl)
 
-expired_told : (expired : Bool) (outcomes : List Outcome) (list : List Told) → AreTold outcomes list → AreTold (if_expired expired ++ outcomes) list
+pub expired_told : (expired : Bool) (outcomes : List Outcome) (list : List Told) → AreTold outcomes list → AreTold (if_expired expired ++ outcomes) list
 expired_told true outcomes list a = a
 expired_told false outcomes list a = a
 
@@ -130,7 +123,7 @@ reads_on law old new piece used stream reads used_is new_is =
     new_is ∙ ap (λ (k : frames.Kept). (frames.feeding_of k piece).kept) reads ∙ sym (law stream piece).1
     ∙ ap (λ (n : ℕ). frames.kept_of (stream ++ take n piece)) (sym (used_is ∙ ap (λ (k : frames.Kept). (frames.feeding_of k piece).used) reads))
 
-news_are : (stream octets : List ℕ) (vs : List Verdict) → frames_of (stream ++ octets) ≡ frames_of stream ++ vs → news stream octets ≡ vs
+pub news_are : (stream octets : List ℕ) (vs : List Verdict) → frames_of (stream ++ octets) ≡ frames_of stream ++ vs → news stream octets ≡ vs
 news_are stream octets vs is = ap (drop (length (frames_of stream))) is ∙ drop_at (frames_of stream) vs (length (frames_of stream)) refl
 
 -- octets in which no frame closes
@@ -171,7 +164,7 @@ frames_heard-append moment (v ∷ vs) ws s =
     ap (λ (p : Station × List Outcome). (p.0, a.1 ++ p.1)) (frames_heard-append moment vs ws a.0)
     ∙ ap (λ (os : List Outcome). (c.0, os)) (sym (append_assoc a.1 b.1 c.1))
 
-news_more : KeptStandsForStream → (stream xs ys : List ℕ) → news stream (xs ++ ys) ≡ news stream xs ++ news (stream ++ xs) ys
+pub news_more : KeptStandsForStream → (stream xs ys : List ℕ) → news stream (xs ++ ys) ≡ news stream xs ++ news (stream ++ xs) ys
 news_more law stream xs ys =
     let f : List Verdict = frames_of (frames.stream_of (frames.kept_of stream) ++ xs) in
     let g : List Verdict = frames_of (frames.stream_of (frames.kept_of (stream ++ xs)) ++ ys) in
@@ -219,7 +212,7 @@ reading_goes_on law moment old new s stream octets rest back used before between
       };
     }
 
-nothing_new : (stream : List ℕ) → news stream [] ≡ []
+pub nothing_new : (stream : List ℕ) → news stream [] ≡ []
 nothing_new stream = news_are stream [] [] (ap frames_of (append-nil stream) ∙ sym (append-nil (frames_of stream)))
 
 pub reading_ends : (moment : ℕ) (k : StationEnd) (s : Station) (stream octets rest : List ℕ) (before now : List Told) → rest ≡ []

@@ -8,13 +8,13 @@ use Rattle.er_base.specs.declared.side.Side.TheVariants.{E, R}
 use Rattle.des_block.specs.declared.triple_key.TripleKey.{TripleKey}
 use Rattle.safe_pair.specs.Facts.{Fact, Sent, Sealed, Verified, Connected, Accepted, SideFact, MarkedFact, Sealing, is_sealing, sealings_of, sealings, was_sealed, is_side, is_mistrust, mistrusts, marked_from}
 use Rattle.safe_pair.specs.Marks.{MarksGrow}
-use Rattle.drill_model.specs.Outcomes.{Outcome, OfSafety, Handed, Arrived, Up, Refused, Released, Frame, Expired, at_end, facts_at, facts_in, frames_of, frames_in}
+use Rattle.drill_model.specs.Outcomes.{Outcome, OfSafety, Handed, Arrived, Up, Took, NothingToTake, Refused, Released, Frame, Expired, at_end, facts_at, facts_in, frames_of, frames_in}
 use Rattle.drill_model.specs.Marks.{outcome_forged, marks_behind}
 use Rattle.drill_model.specs.Texts.{outcome_line, link_lines}
 use Rattle.er_world.specs.declared.place.Place.{Place}
 use Rattle.er_world.specs.declared.ledger.Ledger.{Ledger}
 use Rattle.er_world.specs.declared.told.Told.{Told}
-use Rattle.er_world.specs.Tellings.{IsTold, heard_in, EachTold, AreTold, told_line, told_frames}
+use Rattle.er_world.specs.Tellings.{IsTold, heard_in, EachTold, told_line, told_frames}
 use Rattle.er_world.specs.Ledgers.{HoldsLedger, mistrusts_of, forged_by, told_pairs, told_mark, Keeps, TellsOne, TellsAll, Telling}
 
 or_false : (a : Bool) → (a || false) ≡ a
@@ -102,6 +102,18 @@ row_of kept before side (Arrived payload) t h is = rw is record {
   line = λ show number. refl;
 }
 row_of kept before side Up t h is = rw is record {
+  pairs = refl;
+  marks = λ mine. sym (and_false (is_side mine side));
+  frames = refl;
+  line = λ show number. refl;
+}
+row_of kept before side (Took message) t h is = rw is record {
+  pairs = refl;
+  marks = λ mine. sym (and_false (is_side mine side));
+  frames = refl;
+  line = λ show number. refl;
+}
+row_of kept before side NothingToTake t h is = rw is record {
   pairs = refl;
   marks = λ mine. sym (and_false (is_side mine side));
   frames = refl;

@@ -13,7 +13,7 @@ use Rattle.er_world.specs.declared.ledger.Ledger.{Ledger}
 use Rattle.er_world.specs.declared.told.Told.{Told}
 use Rattle.er_world.specs.declared.told.Told.TheVariants as told
 use Rattle.er_world.specs.Pairs.{Gains}
-use Rattle.er_world.specs.Tellings.{EachTold, heard_in, told_line, told_frames}
+use Rattle.er_world.specs.Tellings.{EachTold, told_line, told_frames}
 
 -- what is kept is what came
 pub record HoldsLedger (kept : Ledger) (facts : List MarkedFact) : Type 0 where
@@ -34,6 +34,8 @@ forged_by kept side (told.Connected peer key text) = not (list_any (is_sealing k
 forged_by kept side (told.Accepted user key text) = not (list_any (is_sealing key text) kept.pairs)
 forged_by kept side told.Up = false
 forged_by kept side (told.Arrived payload) = false
+forged_by kept side (told.Took message) = false
+forged_by kept side told.NothingToTake = false
 forged_by kept side (told.Refused refused) = false
 forged_by kept side (told.Released release) = false
 forged_by kept side (told.Frame octets) = false
@@ -46,6 +48,8 @@ told_pairs (told.Connected peer key text) = []
 told_pairs (told.Accepted user key text) = []
 told_pairs told.Up = []
 told_pairs (told.Arrived payload) = []
+told_pairs (told.Took message) = []
+told_pairs told.NothingToTake = []
 told_pairs (told.Refused refused) = []
 told_pairs (told.Released release) = []
 told_pairs (told.Frame octets) = []
@@ -58,6 +62,8 @@ told_mark (told.Connected peer key text) forged = false
 told_mark (told.Accepted user key text) forged = false
 told_mark told.Up forged = false
 told_mark (told.Arrived payload) forged = false
+told_mark (told.Took message) forged = false
+told_mark told.NothingToTake forged = false
 told_mark (told.Refused refused) forged = false
 told_mark (told.Released release) forged = false
 told_mark (told.Frame octets) forged = false

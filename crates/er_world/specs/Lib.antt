@@ -6,9 +6,11 @@ pub mod Tellings
 pub mod Changes
 pub mod Ledgers
 pub mod KeptStations
+pub mod KeptStacks
 pub mod KeptEnds
 pub mod SafeEnds
 pub mod StationEnds
+pub mod StackEnds
 pub mod Ports
 pub mod KeptLinks
 pub mod Standing

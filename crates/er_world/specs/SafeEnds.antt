@@ -1,5 +1,5 @@
 -- Representation: what a side of a safe connection of the code tells of an event; no claim rests on it.
-use Rattle.std.specs.Prelude.{ℕ, ◌≡◌, List, [], ◌∷◌, Option, Some, None}
+use Rattle.std.specs.Prelude.{ℕ, List, [], ◌∷◌, Option, Some, None}
 use Rattle.des_block.specs.declared.triple_key.TripleKey.{TripleKey}
 use Rattle.safety_automaton.specs.Reports.{KeptSafe, Report, ToldAnswered, ToldConnected, ToldAccepted, ToldReleased, ToldIgnored}
 use Rattle.drill_model.specs.Outcomes.{Outcome}

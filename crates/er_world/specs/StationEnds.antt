@@ -1,5 +1,5 @@
 -- Representation: what an end of level link of the code tells of an event; no claim rests on it.
-use Rattle.std.specs.Prelude.{ℕ, ◌≡◌, Bool, true, false, List, [], ◌∷◌, ◌++◌, map, take, Option, Some, None}
+use Rattle.std.specs.Prelude.{ℕ, ◌≡◌, Bool, true, false, List, [], ◌∷◌, ◌++◌, map, Option, Some, None}
 use Rattle.er_base.specs.declared.release.Release.{Release}
 use Rattle.station_model.specs.Frames.{Frame, sent_octets}
 use Rattle.station_model.specs.Stations.{Station, Deed}

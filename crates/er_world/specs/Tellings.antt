@@ -3,7 +3,7 @@ use Rattle.std.specs.Prelude.{ℕ, ◌≡◌, Bool, false, if◌then◌else◌, 
 use Rattle.std.specs.List.{flat_map}
 use Rattle.safe_pair.specs.Facts.{Fact, Sent, Sealed, Verified, Connected, Accepted}
 use Rattle.drill_model.specs.Outcomes.{SendRefusal, Outcome, OfSafety, Handed, Arrived, Up, Took, NothingToTake, Refused, Released, Frame, Expired, UserReleased, Passed, Lost, Repeated, Altered, Inserted, NothingWaits, IsShort}
-use Rattle.drill_model.specs.Texts.{up_line, connected_line, accepted_line, refused_line, released_line, frame_line}
+use Rattle.drill_model.specs.Texts.{up_line, connected_line, accepted_line, taken_line, none_line, refused_line, released_line, frame_line}
 use Rattle.er_world.specs.declared.place.Place.{Place}
 use Rattle.er_world.specs.declared.refusal.Refusal.{Refusal}
 use Rattle.er_world.specs.declared.told.Told.{Told}
@@ -33,8 +33,8 @@ IsTold (Frame octets) t = t ≡ told.Frame octets
 IsTold (Handed payload) t = ⊥
 IsTold (Arrived payload) t = t ≡ told.Arrived payload
 IsTold Up t = t ≡ told.Up
-IsTold (Took message) t = ⊥
-IsTold NothingToTake t = ⊥
+IsTold (Took message) t = t ≡ told.Took message
+IsTold NothingToTake t = t ≡ told.NothingToTake
 IsTold Expired t = ⊥
 IsTold (UserReleased sub) t = ⊥
 IsTold (Passed octets) t = ⊥
@@ -93,6 +93,8 @@ told_line place (told.Connected peer key text) forged = connected_line place.num
 told_line place (told.Accepted user key text) forged = accepted_line place.number place.side user forged
 told_line place told.Up forged = up_line place.number place.side
 told_line place (told.Arrived payload) forged = accepted_line place.number place.side payload false
+told_line place (told.Took message) forged = taken_line place.number place.side message
+told_line place told.NothingToTake forged = none_line place.number place.side
 told_line place (told.Refused refused) forged = refused_line place.number place.side (shown_refusal refused)
 told_line place (told.Released release) forged = released_line place.number place.side release
 told_line place (told.Frame octets) forged = if place.show then frame_line place.number place.side octets else []
@@ -105,6 +107,8 @@ told_frames (told.Connected peer key text) = []
 told_frames (told.Accepted user key text) = []
 told_frames told.Up = []
 told_frames (told.Arrived payload) = []
+told_frames (told.Took message) = []
+told_frames told.NothingToTake = []
 told_frames (told.Refused refused) = []
 told_frames (told.Released release) = []
 told_frames (told.Frame octets) = octets ∷ []

@@ -2,7 +2,7 @@
 
 ghost use Rattle.std.specs.Prelude.{IfOk};
 ghost use Rattle.safety_automaton.specs.Keys.{key_at};
-ghost use Rattle.drill_model.specs.Ends.{End, end_step};
+ghost use Rattle.drill_model.specs.Ends.{End as AnyEnd, end_step};
 ghost use Rattle.er_world.specs.Changes.{event_of};
 ghost use Rattle.er_world.specs.KeptEnds.{StandsEnd, EndWent};
 
@@ -10,9 +10,11 @@ use crate::end_event::EndEvent;
 use crate::finder::OneKey;
 use crate::moment::Moment;
 use crate::safe_end::safe_answer;
+use crate::stack_end::stack_answer;
 use crate::station_end::StationEnd;
 use crate::told::Told;
 use er_base::NoMemory;
+use er_end::End;
 use safety_automaton::Safe;
 use std::alloc::Global;
 use std::collections::VecDeque;
@@ -24,6 +26,8 @@ pub enum DrillEnd {
     Safe(Safe),
     /// Level link.
     Station(StationEnd),
+    /// Level full.
+    Stack(End),
 }
 
 impl DrillEnd {
@@ -35,12 +39,13 @@ impl DrillEnd {
         now: Moment,
         event: &EndEvent,
     ) -> Result<VecDeque<Told>, NoMemory>
-        ensures { IfOk result (λ told. (end : End) → StandsEnd self.old end
+        ensures { IfOk result (λ told. (end : AnyEnd) → StandsEnd self.old end
             → EndWent self.new told.items (end_step (key_at keys.now now) now end (event_of event.now))) }
     {
         match self {
             DrillEnd::Safe(safe) => safe_answer(alloc, safe, keys, now, event),
             DrillEnd::Station(station) => station.answer(alloc, now, event),
+            DrillEnd::Stack(end) => stack_answer(alloc, end, keys, now, event),
         }
     }
 }

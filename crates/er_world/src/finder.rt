@@ -1,5 +1,5 @@
 ghost use Rattle.std.specs.Prelude.{◌≡◌};
-ghost use Rattle.er_world.specs.Keys.{entries_of};
+ghost use Rattle.er_world.specs.Keys.{entries_of, IsSteady};
 
 use des_block::TripleKey;
 use safety_automaton::KeyFinder;
@@ -30,6 +30,13 @@ impl OneKey {
         ensures { result ≡ entries_of engine rbc kmac }
     {
         OneKey { engine, rbc, kmac }
+    }
+
+    /// The key is found alike at any two moments.
+    pub fn is_steady(&self)
+        ensures { IsSteady self.now }
+    {
+        let _kmac = self.kmac;
     }
 }
 

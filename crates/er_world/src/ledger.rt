@@ -65,6 +65,8 @@ impl Ledger {
             }
             Told::Up => Ok(false),
             Told::Arrived(_) => Ok(false),
+            Told::Took(_) => Ok(false),
+            Told::NothingToTake => Ok(false),
             Told::Refused(_) => Ok(false),
             Told::Released(_) => Ok(false),
             Told::Frame(_) => Ok(false),
@@ -98,6 +100,8 @@ impl Ledger {
             Told::Accepted { .. } => Ok(()),
             Told::Up => Ok(()),
             Told::Arrived(_) => Ok(()),
+            Told::Took(_) => Ok(()),
+            Told::NothingToTake => Ok(()),
             Told::Refused(_) => Ok(()),
             Told::Released(_) => Ok(()),
             Told::Frame(_) => Ok(()),

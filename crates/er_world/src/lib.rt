@@ -14,13 +14,15 @@ mod port;
 mod refusal;
 mod safe_end;
 mod sealed_pairs;
+mod stack_call;
+mod stack_end;
 mod station_end;
 mod telling_station;
 mod told;
 mod waiting;
 mod world;
 
-pub use drill_model::WorldFault;
+pub use drill_model::{Totals, WorldFault};
 pub use world::World;
 
 #[cfg(test)]

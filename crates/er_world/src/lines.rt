@@ -5,7 +5,7 @@ ghost use Rattle.std.specs.Fmt.{decimal};
 ghost use Rattle.drill_model.specs.Outcomes.{RefusedReleased, RefusedNotConnected, RefusedLength, RefusedFull};
 ghost use Rattle.er_world.specs.Refusals.{shown_refusal};
 ghost use Rattle.er_world.specs.Changes.{change_line};
-ghost use Rattle.drill_model.specs.Texts.{head, up_line, forged_word, by_word, release_words, connected_line, accepted_line, released_line, refused_line, frame_line, empty_line, short_line, passes_line};
+ghost use Rattle.drill_model.specs.Texts.{head, up_line, forged_word, by_word, release_words, connected_line, accepted_line, taken_line, none_line, released_line, refused_line, frame_line, empty_line, short_line, passes_line};
 
 use crate::place::Place;
 use crate::refusal::Refusal;
@@ -107,6 +107,37 @@ pub fn print_accepted(
     line.extend_from_slice(b" accepted ")?;
     hex_word(user, &mut line)?;
     line.extend_from_slice(forged_octets(forged))?;
+    out.extend_from_slice(line.as_slice())?;
+    Ok(())
+}
+
+/// Prints that the user took a message.
+#[tactic(auto, unfolding(drill_model::specs::Texts::taken_line))]
+pub fn print_taken(
+    alloc: Global,
+    place: Place,
+    message: &[u8],
+    out: &mut Vec<u8>,
+) -> Result<(), NoMemory>
+    ensures ok { OnOk result (out.new.items ≡ out.old.items ++ taken_line place.number place.side message.now) }
+    ensures err { OnErr result (out.new.items ≡ out.old.items) }
+{
+    let mut line = line_at(alloc, place)?;
+    line.extend_from_slice(b" taken ")?;
+    hex_word(message, &mut line)?;
+    line.extend_from_slice(b"\n")?;
+    out.extend_from_slice(line.as_slice())?;
+    Ok(())
+}
+
+/// Prints that no message was there to take.
+#[tactic(auto, unfolding(drill_model::specs::Texts::none_line))]
+pub fn print_none(alloc: Global, place: Place, out: &mut Vec<u8>) -> Result<(), NoMemory>
+    ensures ok { OnOk result (out.new.items ≡ out.old.items ++ none_line place.number place.side) }
+    ensures err { OnErr result (out.new.items ≡ out.old.items) }
+{
+    let mut line = line_at(alloc, place)?;
+    line.extend_from_slice(b" none\n")?;
     out.extend_from_slice(line.as_slice())?;
     Ok(())
 }

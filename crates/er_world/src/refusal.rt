@@ -1,9 +1,12 @@
 ghost use Rattle.std.specs.Prelude.{◌≡◌};
 ghost use Rattle.safety_automaton.specs.Reports.{refusal_view};
 ghost use Rattle.drill_model.specs.Ends.{refusal_of};
+ghost use Rattle.drill_model.specs.StackEnds.{as_refusal};
+ghost use Rattle.er_end.specs.Shown.{refusal_view as stack_view};
 ghost use Rattle.er_world.specs.Refusals.{shown_refusal};
 
 use er_base::Release;
+use er_end::SendRefused;
 use safety_automaton::SealRefused;
 
 /// Why a send is refused.
@@ -28,6 +31,18 @@ impl Refusal {
             SealRefused::Released(release) => Refusal::Released(release),
             SealRefused::NotConnected => Refusal::NotConnected,
             SealRefused::Length(found) => Refusal::Length(found),
+        }
+    }
+
+    /// Why a stack refuses.
+    pub fn of_stack(refused: SendRefused) -> Refusal
+        ensures { shown_refusal result ≡ as_refusal (stack_view refused) }
+    {
+        match refused {
+            SendRefused::Released(release) => Refusal::Released(release),
+            SendRefused::NotConnected => Refusal::NotConnected,
+            SendRefused::Length(found) => Refusal::Length(found),
+            SendRefused::Full(waiting) => Refusal::Full(waiting),
         }
     }
 }

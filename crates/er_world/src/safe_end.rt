@@ -30,6 +30,23 @@ pub struct Checked {
     text: Octets,
 }
 
+impl Checked {
+    /// This text, and the session keys under which it verified.
+    pub fn new(key: TripleKey, text: Octets) -> Checked
+        ensures { result ≡ record { key = key; text = text } }
+    {
+        Checked { key, text }
+    }
+
+    /// The session keys and the text.
+    pub fn parts(self) -> (TripleKey, Octets)
+        ensures { result ≡ (self.key, self.text) }
+    {
+        let Checked { key, text } = self;
+        (key, text)
+    }
+}
+
 /// The text that verified in the last call of a side, if one did.
 fn checked_in(alloc: Global, safe: &Safe) -> Result<Option<Checked>, NoMemory>
     ensures { IfOk result (λ found. found ≡ checked_text safe.now.verified (session_in safe.now.safety.phase)) }

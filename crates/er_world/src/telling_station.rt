@@ -54,7 +54,7 @@ fn copied(alloc: Global, octets: &[u8]) -> Result<Octets, NoMemory>
 }
 
 /// Tells the frames that a station wrote, one by one.
-fn tell_frames(alloc: Global, written: &[u8], told: &mut VecDeque<Told>) -> Result<(), NoMemory>
+pub fn tell_frames(alloc: Global, written: &[u8], told: &mut VecDeque<Told>) -> Result<(), NoMemory>
     ensures { OnOk result (TellsFrames written.now told.old.items told.new.items) }
 {
     hdlc_frames::laws::written_is_first();
@@ -93,7 +93,7 @@ fn tell_arrived(alloc: Global, deed: &LinkDeed, told: &mut VecDeque<Told>) -> Re
 }
 
 /// Tells a release, where there was one.
-fn tell_released(released: Option<Release>, told: &mut VecDeque<Told>) -> Result<(), NoMemory>
+pub fn tell_released(released: Option<Release>, told: &mut VecDeque<Told>) -> Result<(), NoMemory>
     ensures { OnOk result (told.new.items ≡ told.old.items ++ told_released released) }
 {
     let Some(release) = released else {

@@ -4,7 +4,8 @@ ghost use Rattle.std.specs.Prelude.{◌≡◌, ◌++◌, OnOk};
 ghost use Rattle.er_world.specs.Tellings.{IsNext, told_line, told_frames};
 
 use crate::lines::{
-    print_accepted, print_connected, print_frame, print_refused, print_released, print_up,
+    print_accepted, print_connected, print_frame, print_none, print_refused, print_released,
+    print_taken, print_up,
 };
 use crate::place::Place;
 use crate::refusal::Refusal;
@@ -53,6 +54,9 @@ pub enum Told {
     Up,
     /// A payload was accepted.
     Arrived(Octets),
+    /// The user took a message; none was there.
+    Took(Octets),
+    NothingToTake,
     /// A send was refused.
     Refused(Refusal),
     /// The connection ended.
@@ -85,6 +89,8 @@ pub fn print_told(
         Told::Accepted { user, .. } => print_accepted(alloc, place, user.as_slice(), forged, out),
         Told::Up => print_up(alloc, place, out),
         Told::Arrived(payload) => print_accepted(alloc, place, payload.as_slice(), false, out),
+        Told::Took(message) => print_taken(alloc, place, message.as_slice(), out),
+        Told::NothingToTake => print_none(alloc, place, out),
         Told::Refused(refused) => print_refused(alloc, place, refused, out),
         Told::Released(release) => print_released(alloc, place, release, out),
         Told::Frame(octets) => print_frame(alloc, place, octets.as_slice(), out),
@@ -102,6 +108,8 @@ pub fn queue(told: Told, waiting: &mut Waiting) -> Result<(), NoMemory>
         Told::Accepted { .. } => Ok(()),
         Told::Up => Ok(()),
         Told::Arrived(_) => Ok(()),
+        Told::Took(_) => Ok(()),
+        Told::NothingToTake => Ok(()),
         Told::Refused(_) => Ok(()),
         Told::Released(_) => Ok(()),
         Told::Frame(octets) => waiting.push(octets),

@@ -10,7 +10,7 @@ ghost use Rattle.safe_pair.specs.Openings.{OfFixed, OfKeys};
 ghost use Rattle.safe_pair.specs.Marks.{MarksGrow};
 ghost use Rattle.drill_model.specs.Growth.{FactsGrow, HistoryGrows, HistoryOfOwn, HistoryOfOther, LinkMarksGrow, WorldMarksGrow, LinkText};
 ghost use Rattle.drill_model.specs.Steps.{IsOfLevel, HasEtcsNumbers, HasMoment};
-ghost use Rattle.drill_model.specs.Links.{OfPair, OfStations, Tick, opened};
+ghost use Rattle.drill_model.specs.Links.{OfPair, OfStations, OfStacks, Tick, opened};
 ghost use Rattle.drill_model.specs.Worlds.{Plan, link_at, is_link, link_opening, wire_opening, open_link, at_link, drain_link, copy_between, ticks, ticked, world_step};
 ghost use Rattle.drill_model.specs.Faults.{wants, wants_closed, wants_moment, or_else, refusal};
 ghost use Rattle.drill_model.specs.Texts.{last_lines};
@@ -31,6 +31,7 @@ use crate::station_end::StationEnd;
 use des_block::TripleKey;
 use drill_model::WorldFault;
 use er_base::{NoMemory, Octets, Side};
+use er_end::End;
 use er_scenario::{Level, Step};
 use er_settings::Settings;
 use safety_automaton::{Role, Safe};
@@ -143,6 +144,35 @@ fn called(
 {
     let e = DrillEnd::Safe(Safe::initiator(engine, rbc, ke, rb));
     let r = DrillEnd::Safe(Safe::responder(rbc, ra));
+    let mut link = Link::new(alloc, e, r, OneKey::new(engine, rbc, kr), moment);
+    link.give(alloc, place, &EndEvent::Start, out)?;
+    Ok(link)
+}
+
+/// A link between two stacks, opened at a moment; the engine's has begun the set-up.
+fn stacked(
+    alloc: Global,
+    place: Place,
+    settings: &Settings,
+    engine: u32,
+    rbc: u32,
+    ke: TripleKey,
+    kr: Option<TripleKey>,
+    ra: u64,
+    rb: u64,
+    moment: Moment,
+    out: &mut Vec<u8>,
+) -> Result<Link, NoMemory>
+    requires settings { AllAllowed settings.now }
+    requires engine { IsEtcsNumber engine }
+    requires rbc { IsEtcsNumber rbc }
+    ensures { IfOk result (λ link. place.side ≡ E → (now : ℕ) → moment ≡ now
+        → LinkWent (opened settings.now now (OfStacks engine rbc ke kr ra rb)) place.show place.number [] link out.old.items out.new.items) }
+{
+    er_end::laws::standing();
+    drill_model::laws::stacks_report();
+    let e = DrillEnd::Stack(End::call(alloc, settings, engine, rbc, ke, rb, moment.get())?);
+    let r = DrillEnd::Stack(End::answer(alloc, settings, rbc, ra, moment.get())?);
     let mut link = Link::new(alloc, e, r, OneKey::new(engine, rbc, kr), moment);
     link.give(alloc, place, &EndEvent::Start, out)?;
     Ok(link)
@@ -337,7 +367,7 @@ impl World {
         Ok(())
     }
 
-    /// Opens link N with two ends that aren't connected yet, and the engine begins the set-up. Level link has no such links; level full isn't built.
+    /// Opens link N with two ends that aren't connected yet, and the engine begins the set-up. Level link has no such links.
     fn open_called(
         &mut self,
         alloc: Global,
@@ -383,7 +413,23 @@ impl World {
                 Ok(())
             }
             Level::Link => Ok(()),
-            Level::Full => Ok(()),
+            Level::Full => {
+                let link = stacked(
+                    alloc,
+                    self.place(number, Side::E),
+                    &self.settings,
+                    engine,
+                    rbc,
+                    ke,
+                    kr,
+                    ra,
+                    rb,
+                    self.moment,
+                    out,
+                )?;
+                self.open(number, link);
+                Ok(())
+            }
         }
     }
 

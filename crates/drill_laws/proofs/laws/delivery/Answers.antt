@@ -1,4 +1,5 @@
 use Rattle.drill_laws.proofs.Tellings.{StationLaws}
+use Rattle.drill_laws.proofs.StackLaws.{StackLaws}
 use Rattle.drill_laws.proofs.Delivering.{delivers_always}
 use Rattle.drill_laws.proofs.laws.delivery.Goals as goal
 
@@ -13,5 +14,15 @@ returns c =
       finish = c.station_laws.ensures.finish;
       inert = c.station_laws.ensures.inert;
     } in
-    delivers_always stations c.delivery.ensures c.few_wait.ensures.deliveries c.few_wait.ensures.waiting c.allowed_are_bounded.ensures c.steps.ensures.only
+    let stacks : StackLaws = record {
+      prefix = c.stack_laws.ensures.prefix;
+      reasons = c.stack_laws.ensures.reasons;
+      delivery = c.stack_laws.ensures.delivery;
+      deliveries_bound = c.stack_laws.ensures.deliveries_bound;
+      drain_empties = c.stack_laws.ensures.drain_empties;
+      only = c.stack_laws.ensures.only;
+      opens = c.stack_laws.ensures.opens;
+      calls = c.stack_laws.ensures.calls;
+    } in
+    delivers_always stations stacks c.delivery.ensures c.few_wait.ensures.deliveries c.few_wait.ensures.waiting c.allowed_are_bounded.ensures c.steps.ensures.only
     c.flows_deliver.ensures c.histories.ensures.facts c.histories.ensures.grow c.histories.ensures.own c.histories.ensures.other

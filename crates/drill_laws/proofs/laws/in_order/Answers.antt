@@ -1,5 +1,6 @@
 use Rattle.drill_laws.proofs.Tellings.{StationLaws}
-use Rattle.drill_laws.proofs.Losing.{in_order_always}
+use Rattle.drill_laws.proofs.StackLaws.{StackLaws}
+use Rattle.drill_laws.proofs.OrderKeeping.{in_order_always}
 use Rattle.drill_laws.proofs.laws.in_order.Goals as goal
 
 pub returns : goal.returns
@@ -13,4 +14,14 @@ returns c =
       finish = c.station_laws.ensures.finish;
       inert = c.station_laws.ensures.inert;
     } in
-    in_order_always stations c.allowed_are_bounded.ensures c.histories.ensures.facts c.histories.ensures.grow c.histories.ensures.own c.histories.ensures.other c.prefix.ensures
+    let stacks : StackLaws = record {
+      prefix = c.stack_laws.ensures.prefix;
+      reasons = c.stack_laws.ensures.reasons;
+      delivery = c.stack_laws.ensures.delivery;
+      deliveries_bound = c.stack_laws.ensures.deliveries_bound;
+      drain_empties = c.stack_laws.ensures.drain_empties;
+      only = c.stack_laws.ensures.only;
+      opens = c.stack_laws.ensures.opens;
+      calls = c.stack_laws.ensures.calls;
+    } in
+    in_order_always stations stacks c.allowed_are_bounded.ensures c.histories.ensures.facts c.histories.ensures.grow c.histories.ensures.own c.histories.ensures.other c.prefix.ensures

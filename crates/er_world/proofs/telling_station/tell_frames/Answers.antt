@@ -1,4 +1,4 @@
-use Rattle.std.proofs.Common.{◌≡◌, ◌<◌, ℕ, List, length, sym, subst, arith}
+use Rattle.std.proofs.Common.{◌<◌, ℕ, List, sym, subst, arith}
 use Rattle.er_world.specs.StationEnds.{TellingFrames}
 use Rattle.er_world.proofs.StationFrames.{closes_some, frames_begin, frames_pass, frames_end}
 use Rattle.er_world.proofs.telling_station.tell_frames.Goals as goal

@@ -1,6 +1,6 @@
-use Rattle.std.proofs.Common.{◌≡◌, ◌++◌, List, take, Option, Some, None, sym, ap, ◌∙◌}
+use Rattle.std.proofs.Common.{◌++◌, take, ap, ◌∙◌}
 use Rattle.std.specs.Option.{option_to_list, option_map}
-use Rattle.hdlc_frames.specs.Framing.{Verdict, frames_of}
+use Rattle.hdlc_frames.specs.Framing.{frames_of}
 use Rattle.hdlc_frames.specs.Shown.{shown}
 use Rattle.er_world.proofs.StationRows.{reads_on, none_heard, one_heard}
 use Rattle.er_world.proofs.station_end.StationEnd.receive_one.Goals as goal

@@ -1,8 +1,7 @@
-use Rattle.std.proofs.Common.{rules, ◌≡◌, ℕ, List, [], Option, Some, None, refl, sym, ap, ◌∙◌, subst}
-use Rattle.std.proofs.lemmas.Result.{on_ok_weaker}
+use Rattle.std.proofs.Common.{ℕ, List, [], sym, ap, subst}
 use Rattle.hdlc_frames.specs.Framing.{Verdict}
 use Rattle.hdlc_frames.specs.Shown.{shown}
-use Rattle.station_model.specs.Stations.{Station, Deed, no_deed}
+use Rattle.station_model.specs.Stations.{Station, Deed}
 use Rattle.station_model.specs.Calls.{receives, finishes}
 use Rattle.hdlc_balanced.specs.Told.{deed_of}
 use Rattle.er_world.specs.StationEnds.{TellsFrames}

@@ -1,6 +1,5 @@
-use Rattle.std.proofs.Common.{rules, ◌≡◌, ℕ, List, [], Option, Some, None, refl, sym, ap, ◌∙◌, subst}
-use Rattle.std.proofs.lemmas.Result.{on_ok_weaker}
-use Rattle.station_model.specs.Stations.{Deed, no_deed}
+use Rattle.std.proofs.Common.{ℕ, List, [], sym, ap, subst}
+use Rattle.station_model.specs.Stations.{Deed}
 use Rattle.station_model.specs.Calls.{ticks, finishes}
 use Rattle.hdlc_balanced.specs.Told.{released_as}
 use Rattle.er_world.specs.StationEnds.{TellsFrames}

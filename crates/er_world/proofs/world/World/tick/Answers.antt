@@ -1,4 +1,4 @@
-use Rattle.std.proofs.Common.{◌≡◌, ◌≤◌, ℕ, subst, ◌∙◌, arith}
+use Rattle.std.proofs.Common.{◌≤◌, ℕ, subst, arith}
 use Rattle.drill_model.specs.Worlds.{ticks}
 use Rattle.er_world.specs.Standing.{KeptWorld}
 use Rattle.er_world.specs.WorldSteps.{WorldDoes}

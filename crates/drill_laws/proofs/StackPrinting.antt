@@ -1,0 +1,125 @@
+-- The lines of an event at a stack come in the order of the table, frame by frame.
+use Rattle.std.proofs.Common.{◌≡◌, ℕ, zero, suc, ◌≤◌, if◌then◌else◌, true, false, Bool, List, [], ◌∷◌, ◌++◌, map, refl, ap, append-nil, arith}
+use Rattle.std.specs.Prelude.{◌==◌, Option, Some, None, is_some}
+use Rattle.std.specs.List.{flat_map, AllByRecursion}
+use Rattle.er_base.specs.declared.release.Release.{Release}
+use Rattle.des_block.specs.declared.triple_key.TripleKey.{TripleKey}
+use Rattle.hdlc_frames.specs.Framing.{Verdict}
+use Rattle.safety_automaton.specs.Safety.{SafetyOutcome, SentAu1, SentAu2, SentAu3, SentAr, ReceivedAr, AcceptedDt, SentDt, Refused, ReleasedLocally, ReleasedByPeer, NothingDone}
+use Rattle.safe_pair.specs.Facts.{heard_in, facts_by}
+use Rattle.station_pair.specs.Links.{said_octets}
+use Rattle.end_model.specs.Outcomes.{SendRefusal}
+use Rattle.end_model.specs.Layers.{Spoken, Core, model}
+use Rattle.end_model.specs.Steps.{Finds, begins_at, gives_next, goes_on, offers, most_offers, finishes, concludes, comes, refusal_of, uses}
+use Rattle.end_model.specs.Ends.{End as Stack, news}
+use Rattle.end_model.specs.Ends as stacks
+use Rattle.drill_model.specs.Outcomes.{Outcome, OfSafety, Frame}
+use Rattle.drill_model.specs.StationEnds.{if_released, if_expired}
+use Rattle.drill_model.specs.StackEnds.{facts_told, told_at, behind, stack_parts, stack_told, told_unless, took, finds_expired}
+use Rattle.drill_model.specs.Ends.{EndEvent, Start, stack_end_step}
+use Rattle.drill_model.specs.Ends as event
+use Rattle.drill_model.specs.Texts.{place_of}
+use Rattle.drill_model.specs.Headline.{IsRising, parts_of_stack}
+
+-- ---- one call
+
+-- frames come last
+up_frames : (n : ℕ) → n ≤ 7 → (frames : List (List ℕ)) → IsRising (n ∷ flat_map place_of (map Frame frames))
+up_frames n low [] = tt
+up_frames n low (f ∷ fs) = (low, up_frames 7 (omega arith) fs)
+
+rising_frames : (frames : List (List ℕ)) → IsRising (flat_map place_of (map Frame frames))
+rising_frames [] = tt
+rising_frames (f ∷ fs) = up_frames 7 (omega arith) fs
+
+up_rest : (n : ℕ) → n ≤ 6 → (released : Option Release) (frames : List (List ℕ)) → IsRising (n ∷ flat_map place_of (if_released released ++ map Frame frames))
+up_rest n low None frames = up_frames n (omega arith) frames
+up_rest n low (Some release) frames = (low, up_frames 6 (omega arith) frames)
+
+rising_rest : (released : Option Release) (frames : List (List ℕ)) → IsRising (flat_map place_of (if_released released ++ map Frame frames))
+rising_rest None frames = rising_frames frames
+rising_rest (Some release) frames = up_frames 6 (omega arith) frames
+
+rising_facts : (heard : List ℕ) (o : SafetyOutcome) (released : Option Release) (frames : List (List ℕ))
+    → IsRising (flat_map place_of (map OfSafety (facts_by heard o) ++ (if_released released ++ map Frame frames)))
+rising_facts heard (SentAu1 octets) released frames = rising_rest released frames
+rising_facts heard (SentAu2 session sealed octets) released frames = rising_rest released frames
+rising_facts heard (SentAu3 session verified sealed octets) released frames = rising_rest released frames
+rising_facts heard (SentAr connection verified sealed octets) released frames = up_rest 2 (omega arith) released frames
+rising_facts heard (ReceivedAr connection verified) released frames = up_rest 2 (omega arith) released frames
+rising_facts heard (AcceptedDt session user verified) released frames = up_rest 3 (omega arith) released frames
+rising_facts heard (SentDt session user sealed octets) released frames = rising_rest released frames
+rising_facts heard (Refused refusal) released frames = rising_rest released frames
+rising_facts heard (ReleasedLocally release octets) released frames = rising_rest released frames
+rising_facts heard (ReleasedByPeer release) released frames = rising_rest released frames
+rising_facts heard NothingDone released frames = rising_rest released frames
+
+rising_spoke : (spoke : Option Spoken) (released : Option Release) (frames : List (List ℕ))
+    → IsRising (flat_map place_of (facts_told spoke ++ (if_released released ++ map Frame frames)))
+rising_spoke None released frames = rising_rest released frames
+rising_spoke (Some s) released frames = rising_facts (heard_in s.event) s.outcome released frames
+
+rising_told : (x : Core) → IsRising (flat_map place_of (told_at x))
+rising_told x = rising_spoke x.upper.spoke x.leaves (said_octets x.line)
+
+-- ---- octets
+
+each_rising : (finds : Finds) (moment : ℕ) (verdicts : List Verdict) (x : Core)
+    → (flat_map (λ (part : List Outcome). part) (stack_parts finds moment verdicts x) ≡ stack_told finds moment verdicts x)
+    × AllByRecursion (λ (part : List Outcome). IsRising (flat_map place_of part)) (stack_parts finds moment verdicts x)
+each_rising finds moment [] x = (refl, tt)
+each_rising finds moment (verdict ∷ verdicts) x =
+    let y : Core = comes model finds moment verdict x in
+    let rest = each_rising finds moment verdicts y in
+    (ap (λ (os : List Outcome). told_at y ++ os) rest.0, (rising_told y, rest.1))
+
+-- ---- a take
+
+-- a take asks nothing of the safety side
+none_if : (b : Bool) (x y : Core) → x.upper.spoke ≡ None → y.upper.spoke ≡ None → (if b then x else y).upper.spoke ≡ None
+none_if true x y hx hy = hx
+none_if false x y hx hy = hy
+
+none_offered : (n : ℕ) (x : Core) → x.upper.spoke ≡ None → (offers model n x).upper.spoke ≡ None
+unfolding offers
+none_offered zero x none = none
+none_offered (suc n) x none = none_if (goes_on model x) (offers model n (gives_next model x)) x (none_offered n (gives_next model x) none) none
+
+none_used : (moment : ℕ) (x : Core) → (uses model moment x).upper.spoke ≡ None
+none_used moment x =
+    let y : Core = begins_at model moment x in
+    let z : Core = record y { upper = model.uses y.upper } in
+    none_if (model.untaken y.upper == 0) y (concludes model z) refl
+    (none_if (is_some z.released) z (finishes model (offers model most_offers z)) refl (none_offered most_offers z refl))
+
+rising_took : (message : Option (List ℕ)) (spoke : Option Spoken) (released : Option Release) (frames : List (List ℕ)) → spoke ≡ None
+    → IsRising (flat_map place_of (took message ++ (facts_told spoke ++ (if_released released ++ map Frame frames))))
+rising_took None None released frames none = up_rest 4 (omega arith) released frames
+rising_took (Some message) None released frames none = up_rest 4 (omega arith) released frames
+rising_took message (Some s) released frames none = absurd (cc)
+
+-- ---- the events
+
+rising_unless : (refusal : Option SendRefusal) (x : Core) → IsRising (flat_map place_of (told_unless refusal x))
+rising_unless (Some refusal) x = tt
+rising_unless None x = rising_told x
+
+rising_expired : (b : Bool) (x : Core) → IsRising (flat_map place_of (if_expired b ++ told_at x))
+rising_expired true x = rising_told x
+rising_expired false x = rising_told x
+
+one_part : (os : List Outcome) → IsRising (flat_map place_of os)
+    → (flat_map (λ (part : List Outcome). part) (os ∷ []) ≡ os) × AllByRecursion (λ (part : List Outcome). IsRising (flat_map place_of part)) (os ∷ [])
+one_part os rising = (append-nil os, (rising, tt))
+
+pub stack_in_order : (key_of : ℕ → ℕ → Option TripleKey) (moment : ℕ) (m : Stack) (event : EndEvent)
+    → (flat_map (λ part. part) (parts_of_stack key_of moment m event) ≡ (stack_end_step key_of moment m event).1)
+    × AllByRecursion (λ part. IsRising (flat_map place_of part)) (parts_of_stack key_of moment m event)
+stack_in_order key_of moment m Start = one_part _ (rising_told (behind moment stacks.Start m).core)
+stack_in_order key_of moment m (event.Receive octets) = each_rising (λ now. key_of) moment (news m.stream octets) (begins_at model moment m.core)
+stack_in_order key_of moment m (event.Send user) = one_part _ (rising_unless (refusal_of model user m.core) (behind moment (stacks.Send user) m).core)
+stack_in_order key_of moment m event.Take =
+    let x : Core = uses model moment m.core in
+    one_part _ (rising_took (model.oldest m.core.upper) x.upper.spoke x.leaves (said_octets x.line) (none_used moment m.core))
+stack_in_order key_of moment m (event.Release sub) = one_part _ (rising_told (behind moment (stacks.Leave sub) m).core)
+stack_in_order key_of moment m event.Tick = one_part _ (rising_expired (finds_expired (begins_at model moment m.core)) (behind moment stacks.Tick m).core)

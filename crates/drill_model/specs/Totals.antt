@@ -1,0 +1,86 @@
+-- The totals of a run: what was counted over all links and both ends (this profile).
+use Rattle.std.specs.Prelude.{ℕ, zero, suc, ◌+◌, ◌-◌, ◌^◌, min, Bool, true, false, List, length}
+use Rattle.std.specs.List.{count_by}
+use Rattle.er_base.specs.declared.side.Side.TheVariants.{E, R}
+use Rattle.drill_model.specs.declared.totals.Totals.{Totals as RunTotals}
+use Rattle.drill_model.specs.Outcomes.{Outcome, OfSafety, Handed, Arrived, Up, Took, NothingToTake, Refused, Released, Frame, Expired, UserReleased, Passed, Lost, Repeated, Altered, Inserted, NothingWaits, IsShort, Occurrence}
+use Rattle.drill_model.specs.Worlds.{Came, history_on}
+use Rattle.drill_model.specs.Kinds.{sent_by, accepted_by, deliveries}
+
+-- ---- the counts of one link
+
+-- the sends that were Ok, and the messages that were accepted
+abbrev pub sends : List Occurrence → ℕ
+sends history = length (sent_by E history) + length (sent_by R history)
+
+abbrev pub acceptances : List Occurrence → ℕ
+acceptances history = length (accepted_by E history) + length (accepted_by R history)
+
+-- a frame was removed by the line
+abbrev pub is_loss : Outcome → Bool
+is_loss (OfSafety fact) = false
+is_loss (Handed payload) = false
+is_loss (Arrived payload) = false
+is_loss Up = false
+is_loss (Took message) = false
+is_loss NothingToTake = false
+is_loss (Refused refusal) = false
+is_loss (Released release) = false
+is_loss (Frame octets) = false
+is_loss Expired = false
+is_loss (UserReleased sub) = false
+is_loss (Passed octets) = false
+is_loss Lost = true
+is_loss Repeated = false
+is_loss Altered = false
+is_loss Inserted = false
+is_loss NothingWaits = false
+is_loss (IsShort found) = false
+
+-- a frame was copied by the line
+abbrev pub is_repeat : Outcome → Bool
+is_repeat (OfSafety fact) = false
+is_repeat (Handed payload) = false
+is_repeat (Arrived payload) = false
+is_repeat Up = false
+is_repeat (Took message) = false
+is_repeat NothingToTake = false
+is_repeat (Refused refusal) = false
+is_repeat (Released release) = false
+is_repeat (Frame octets) = false
+is_repeat Expired = false
+is_repeat (UserReleased sub) = false
+is_repeat (Passed octets) = false
+is_repeat Lost = false
+is_repeat Repeated = true
+is_repeat Altered = false
+is_repeat Inserted = false
+is_repeat NothingWaits = false
+is_repeat (IsShort found) = false
+
+abbrev pub losses : List Occurrence → ℕ
+losses history = count_by (λ o. is_loss o.outcome) history
+
+abbrev pub repeats : List Occurrence → ℕ
+repeats history = count_by (λ o. is_repeat o.outcome) history
+
+-- ---- the totals of a world
+
+-- the sum over the links from this number on, so many
+unfoldable pub sum_from : (List Occurrence → ℕ) → List Came → (number count : ℕ) → ℕ
+sum_from count_on came number zero = 0
+sum_from count_on came number (suc count) = count_on (history_on number came) + sum_from count_on came (number + 1) count
+
+-- over all links; a total stays at 2^64 - 1
+abbrev pub total : (List Occurrence → ℕ) → List Came → ℕ
+total count_on came = min (sum_from count_on came 1 64) (2 ^ 64 - 1)
+
+-- of all that came
+abbrev pub totals_of : List Came → RunTotals
+totals_of came = record {
+  sent = total sends came;
+  accepted = total acceptances came;
+  passes = total deliveries came;
+  lost = total losses came;
+  repeated = total repeats came;
+}
