@@ -1,1 +1,6 @@
 mod MemoryFiles
+mod ScriptWalks
+mod KeptLists
+mod Comings
+mod Giving
+mod Reading

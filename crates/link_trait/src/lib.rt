@@ -6,13 +6,27 @@
 //! What a real file holds, and whether a printed octet is ever read, no clause can say.
 #![tactic(auto)]
 
+mod act;
 mod cabinet;
+mod call_record;
+mod clock;
 mod memory_cabinet;
+mod memory_clock;
+mod memory_line;
 mod memory_sink;
+mod memory_wires;
 mod planned_calls;
 mod sink;
+mod wires;
+#[cfg(test)]
+mod wires_tests;
 
+pub use act::Act;
 pub use cabinet::{Cabinet, FetchFault};
+pub use clock::Clock;
 pub use memory_cabinet::MemoryCabinet;
+pub use memory_clock::MemoryClock;
 pub use memory_sink::MemorySink;
+pub use memory_wires::MemoryWires;
 pub use sink::{Failed, Sink};
+pub use wires::{Conn, Happening, ReadAnswer, Wires, WriteAnswer};

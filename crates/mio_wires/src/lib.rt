@@ -1,0 +1,14 @@
+//! Wires over TCP sockets, the trusted edge of the stack to the network: a few lines a call over `mio`.
+//!
+//! This profile's own. It is proved against the trait, and tells nothing of what a socket holds or delivers: that it
+//! reaches the real thing is shown by its tests.
+#![tactic(auto)]
+
+mod queue;
+mod sockets;
+#[cfg(test)]
+mod tests;
+mod wires;
+
+pub use sockets::MOST_CONNECTIONS;
+pub use wires::MioWires;

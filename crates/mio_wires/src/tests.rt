@@ -1,0 +1,177 @@
+ghost use Rattle.std.specs.Prelude.{◌<◌, length};
+
+use crate::{MOST_CONNECTIONS, MioWires};
+use link_trait::{Conn, Failed, Happening, ReadAnswer, Wires, WriteAnswer};
+use std::io::{Read, Write};
+use std::net::{Ipv4Addr, SocketAddr};
+use std::rt::Clock;
+use std::test::Fail;
+use std::{io, net};
+
+// A hundred milliseconds from now.
+fn soon(rt: HostRuntime) -> io::Result<u64> {
+    let now = u64::try_from(rt.since_1970()?.as_millis()).unwrap_or(0);
+    Ok(now.saturating_add(100))
+}
+
+// An address of this machine at which nobody listens.
+fn free_address(rt: HostRuntime) -> Result<String, Fail> {
+    let listener = net::TcpListener::bind(&rt, SocketAddr::from((Ipv4Addr::LOCALHOST, 0)))?;
+    Ok(format!(in rt.alloc(); "{}", listener.local_addr()?)?)
+}
+
+// The first connection that is accepted in a hundred turns.
+fn accepted<W: Wires>(rt: HostRuntime, wires: &mut W) -> io::Result<Option<Conn>> {
+    for _ in 0..100 {
+        if let Happening::Accepted(conn) = wires.turn(Some(soon(rt)?)) {
+            return Ok(Some(conn));
+        }
+    }
+    Ok(None)
+}
+
+// What the first read that isn't put off gives, in a hundred turns, each read behind its happening.
+fn read_soon<W: Wires>(
+    rt: HostRuntime,
+    wires: &mut W,
+    conn: Conn,
+    into: &mut [u8],
+) -> io::Result<ReadAnswer>
+    requires { 0 < length into.old }
+{
+    for _ in 0..100 {
+        if wires.turn(Some(soon(rt)?)) != Happening::Readable(conn) {
+            continue;
+        }
+        match wires.read(conn, into) {
+            ReadAnswer::NotNow => {}
+            answer => return Ok(answer),
+        }
+    }
+    Ok(ReadAnswer::NotNow)
+}
+
+// What the first write that isn't put off does, in a hundred turns, each write behind its happening.
+fn write_soon<W: Wires>(
+    rt: HostRuntime,
+    wires: &mut W,
+    conn: Conn,
+    piece: &[u8],
+) -> io::Result<WriteAnswer>
+    requires { 0 < length piece.now }
+{
+    for _ in 0..100 {
+        if wires.turn(Some(soon(rt)?)) != Happening::Writable(conn) {
+            continue;
+        }
+        match wires.write(conn, piece) {
+            WriteAnswer::NotNow => {}
+            answer => return Ok(answer),
+        }
+    }
+    Ok(WriteAnswer::NotNow)
+}
+
+// Six octets go each way.
+fn exchange<W: Wires>(
+    rt: HostRuntime,
+    wires: &mut W,
+    peer: &mut net::TcpStream,
+) -> io::Result<bool> {
+    let mut read = [0; 10];
+    let mut answer = [0; 6];
+    peer.write_all(b"octets")?;
+    let came = read_soon(rt, wires, Conn(1), &mut read)?;
+    let given = wires.write(Conn(1), b"answer");
+    peer.read_exact(&mut answer)?;
+    Ok(
+        came == ReadAnswer::Some(6)
+            && read.starts_with(b"octets")
+            && given == WriteAnswer::Some(6)
+            && &answer == b"answer",
+    )
+}
+
+// The peer's close is read, and behind the own close nothing happens and nothing is done.
+fn ends<W: Wires>(rt: HostRuntime, wires: &mut W) -> io::Result<bool> {
+    let mut read = [0; 10];
+    let came = read_soon(rt, wires, Conn(1), &mut read)?;
+    wires.close(Conn(1));
+    let is_closed = wires.read(Conn(1), &mut read) == ReadAnswer::Failed
+        && wires.write(Conn(1), b"late") == WriteAnswer::Failed;
+    Ok(came == ReadAnswer::End && is_closed && wires.turn(Some(soon(rt)?)) == Happening::Quiet)
+}
+
+#[test]
+fn a_peer_is_accepted_read_answered_and_ends(rt: HostRuntime) -> Result<(), Fail> {
+    let address = free_address(rt)?;
+    let mut wires = MioWires::new(rt.alloc(), rt)?;
+    assert!(rt; wires.listen(address.as_str()).is_ok());
+    let mut peer = net::TcpStream::connect(&rt, address.as_str())?;
+    assert!(rt; accepted(rt, &mut wires)? == Some(Conn(1)));
+    assert!(rt; exchange(rt, &mut wires, &mut peer)?);
+    drop(peer);
+    assert!(rt; ends(rt, &mut wires)?);
+    Ok(())
+}
+
+#[test]
+fn a_peer_is_dialled_and_written_to(rt: HostRuntime) -> Result<(), Fail> {
+    let listener = net::TcpListener::bind(&rt, SocketAddr::from((Ipv4Addr::LOCALHOST, 0)))?;
+    let address = format!(in rt.alloc(); "{}", listener.local_addr()?)?;
+    let mut wires = MioWires::new(rt.alloc(), rt)?;
+    assert!(rt; wires.dial(address.as_str()) == Ok(Conn(1)));
+    assert!(rt; write_soon(rt, &mut wires, Conn(1), b"octets")? == WriteAnswer::Some(6));
+    let mut read = [0; 6];
+    listener.accept()?.0.read_exact(&mut read)?;
+    assert!(rt; &read == b"octets");
+    Ok(())
+}
+
+// Whether a dial that is refused, at once or later, is told as a failure.
+fn is_refused<W: Wires>(rt: HostRuntime, wires: &mut W, address: &str) -> io::Result<bool> {
+    let mut read = [0; 6];
+    match wires.dial(address) {
+        Ok(conn) => Ok(read_soon(rt, wires, conn, &mut read)? == ReadAnswer::Failed),
+        Err(Failed) => Ok(true),
+    }
+}
+
+#[test]
+fn calls_that_fail(rt: HostRuntime) -> Result<(), Fail> {
+    let listener = net::TcpListener::bind(&rt, SocketAddr::from((Ipv4Addr::LOCALHOST, 0)))?;
+    let taken = format!(in rt.alloc(); "{}", listener.local_addr()?)?;
+    let free = free_address(rt)?;
+    let mut wires = MioWires::new(rt.alloc(), rt)?;
+    for address in [
+        taken.as_str(),
+        "",
+        "localhost:4711",
+        "127.0.0.1",
+        "127.0.0.1:65536",
+    ] {
+        assert!(rt; wires.listen(address).is_err());
+    }
+    assert!(rt; wires.dial("localhost:4711").is_err());
+    assert!(rt; is_refused(rt, &mut wires, free.as_str())?);
+    Ok(())
+}
+
+#[test]
+fn no_more_are_accepted_than_can_be_open(rt: HostRuntime) -> Result<(), Fail> {
+    let address = free_address(rt)?;
+    let mut wires = MioWires::new(rt.alloc(), rt)?;
+    let mut peers = Vec::new(rt.alloc());
+    assert!(rt; wires.listen(address.as_str()).is_ok());
+    for number in 1..=MOST_CONNECTIONS as u64 {
+        peers.push(net::TcpStream::connect(&rt, address.as_str())?)?;
+        assert!(rt; accepted(rt, &mut wires)? == Some(Conn(number)));
+    }
+    peers.push(net::TcpStream::connect(&rt, address.as_str())?)?;
+    for _ in 0..10 {
+        assert!(rt; !matches!(wires.turn(Some(soon(rt)?)), Happening::Accepted(_)));
+    }
+    wires.close(Conn(9));
+    assert!(rt; accepted(rt, &mut wires)? == Some(Conn(MOST_CONNECTIONS as u64 + 1)));
+    Ok(())
+}
