@@ -115,7 +115,12 @@ fn add_turn(alloc: Global, index: u32, word: u32, steps: &mut Vec<Step>) -> Resu
 }
 
 /// The steps of one message for each word that is drawn, so many.
-fn add_turns<R: Rng>(alloc: Global, count: u32, rng: &mut R, steps: &mut Vec<Step>) -> Result<(), NoMemory>
+fn add_turns<R: Rng>(
+    alloc: Global,
+    count: u32,
+    rng: &mut R,
+    steps: &mut Vec<Step>,
+) -> Result<(), NoMemory>
     ensures { OnOk result (steps.new.items ≡ steps.old.items ++ turns 0 (words_drawn count (R.stream rng.old))) }
 {
     for index in 0..count {

@@ -39,10 +39,50 @@ fn tally_of(list: &[Step]) -> Tally {
 #[test]
 fn draws_who_sends_and_what_the_line_does(rt: HostRuntime) -> Result<(), Fail> {
     let rows = [
-        (0, 0, 2, Tally { by_engine: 0, lost: 0, repeated: 0, octets: 0 }),
-        (1, 100, 625, Tally { by_engine: 53, lost: 10, repeated: 13, octets: 9596 }),
-        (7, 1000, 6252, Tally { by_engine: 488, lost: 121, repeated: 129, octets: 101147 }),
-        (u64::MAX, 1000, 6238, Tally { by_engine: 497, lost: 126, repeated: 110, octets: 98613 }),
+        (
+            0,
+            0,
+            2,
+            Tally {
+                by_engine: 0,
+                lost: 0,
+                repeated: 0,
+                octets: 0,
+            },
+        ),
+        (
+            1,
+            100,
+            625,
+            Tally {
+                by_engine: 53,
+                lost: 10,
+                repeated: 13,
+                octets: 9596,
+            },
+        ),
+        (
+            7,
+            1000,
+            6252,
+            Tally {
+                by_engine: 488,
+                lost: 121,
+                repeated: 129,
+                octets: 101147,
+            },
+        ),
+        (
+            u64::MAX,
+            1000,
+            6238,
+            Tally {
+                by_engine: 497,
+                lost: 126,
+                repeated: 110,
+                octets: 98613,
+            },
+        ),
     ];
     for (seed, count, number, tally) in rows {
         let list = steps(rt.alloc(), seed, count)?;

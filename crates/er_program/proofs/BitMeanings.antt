@@ -20,6 +20,7 @@ means_read name file files p q c d f g before now status stands short has is pri
   usage = λ h. absurd (omega arith);
   fetch = λ h. absurd (omega arith);
   refused = λ h. absurd (omega arith);
+  keys = λ h. absurd (omega arith);
   sink = λ h. absurd (omega arith);
   memory = λ h. absurd (omega arith);
   overfull = λ h. absurd (omega arith);
@@ -34,6 +35,7 @@ means_long name file files p q c d f g before now status stands long has is prin
   usage = λ h. absurd (omega arith);
   fetch = λ h. absurd (omega arith);
   refused = λ h. record { file = file; stands = stands; long = long; printed = printed };
+  keys = λ h. absurd (omega arith);
   sink = λ h. absurd (omega arith);
   memory = λ h. absurd (omega arith);
   overfull = λ h. absurd (omega arith);
@@ -65,6 +67,7 @@ means_bits name None a files p q c d f g before now status asked rose answers st
       usage = λ h. absurd (omega arith);
       fetch = λ h. record { first = []; name = name; rest = []; is = refl; asked_for = asked; rose = rose; printed = rw answers at printed };
       refused = λ h. absurd (omega arith);
+      keys = λ h. absurd (omega arith);
       sink = λ h. absurd (omega arith);
       memory = λ h. absurd (omega arith);
       overfull = λ h. absurd (omega arith);

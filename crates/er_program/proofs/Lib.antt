@@ -7,3 +7,5 @@ pub mod RunMeanings
 pub mod HoldsAlways
 pub mod BitRuns
 pub mod BitMeanings
+pub mod KeyRuns
+pub mod KeyMeanings

@@ -12,13 +12,14 @@ use Rattle.drill_model.specs.declared.world_fault.WorldFault.TheVariants.{NoLink
 use Rattle.drill_model.specs.Texts.{drill_text}
 use Rattle.link_trait.specs.Outside.{Grew, GrewPart, Rose, HasFile}
 use Rattle.link_trait.specs.Growth.{grew_then}
-use Rattle.er_program.specs.Commands.{Command, Misused, Drill, Bits, names_of}
+use Rattle.er_program.specs.Commands.{Command, Misused, Drill, Bits, names_of, Migrate}
 use Rattle.er_program.specs.LastLines.{fault_line, why_word, fetch_line, usage_line, memory_line}
 use Rattle.er_program.specs.Answers.{Answer, HasFetched, IsFetchedAnswer, Files, FirstFault, AreDone, IsDrillAnswer, IsWhole, BreaksOff, IsScenarioAnswer, lines_of_first, fault_answer}
 use Rattle.er_program.specs.Runs.{HoldsAlways, BrokeOff, AreFirstLines, Means, HasStatus, IsSinkFailed, IsOutOfMemory, IsComplete}
 use Rattle.er_program.specs.Writing.{HasReadable, IsReadable, IsBegun, Finished, Broken, Exhausted, Exhausts}
 use Rattle.er_program.specs.declared.status.Status.{Status}
 use Rattle.er_program.proofs.BitMeanings.{means_bits}
+use Rattle.er_program.proofs.KeyMeanings.{means_migrate}
 
 -- what is claimed of the world holds at every moment of the steps that are done
 abbrev pub AlwaysHolds : Type 0
@@ -38,6 +39,7 @@ means_usage files p q c d f g before now status is printed = record {
   usage = λ h. printed;
   fetch = λ h. absurd (omega arith);
   refused = λ h. absurd (omega arith);
+  keys = λ h. absurd (omega arith);
   sink = λ h. absurd (omega arith);
   memory = λ h. absurd (omega arith);
   overfull = λ h. absurd (omega arith);
@@ -52,6 +54,7 @@ means_unfetched name files p q c d f g before now status asked is rose printed =
   usage = λ h. absurd (omega arith);
   fetch = λ h. record { first = []; name = name; rest = []; is = refl; asked_for = asked; rose = rose; printed = printed };
   refused = λ h. absurd (omega arith);
+  keys = λ h. absurd (omega arith);
   sink = λ h. absurd (omega arith);
   memory = λ h. absurd (omega arith);
   overfull = λ h. absurd (omega arith);
@@ -63,15 +66,17 @@ memory_complete : (command : Command) (files : Files) (c d f g status : ℕ) →
 memory_complete Misused files c d f g status is = λ fine. inr is
 memory_complete (Drill name) files c d f g status is = λ good fine. inr is
 memory_complete (Bits name) files c d f g status is = λ good fine. inr is
+memory_complete (Migrate keys) files c d f g status is = λ good fine. inr is
 
 means_memory : (command : Command) (files : Files) (p q : Names) (c d f g : ℕ) (before now : Option (List ℕ)) (status : ℕ)
     → status ≡ 7 → IsOutOfMemory command files before now → Means command files p q c d f g before now status
 means_memory command files p q c d f g before now status is out = record {
-  known = inr (inr (inr (inr (inr (inl is)))));
+  known = inr (inr (inr (inr (inr (inr (inl is))))));
   done = λ h. absurd (omega arith);
   usage = λ h. absurd (omega arith);
   fetch = λ h. absurd (omega arith);
   refused = λ h. absurd (omega arith);
+  keys = λ h. absurd (omega arith);
   sink = λ h. absurd (omega arith);
   memory = λ h. out;
   overfull = λ h. absurd (omega arith);
@@ -83,15 +88,17 @@ not_complete : (command : Command) (files : Files) (c d f g status : ℕ) → Ro
 not_complete Misused files c d f g status rose = λ fine. absurd (fine rose)
 not_complete (Drill name) files c d f g status rose = λ good fine. absurd (fine rose)
 not_complete (Bits name) files c d f g status rose = λ good fine. absurd (fine rose)
+not_complete (Migrate keys) files c d f g status rose = λ good fine. absurd (fine rose)
 
 means_sink : (command : Command) (files : Files) (p q : Names) (c d f g : ℕ) (before now : Option (List ℕ)) (status : ℕ)
     → status ≡ 5 → IsSinkFailed command files c d f g before now → Means command files p q c d f g before now status
 means_sink command files p q c d f g before now status is failed = record {
-  known = inr (inr (inr (inr (inl is))));
+  known = inr (inr (inr (inr (inr (inl is)))));
   done = λ h. absurd (omega arith);
   usage = λ h. absurd (omega arith);
   fetch = λ h. absurd (omega arith);
   refused = λ h. absurd (omega arith);
+  keys = λ h. absurd (omega arith);
   sink = λ h. failed;
   memory = λ h. absurd (omega arith);
   overfull = λ h. absurd (omega arith);
@@ -107,6 +114,7 @@ means_out_of_form name file line why files p q c d f g before now status stands 
   usage = λ h. absurd (omega arith);
   fetch = λ h. absurd (omega arith);
   refused = λ h. inl (record { file = file; stands = stands; line = line; why = why; unspelled = unspelled; printed = printed });
+  keys = λ h. absurd (omega arith);
   sink = λ h. absurd (omega arith);
   memory = λ h. absurd (omega arith);
   overfull = λ h. absurd (omega arith);
@@ -140,6 +148,7 @@ means_done name file s files p q c d f g before now status law stands spelled re
   usage = λ h. absurd (omega arith);
   fetch = λ h. absurd (omega arith);
   refused = λ h. absurd (omega arith);
+  keys = λ h. absurd (omega arith);
   sink = λ h. absurd (omega arith);
   memory = λ h. absurd (omega arith);
   overfull = λ h. absurd (omega arith);
@@ -155,6 +164,7 @@ means_refused name file files p q c d f g before now status is broke stands has 
   usage = λ h. absurd (omega arith);
   fetch = λ h. absurd (omega arith);
   refused = λ h. inr broke;
+  keys = λ h. absurd (omega arith);
   sink = λ h. absurd (omega arith);
   memory = λ h. absurd (omega arith);
   overfull = λ h. absurd (omega arith);
@@ -164,11 +174,12 @@ means_refused name file files p q c d f g before now status is broke stands has 
 means_overfull : (name file : List ℕ) (files : Files) (p q : Names) (c d f g : ℕ) (before now : Option (List ℕ)) (status : ℕ)
     → status ≡ 8 → BrokeOff name files 8 before now → HasFile files name file → HasStatus file status → Means (Drill name) files p q c d f g before now status
 means_overfull name file files p q c d f g before now status is broke stands has = record {
-  known = inr (inr (inr (inr (inr (inr is)))));
+  known = inr (inr (inr (inr (inr (inr (inr is))))));
   done = λ h. absurd (omega arith);
   usage = λ h. absurd (omega arith);
   fetch = λ h. absurd (omega arith);
   refused = λ h. absurd (omega arith);
+  keys = λ h. absurd (omega arith);
   sink = λ h. absurd (omega arith);
   memory = λ h. absurd (omega arith);
   overfull = λ h. broke;
@@ -281,6 +292,8 @@ means_finished law (Drill name) files p q c d before now f g status asked ends =
     means_fetched name given.fetched ends.answer files p q c d f g before now status asked law given.stands ends.is.readable given.is ends.stated ends.printed
 means_finished law (Bits name) files p q c d before now f g status asked ends =
     means_bits name ends.is.fetched ends.answer files p q c d f g before now status asked ends.is.stands ends.is.is ends.stated ends.printed
+means_finished law (Migrate keys) files p q c d before now f g status asked ends =
+    means_migrate keys ends.is.fetched ends.answer files p q c d f g before now status asked ends.is.stands ends.is.is ends.stated ends.printed
 
 -- a write failed
 pub means_broken : (command : Command) (files : Files) (p q : Names) (c d : ℕ) (before now : Option (List ℕ)) (f g : ℕ)
@@ -305,6 +318,7 @@ first_lines_hold law (Drill name) files text begun =
       })
     ]
 first_lines_hold law (Bits name) files text begun = begun
+first_lines_hold law (Migrate keys) files text begun = begun
 
 -- memory ran out, and the last line was written
 means_exhausted : AlwaysHolds → (command : Command) (files : Files) (p q : Names) (c d : ℕ) (before mid now : Option (List ℕ)) (f g h : ℕ)

@@ -12,8 +12,13 @@ use Rattle.drill_model.specs.Worlds.{plan_of, steps_of}
 use Rattle.drill_model.specs.Faults.{fault_behind}
 use Rattle.drill_model.specs.Texts.{first_lines, drill_text}
 use Rattle.link_trait.specs.Outside.{HasFile, Rose}
-use Rattle.er_program.specs.Commands.{Command, Misused, Drill, Bits}
+use Rattle.er_program.specs.Commands.{Command, Misused, Drill, Bits, Migrate}
 use Rattle.er_program.specs.BitTexts.{most_line_octets, bits_text}
+use Rattle.safety_automaton.specs.Keys.{Entry}
+use Rattle.key_store.specs.declared.key_file_fault.KeyFileFault.{KeyFileFault}
+use Rattle.key_store.specs.declared.key_file_fault.KeyFileFault.TheVariants as keys
+use Rattle.key_store.specs.KeyFiles.{keys_of}
+use Rattle.er_program.specs.KeyLines.{keys_line}
 use Rattle.er_program.specs.LastLines.{usage_line, fetch_line, fault_line, memory_line, overfull_line, why_word}
 
 pub record Answer : Type 0 where
@@ -108,6 +113,39 @@ pub record IsBitsAnswer (name : List ℕ) (files : Files) (c d : ℕ) (a : Answe
   pub stands : HasFetched name fetched files c d
   pub is : IsFetchedBits name fetched a
 
+-- ---- a key file
+
+-- a key file that is refused
+abbrev pub keys_answer : KeyFileFault → Answer
+keys_answer keys.Document = record { status = 4; text = keys_line keys.Document }
+keys_answer (keys.Field entry name) = record { status = 4; text = keys_line (keys.Field entry name) }
+keys_answer (keys.Hex entry) = record { status = 4; text = keys_line (keys.Hex entry) }
+keys_answer (keys.Number entry) = record { status = 4; text = keys_line (keys.Number entry) }
+keys_answer (keys.Range entry) = record { status = 4; text = keys_line (keys.Range entry) }
+keys_answer (keys.Twice first second) = record { status = 4; text = keys_line (keys.Twice first second) }
+keys_answer (keys.Version n) = record { status = 4; text = keys_line (keys.Version n) }
+keys_answer (keys.NoMemory want) = record { status = 7; text = memory_line }
+
+-- entries are printed as a key file that has them one by one, in order; its octets are those that TOML's printer gives, and nothing is
+-- claimed of them
+pub record IsKeyText (entries : List Entry) (a : Answer) : Type 0 where
+  pub stated : a.status ≡ 0
+  pub same : keys_of a.text ≡ Ok entries
+
+abbrev pub IsKeysAnswer : Result (List Entry) KeyFileFault → Answer → Type 0
+IsKeysAnswer (Ok entries) a = IsKeyText entries a
+IsKeysAnswer (Err fault) a = a ≡ keys_answer fault
+
+abbrev pub IsFetchedKeys : List ℕ → Option (List ℕ) → Answer → Type 0
+IsFetchedKeys name None a = a ≡ record { status = 2; text = fetch_line name }
+IsFetchedKeys name (Some file) a = IsKeysAnswer (keys_of file) a
+
+-- the answer to the file word of a key file that is printed
+pub record IsMigrateAnswer (name : List ℕ) (files : Files) (c d : ℕ) (a : Answer) : Type 0 where
+  pub fetched : Option (List ℕ)
+  pub stands : HasFetched name fetched files c d
+  pub is : IsFetchedKeys name fetched a
+
 -- ---- the words
 
 -- the answer to a command, by the files and the cabinet's count of faults before and after
@@ -115,3 +153,4 @@ abbrev pub IsAnswer : Command → Files → ℕ → ℕ → Answer → Type 0
 IsAnswer Misused files c d a = a ≡ record { status = 1; text = usage_line }
 IsAnswer (Drill name) files c d a = IsFileAnswer name files c d a
 IsAnswer (Bits name) files c d a = IsBitsAnswer name files c d a
+IsAnswer (Migrate keys) files c d a = IsMigrateAnswer keys files c d a

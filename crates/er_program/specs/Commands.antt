@@ -10,6 +10,8 @@ pub data Command : Type 0 where
   Drill : (name : List ℕ) → Command
   -- `bits FILE`: the file word
   Bits : (name : List ℕ) → Command
+  -- `migrate KEYS`: the file word
+  Migrate : (keys : List ℕ) → Command
 
 -- words as octets
 abbrev pub texts : List (String Global) → List (List ℕ)
@@ -19,7 +21,8 @@ texts words = map string_bytes words
 abbrev pub command_of_two : List ℕ → List ℕ → Command
 command_of_two command name =
     if bytes_eq command (codes "drill") then Drill name else
-    if bytes_eq command (codes "bits") then Bits name else Misused
+    if bytes_eq command (codes "bits") then Bits name else
+    if bytes_eq command (codes "migrate") then Migrate name else Misused
 
 abbrev pub command_of : List (List ℕ) → Command
 command_of [] = Misused
@@ -32,3 +35,4 @@ abbrev pub names_of : Command → List (List ℕ)
 names_of Misused = []
 names_of (Drill name) = name ∷ []
 names_of (Bits name) = name ∷ []
+names_of (Migrate keys) = keys ∷ []

@@ -7,3 +7,5 @@ pub mod Writing
 pub mod WriterSinks
 pub mod BitTexts
 pub mod BitWriting
+pub mod KeyLines
+pub mod KeyWriting

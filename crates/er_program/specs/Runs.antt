@@ -13,14 +13,18 @@ use Rattle.drill_model.specs.Texts.{drill_text}
 use Rattle.drill_model.specs.Kinds.{releases_in, IsOrderKeeping, IsLossFree}
 use Rattle.drill_model.specs.Headline.{opening_of, LawfulAt, IsInOrder, IsLosingLineReason, Delivers}
 use Rattle.link_trait.specs.Outside.{Grew, GrewPart, Rose, HasFile}
-use Rattle.er_program.specs.Commands.{Command, Misused, Drill, Bits, names_of}
+use Rattle.er_program.specs.Commands.{Command, Misused, Drill, Bits, names_of, Migrate}
 use Rattle.er_program.specs.LastLines.{usage_line, memory_line, fetch_line, fault_line, why_word}
-use Rattle.er_program.specs.Answers.{Answer, IsAnswer, IsScenarioAnswer, Files, FirstFault, AreDone, first_steps, lines_of_first, fault_answer, bits_answer}
+use Rattle.er_program.specs.Answers.{Answer, IsAnswer, IsScenarioAnswer, Files, FirstFault, AreDone, first_steps, lines_of_first, fault_answer, bits_answer, IsKeysAnswer}
 use Rattle.er_program.specs.BitTexts.{most_line_octets, verdict_lines, verdicts_in, bits_text}
+use Rattle.safety_automaton.specs.Keys.{Entry}
+use Rattle.key_store.specs.declared.key_file_fault.KeyFileFault.{KeyFileFault}
+use Rattle.key_store.specs.KeyFiles.{keys_of}
+use Rattle.er_program.specs.KeyLines.{keys_line}
 
 -- the closed list of statuses
 abbrev pub IsStatus : ℕ → Type 0
-IsStatus s = (s ≡ 0) ⊎ (s ≡ 1) ⊎ (s ≡ 2) ⊎ (s ≡ 3) ⊎ (s ≡ 5) ⊎ (s ≡ 7) ⊎ (s ≡ 8)
+IsStatus s = (s ≡ 0) ⊎ (s ≡ 1) ⊎ (s ≡ 2) ⊎ (s ≡ 3) ⊎ (s ≡ 4) ⊎ (s ≡ 5) ⊎ (s ≡ 7) ⊎ (s ≡ 8)
 
 -- ---- what holds of a world
 
@@ -69,10 +73,21 @@ pub record BitsRead (name : List ℕ) (files : Files) (before now : Option (List
   pub short : length file ≤ most_line_octets
   pub printed : Grew before now (bits_text file)
 
+-- the file of that name is a key file, and one that has its entries, one by one in order, was written
+pub record Migrated (name : List ℕ) (files : Files) (before now : Option (List ℕ)) : Type 0 where
+  pub file : List ℕ
+  pub stands : HasFile files name file
+  pub entries : List Entry
+  pub spelled : keys_of file ≡ Ok entries
+  pub text : List ℕ
+  pub printed : Grew before now text
+  pub same : keys_of text ≡ Ok entries
+
 abbrev pub IsDone : Command → Files → Option (List ℕ) → Option (List ℕ) → Type 0
 IsDone Misused files before now = ⊥
 IsDone (Drill name) files before now = Drilled name files before now
 IsDone (Bits name) files before now = BitsRead name files before now
+IsDone (Migrate keys) files before now = Migrated keys files before now
 
 -- ---- status 1
 
@@ -80,6 +95,7 @@ abbrev pub IsMisused : Command → Option (List ℕ) → Option (List ℕ) → T
 IsMisused Misused before now = Grew before now usage_line
 IsMisused (Drill name) before now = ⊥
 IsMisused (Bits name) before now = ⊥
+IsMisused (Migrate keys) before now = ⊥
 
 -- ---- status 2
 
@@ -126,12 +142,31 @@ abbrev pub IsRefused : Command → Files → Option (List ℕ) → Option (List 
 IsRefused Misused files before now = ⊥
 IsRefused (Drill name) files before now = IsOutOfForm name files before now ⊎ BrokeOff name files 3 before now
 IsRefused (Bits name) files before now = BitsTooLong name files before now
+IsRefused (Migrate keys) files before now = ⊥
 
 -- status 8: a frame would be one more than may wait in one direction
 abbrev pub IsOverfull : Command → Files → Option (List ℕ) → Option (List ℕ) → Type 0
 IsOverfull Misused files before now = ⊥
 IsOverfull (Drill name) files before now = BrokeOff name files 8 before now
 IsOverfull (Bits name) files before now = ⊥
+IsOverfull (Migrate keys) files before now = ⊥
+
+-- ---- status 4
+
+-- the file of that name, which was asked for last, is a key file that is refused: its first fault, which is printed alone
+pub record AreKeysRefused (name : List ℕ) (files : Files) (asked asked_now : Option (List (List ℕ))) (before now : Option (List ℕ)) : Type 0 where
+  pub asked_for : Grew asked asked_now (name ∷ [])
+  pub file : List ℕ
+  pub stands : HasFile files name file
+  pub fault : KeyFileFault
+  pub refused : keys_of file ≡ Err fault
+  pub printed : Grew before now (keys_line fault)
+
+abbrev pub IsKeyless : Command → Files → Option (List (List ℕ)) → Option (List (List ℕ)) → Option (List ℕ) → Option (List ℕ) → Type 0
+IsKeyless Misused files asked asked_now before now = ⊥
+IsKeyless (Drill name) files asked asked_now before now = ⊥
+IsKeyless (Bits name) files asked asked_now before now = ⊥
+IsKeyless (Migrate keys) files asked asked_now before now = AreKeysRefused keys files asked asked_now before now
 
 -- ---- status 7
 
@@ -156,6 +191,7 @@ abbrev pub AreFirstLines : Command → Files → List ℕ → Type 0
 AreFirstLines Misused files text = text ≡ []
 AreFirstLines (Drill name) files text = (text ≡ []) ⊎ FirstLines name files text
 AreFirstLines (Bits name) files text = (text ≡ []) ⊎ FirstVerdictLines name files text
+AreFirstLines (Migrate keys) files text = text ≡ []
 
 -- want of memory: the sink got the lines of some first steps, and then the last line
 pub record IsOutOfMemory (command : Command) (files : Files) (before now : Option (List ℕ)) : Type 0 where
@@ -195,6 +231,12 @@ pub record HasStatus (file : List ℕ) (status : ℕ) : Type 0 where
   pub is : status ≡ answer.status
   pub all_done : (scenario : Scenario) → scenario_of file ≡ Ok scenario → AreDone scenario (length scenario.steps) → status ≡ 0
 
+-- a key file's status is that of its answer: 0 where it has entries
+pub record HasKeysStatus (file : List ℕ) (status : ℕ) : Type 0 where
+  pub answer : Answer
+  pub answers : IsKeysAnswer (keys_of file) answer
+  pub is : status ≡ answer.status
+
 -- where the counts of cabinet and sink didn't rise, the words and the file give their status, want of memory aside
 abbrev pub IsComplete : Command → Files → ℕ → ℕ → ℕ → ℕ → ℕ → Type 0
 IsComplete Misused files c d f g status = (Rose f g → ⊥) → (status ≡ 1) ⊎ (status ≡ 7)
@@ -204,6 +246,9 @@ IsComplete (Drill name) files c d f g status =
 IsComplete (Bits name) files c d f g status =
     (Rose c d → ⊥) → (Rose f g → ⊥)
     → ((file : List ℕ) × HasFile files name file × (status ≡ (bits_answer file).status)) ⊎ (status ≡ 7)
+IsComplete (Migrate keys) files c d f g status =
+    (Rose c d → ⊥) → (Rose f g → ⊥)
+    → ((file : List ℕ) × HasFile files keys file × HasKeysStatus file status) ⊎ (status ≡ 7)
 
 -- ---- a run
 
@@ -214,6 +259,7 @@ pub record Means (command : Command) (files : Files) (asked asked_now : Option (
   pub usage : status ≡ 1 → IsMisused command before now
   pub fetch : status ≡ 2 → IsUnfetched command asked asked_now c d before now
   pub refused : status ≡ 3 → IsRefused command files before now
+  pub keys : status ≡ 4 → IsKeyless command files asked asked_now before now
   pub sink : status ≡ 5 → IsSinkFailed command files c d f g before now
   pub memory : status ≡ 7 → IsOutOfMemory command files before now
   pub overfull : status ≡ 8 → IsOverfull command files before now

@@ -19,6 +19,11 @@ pub enum Command<'a> {
         /// The name of the file.
         name: &'a str,
     },
+    /// `migrate KEYS`.
+    Migrate {
+        /// The name of the key file.
+        keys: &'a str,
+    },
 }
 
 fn command_of_two<'a>(command: &str, name: &'a str) -> Command<'a>
@@ -28,6 +33,8 @@ fn command_of_two<'a>(command: &str, name: &'a str) -> Command<'a>
         Command::Drill { name }
     } else if command == "bits" {
         Command::Bits { name }
+    } else if command == "migrate" {
+        Command::Migrate { keys: name }
     } else {
         Command::Misused
     }

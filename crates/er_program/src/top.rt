@@ -6,12 +6,13 @@ ghost use Rattle.link_trait.specs.Outside.{Grew, GrewPart, Kept};
 ghost use Rattle.er_program.specs.Commands.{Drill, command_of, names_of, texts};
 ghost use Rattle.er_program.specs.CommandViews.{command_view};
 ghost use Rattle.er_program.specs.Writing.{EndsFile, Ends};
-ghost use Rattle.er_program.specs.Runs.{Means, IsStatus, IsDone, IsMisused, IsUnfetched, IsRefused, IsSinkFailed, IsOutOfMemory, IsOverfull, IsComplete};
+ghost use Rattle.er_program.specs.Runs.{Means, IsStatus, IsDone, IsMisused, IsUnfetched, IsRefused, IsKeyless, IsSinkFailed, IsOutOfMemory, IsOverfull, IsComplete};
 
 use crate::bits::bits_run;
 use crate::command::{Command, command_from};
 use crate::drill::drill;
 use crate::endings::{misused, out_of_form, out_of_memory, unfetched};
+use crate::migrate::migrate_run;
 use crate::status::Status;
 use crate::stop::Stop;
 use er_base::TextFault;
@@ -74,6 +75,7 @@ fn answered<F: Cabinet, K: Sink>(
         Command::Misused => misused(sink),
         Command::Drill { name } => drill_run(alloc, name, cabinet, sink),
         Command::Bits { name } => bits_run(alloc, name, cabinet, sink),
+        Command::Migrate { keys } => migrate_run(alloc, keys, cabinet, sink),
     }
 }
 
@@ -111,13 +113,15 @@ fn ran<F: Cabinet, K: Sink>(
 ///
 /// `drill SCENARIO` fetches the file SCENARIO, does its steps and prints their text, the lines of each step as soon as
 /// it is done. `bits FILE` fetches the file FILE, a recorded line of at most 16,777,216 octets, reads its bits as frames
-/// and prints a line for each verdict as soon as it comes, and then how many bits and frames there are. The statuses:
+/// and prints a line for each verdict as soon as it comes, and then how many bits and frames there are. `migrate KEYS`
+/// fetches the key file KEYS and prints one of version 2 that has its entries, one by one in order. The statuses:
 ///
 /// - 0: the file was read to its end, all its steps are done and all was printed.
 /// - 1: the words fit no command; `! usage` is printed.
 /// - 2: the fetch of the file failed; `! fetch SCENARIO` is printed, with the file's name.
 /// - 3: the file is out of its grammar; `! line LINE WHY` is printed alone. A recorded line is too long: `! line 0 long`. Or a step is refused; behind the lines of the
 ///   steps before it, `! line LINE nolink`, `! line LINE twice` or `! line LINE back` is printed.
+/// - 4: the key file is refused; `! keys` is printed with its first fault, as `! keys twice 1 2`.
 /// - 5: a write to the sink failed, in place of any other status; nothing is written after it.
 /// - 7: memory ran out; what was printed stays, and `! memory` is printed. It may come in place of any other.
 /// - 8: a frame would be one more than may wait in one direction; behind the lines of the steps before it,
@@ -139,6 +143,8 @@ pub fn run<F: Cabinet, K: Sink>(
         (F.faults cabinet.old) (F.faults cabinet.new) (K.held sink.old) (K.held sink.new) }
     ensures refused { result.0 ≡ 3 → IsRefused (command_of (texts words.now)) (F.files cabinet.new) (K.held sink.old)
         (K.held sink.new) }
+    ensures keys { result.0 ≡ 4 → IsKeyless (command_of (texts words.now)) (F.files cabinet.new) (F.asked cabinet.old)
+        (F.asked cabinet.new) (K.held sink.old) (K.held sink.new) }
     ensures sink { result.0 ≡ 5
         → IsSinkFailed (command_of (texts words.now)) (F.files cabinet.new) (F.faults cabinet.old)
         (F.faults cabinet.new)

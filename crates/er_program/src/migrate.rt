@@ -1,0 +1,61 @@
+//! `migrate KEYS`: a key file, printed as one of version 2.
+
+ghost use Rattle.std.specs.Prelude.{◌≡◌, ◌≤◌, [], ◌∷◌, Ok, IfOk};
+ghost use Rattle.link_trait.specs.Outside.{Grew, GrewPart, Kept};
+ghost use Rattle.key_store.specs.KeyFiles.{keys_of};
+ghost use Rattle.er_program.specs.Answers.{IsKeyText, IsKeysAnswer};
+ghost use Rattle.er_program.specs.Commands.{Migrate};
+ghost use Rattle.er_program.specs.KeyWriting.{GivesOne};
+ghost use Rattle.er_program.specs.Writing.{Ends};
+
+use crate::endings::{last, unfetched};
+use crate::key_lines::keys_refused;
+use crate::status::Status;
+use crate::stop::Stop;
+use key_store::KeyStore;
+use link_trait::{Cabinet, FetchFault, Sink};
+use std::alloc::Global;
+
+// Prints the entries of a store.
+fn print_keys<K: Sink>(alloc: Global, store: &KeyStore, sink: &mut K) -> Result<Status, Stop>
+    ensures ends { GivesOne (IsKeyText store.now) (K.held sink.old) (K.held sink.new) (K.faults sink.old)
+        (K.faults sink.new) result }
+    ensures sink_count { K.faults sink.old ≤ K.faults sink.new }
+{
+    let text = store.to_text(alloc)?;
+    last(0, text.as_slice(), sink)
+}
+
+// The octets of the file.
+fn migrate_file<K: Sink>(alloc: Global, octets: &[u8], sink: &mut K) -> Result<Status, Stop>
+    ensures ends { GivesOne (IsKeysAnswer (keys_of octets.now)) (K.held sink.old) (K.held sink.new) (K.faults sink.old)
+        (K.faults sink.new) result }
+    ensures sink_count { K.faults sink.old ≤ K.faults sink.new }
+{
+    match KeyStore::from_bytes(alloc, octets) {
+        Ok(store) => print_keys(alloc, &store, sink),
+        Err(fault) => keys_refused(alloc, fault, sink),
+    }
+}
+
+/// `migrate KEYS`: fetches the key file, and prints one of version 2 that has its entries.
+pub fn migrate_run<F: Cabinet, K: Sink>(
+    alloc: Global,
+    name: &str,
+    cabinet: &mut F,
+    sink: &mut K,
+) -> Result<Status, Stop>
+    ensures ends { Ends (Migrate name.now) (F.files cabinet.new) (F.faults cabinet.old) (F.faults cabinet.new)
+        (K.held sink.old) (K.held sink.new) (K.faults sink.old) (K.faults sink.new) result }
+    ensures asked { IfOk result (λ _. Grew (F.asked cabinet.old) (F.asked cabinet.new) (name.now ∷ [])) }
+    ensures part { GrewPart (F.asked cabinet.old) (F.asked cabinet.new) (name.now ∷ []) }
+    ensures files { Kept (F.files cabinet.old) (F.files cabinet.new) }
+    ensures count { F.faults cabinet.old ≤ F.faults cabinet.new }
+    ensures sink_count { K.faults sink.old ≤ K.faults sink.new }
+{
+    match cabinet.fetch(alloc, name) {
+        Ok(octets) => migrate_file(alloc, octets.as_slice(), sink),
+        Err(FetchFault::Failed) => unfetched(alloc, name, sink),
+        Err(FetchFault::NoMemory(want)) => Err(Stop::NoMemory(want)),
+    }
+}

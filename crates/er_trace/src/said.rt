@@ -1,0 +1,17 @@
+use crate::event::Event;
+
+/// What a line behind the header says.
+#[derive(Drop)]
+pub enum Said {
+    /// An event.
+    Happens {
+        /// Its moment.
+        moment: u64,
+        /// Its connection.
+        conn: u64,
+        /// What came.
+        event: Event,
+    },
+    /// An outcome, which is dropped.
+    Tells,
+}

@@ -1,0 +1,4 @@
+pub mod Entries
+pub mod Twices
+pub mod Tables
+pub mod ReadBack

@@ -1,0 +1,6 @@
+pub mod Fields
+pub mod KeyFiles
+pub mod Ranges
+pub mod Answers
+pub mod Kept
+pub mod Written

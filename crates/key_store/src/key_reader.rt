@@ -1,0 +1,194 @@
+//! The entries of a key file, one by one, and the first two that are of one pair at one moment.
+
+ghost use Rattle.std.specs.Prelude.{◌≡◌, ◌+◌, ◌<◌, ◌≤◌, ◌^◌, [], ◌∷◌, ◌++◌, length, map, IfOk, IfSome, OnOk};
+ghost use Rattle.toml.specs.View.{view, items_view};
+ghost use Rattle.key_store.specs.declared.key_file_fault.KeyFileFault.TheVariants as fault;
+ghost use Rattle.key_store.specs.KeyFiles.{some_or, number_in_field, kmac_spelled, kmac_in_field, moments_in, entry_in, entries_in, three_keys, place_at_once, first_twice};
+ghost use Rattle.key_store.specs.Ranges.{IsKey, IsInRange, AreInRange};
+ghost use Rattle.key_store.specs.Kept.{entry_of, Gives};
+
+use crate::field_name::FieldName;
+use crate::key_entry::KeyEntry;
+use crate::key_file_fault::KeyFileFault;
+use crate::version::Version;
+use des_block::TripleKey;
+use er_base::{LineFault, NoMemory, number_of, read_exact};
+use std::alloc::Global;
+use toml::Value;
+
+/// The greatest ETCS number.
+const GREATEST_NUMBER: u64 = 16_777_215;
+/// The greatest moment, in milliseconds.
+const GREATEST_MOMENT: u64 = 1_000_000_000_000_000;
+/// The octets of three keys.
+const KEY_OCTETS: usize = 24;
+
+// A whole number from 0 to `most`.
+#[tactic(auto, unfolding(crate::specs::KeyFiles::number_in_field))]
+fn read_number(entry: usize, name: FieldName, most: u64, key: &Value) -> Result<u64, KeyFileFault>
+    ensures value { result ≡ number_in_field entry name most (view key.now) }
+    ensures range { IfOk result (λ n. n ≤ most) }
+{
+    let Some(value) = key.get(name.word()) else {
+        return Err(KeyFileFault::Field { entry, name });
+    };
+    let Some(number) = value.as_integer() else {
+        return Err(KeyFileFault::Field { entry, name });
+    };
+    if number < 0 {
+        return Err(KeyFileFault::Number { entry });
+    }
+    let number = number as u64;
+    if number > most {
+        return Err(KeyFileFault::Number { entry });
+    }
+    Ok(number)
+}
+
+// Three keys of eight octets.
+#[tactic(auto, unfolding(crate::specs::KeyFiles::three_keys))]
+fn keys(octets: &[u8]) -> Option<TripleKey>
+    requires { length octets.now ≡ 24 }
+    ensures keys { result ≡ Some (three_keys octets.now) }
+    ensures range { IfSome result (λ kmac. IsKey kmac) }
+{
+    let Some((first, rest)) = octets.split_first_chunk::<8>() else {
+        return None;
+    };
+    let Some((second, rest)) = rest.split_first_chunk::<8>() else {
+        return None;
+    };
+    let Some((third, _)) = rest.split_first_chunk::<8>() else {
+        return None;
+    };
+    Some(TripleKey {
+        first: number_of(first),
+        second: number_of(second),
+        third: number_of(third),
+    })
+}
+
+// The KMAC that a string spells.
+#[tactic(auto, unfolding(crate::specs::KeyFiles::kmac_spelled))]
+fn kmac_of(alloc: Global, entry: usize, word: &str) -> Result<TripleKey, KeyFileFault>
+    ensures said { Gives (λ kmac. kmac) result (some_or (fault.Hex entry) (kmac_spelled word.now)) }
+    ensures range { IfOk result (λ kmac. IsKey kmac) }
+{
+    match read_exact(alloc, word.as_bytes(), KEY_OCTETS) {
+        Ok(octets) => match keys(octets.as_slice()) {
+            Some(kmac) => Ok(kmac),
+            None => Err(KeyFileFault::Hex { entry }),
+        },
+        Err(LineFault::Refused(_)) => Err(KeyFileFault::Hex { entry }),
+        Err(LineFault::NoMemory(want)) => Err(KeyFileFault::NoMemory(want)),
+    }
+}
+
+// A KMAC of 48 hexadecimal digits.
+#[tactic(auto, unfolding(crate::specs::KeyFiles::kmac_in_field))]
+fn read_kmac(alloc: Global, entry: usize, key: &Value) -> Result<TripleKey, KeyFileFault>
+    ensures said { Gives (λ kmac. kmac) result (kmac_in_field entry (view key.now)) }
+    ensures range { IfOk result (λ kmac. IsKey kmac) }
+{
+    let name = FieldName::Kmac;
+    let Some(value) = key.get(name.word()) else {
+        return Err(KeyFileFault::Field { entry, name });
+    };
+    let Some(word) = value.as_str() else {
+        return Err(KeyFileFault::Field { entry, name });
+    };
+    kmac_of(alloc, entry, word)
+}
+
+// The first and the last moment.
+#[tactic(auto, unfolding(crate::specs::KeyFiles::moments_in))]
+fn read_moments(version: Version, entry: usize, key: &Value) -> Result<(u64, u64), KeyFileFault>
+    ensures said { result ≡ moments_in version entry (view key.now) }
+    ensures range { IfOk result (λ moments. (moments.0 ≤ moments.1) × (moments.1 ≤ 1000000000000000)) }
+{
+    match version {
+        Version::One => Ok((0, GREATEST_MOMENT)),
+        Version::Two => {
+            let first = read_number(entry, FieldName::From, GREATEST_MOMENT, key)?;
+            let last = read_number(entry, FieldName::To, GREATEST_MOMENT, key)?;
+            if first > last {
+                return Err(KeyFileFault::Range { entry });
+            }
+            Ok((first, last))
+        }
+    }
+}
+
+// One entry.
+#[tactic(auto, unfolding(crate::specs::KeyFiles::entry_in))]
+fn read_entry(
+    alloc: Global,
+    version: Version,
+    entry: usize,
+    key: &Value,
+) -> Result<KeyEntry, KeyFileFault>
+    ensures said { Gives entry_of result (entry_in version entry (view key.now)) }
+    ensures range { IfOk result (λ entry. IsInRange (entry_of entry)) }
+{
+    let engine = read_number(entry, FieldName::Engine, GREATEST_NUMBER, key)? as u32;
+    let rbc = read_number(entry, FieldName::Rbc, GREATEST_NUMBER, key)? as u32;
+    let kmac = read_kmac(alloc, entry, key)?;
+    let (first, last) = read_moments(version, entry, key)?;
+    Ok(KeyEntry {
+        engine,
+        rbc,
+        kmac,
+        first,
+        last,
+    })
+}
+
+fn push(entries: &mut Vec<KeyEntry>, entry: KeyEntry) -> Result<(), NoMemory>
+    ensures { OnOk result (entries.new.items ≡ entries.old.items ++ entry ∷ []) }
+{
+    Ok(entries.push(entry)?)
+}
+
+/// All entries, in their order, or the first one's fault that has one.
+#[tactic(auto, unfolding(crate::specs::KeyFiles::entries_in))]
+pub fn read_entries(
+    alloc: Global,
+    version: Version,
+    keys: &[Value],
+) -> Result<Vec<KeyEntry>, KeyFileFault>
+    ensures said { Gives (λ entries. map entry_of entries.items) result (entries_in version 0 (items_view keys.now)) }
+    ensures range { IfOk result (λ entries. AreInRange (map entry_of entries.items)) }
+{
+    let mut entries = Vec::new(alloc);
+    for (before, key) in keys.iter().enumerate() {
+        let read = read_entry(alloc, version, before + 1, key)?;
+        push(&mut entries, read)?;
+    }
+    Ok(entries)
+}
+
+// The place, from 1, of the first of these entries that is of one pair with another and has a moment in common with it.
+#[tactic(auto, unfolding(crate::specs::KeyFiles::place_at_once))]
+fn place_at_once(entries: &[KeyEntry], entry: &KeyEntry) -> Option<usize>
+    ensures { result ≡ place_at_once 0 (map entry_of entries.now) (entry_of entry.now) }
+{
+    for (before, other) in entries.iter().enumerate() {
+        if other.is_at_once(entry) {
+            return Some(before + 1);
+        }
+    }
+    None
+}
+
+/// The least entry that has an earlier one of the same pair with a moment in common, behind the least such earlier one.
+#[tactic(auto, unfolding(crate::specs::KeyFiles::first_twice))]
+pub fn first_twice(entries: &[KeyEntry]) -> Option<(usize, usize)>
+    ensures { result ≡ first_twice [] (map entry_of entries.now) }
+{
+    for (before, entry) in entries.iter().enumerate() {
+        if let Some(first) = place_at_once(&entries[..before], entry) {
+            return Some((first, before + 1));
+        }
+    }
+    None
+}

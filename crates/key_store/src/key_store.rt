@@ -1,0 +1,72 @@
+ghost use Rattle.std.specs.Prelude.{◌≡◌, Ok, IfOk};
+ghost use Rattle.key_store.specs.KeyFiles.{keys_of};
+ghost use Rattle.key_store.specs.Answers.{Answers};
+
+use crate::document::{listed_keys, read_document, read_version};
+use crate::key_entry::KeyEntry;
+use crate::key_file_fault::KeyFileFault;
+use crate::key_reader::{first_twice, read_entries};
+use crate::key_writer::key_text;
+use des_block::TripleKey;
+use er_base::NoMemory;
+use safety_automaton::KeyFinder;
+use std::alloc::Global;
+use std::marker::Model;
+
+/// The entries of a key file, which contracts see as their list. Printed for debugging, it shows no key.
+#[derive(Debug, Drop)]
+pub struct KeyStore {
+    entries: Vec<KeyEntry>,
+}
+
+impl Model for KeyStore {
+    ghost use Rattle.std.specs.Prelude.{List, map};
+    ghost use Rattle.safety_automaton.specs.Keys.{Entry, AreDistinct};
+    ghost use Rattle.key_store.specs.Ranges.{AreInRange};
+    ghost use Rattle.key_store.specs.Kept.{entry_of};
+
+    ghost Value = { List Entry };
+
+    ghost view = { λ s. map entry_of s.entries.items };
+
+    ghost invariant = { λ s. AreDistinct (map entry_of s.entries.items) × AreInRange (map entry_of s.entries.items) };
+}
+
+impl KeyStore {
+    /// The entries of a key file, whose octets these are.
+    ///
+    /// A file that is refused is refused by its first fault: the document, its version, its list, then entry by entry its
+    /// fields in their order, at last two entries of one pair that have a moment in common.
+    #[tactic(auto, unfolding(crate::specs::KeyFiles::keys_of))]
+    pub fn from_bytes(alloc: Global, bytes: &[u8]) -> Result<KeyStore, KeyFileFault>
+        ensures exact { Answers result (keys_of bytes.now) }
+    {
+        let document = read_document(alloc, bytes)?;
+        let version = read_version(&document)?;
+        let entries = read_entries(alloc, version, listed_keys(&document)?)?;
+        match first_twice(entries.as_slice()) {
+            Some((first, second)) => Err(KeyFileFault::Twice { first, second }),
+            None => Ok(KeyStore { entries }),
+        }
+    }
+
+    /// A key file of version 2 with these entries, one by one in their order.
+    pub fn to_text(&self, alloc: Global) -> Result<Vec<u8>, NoMemory>
+        ensures read_back { IfOk result (λ text. keys_of text.items ≡ Ok self.now) }
+    {
+        key_text(alloc, self.entries.as_slice())
+    }
+}
+
+impl KeyFinder for KeyStore {
+    ghost entries = { λ entries. entries };
+
+    fn find(&self, engine: u32, rbc: u32, now: u64) -> Option<TripleKey> {
+        for entry in self.entries.as_slice() {
+            if entry.is_of(engine, rbc, now) {
+                return Some(entry.kmac);
+            }
+        }
+        None
+    }
+}

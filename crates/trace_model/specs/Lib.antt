@@ -1,0 +1,4 @@
+pub mod Connections
+pub mod Printed
+pub mod Checks
+pub mod Replays
