@@ -1,0 +1,7 @@
+//! The lines of a trace that tell what an event at an end came to (this profile): what replays a trace and what records one print them
+//! alike.
+#![tactic(auto)]
+
+mod lines;
+
+pub use lines::{tell, tell_empty, tell_octets, tell_refused, tell_taken};

@@ -1,0 +1,148 @@
+-- What is known of all connections of a run holds of a dial too: its one connection is opened by a call.
+use Rattle.std.proofs.Common.{if◌then◌else◌, ◌≡◌, ℕ, ◌<◌, max, inl, inr, Bool, false, List, [], ◌∷◌, ◌++◌, Option, Some, None, refl, sym, ◌∙◌, subst, arith, eqb-true, ne_eqb}
+use Rattle.std.specs.Prelude.{◌==◌}
+use Rattle.std.proofs.lemmas.Bool.{cases_Bool}
+use Rattle.er_trace.specs.declared.event.Event.TheVariants as event
+use Rattle.er_users.specs.Users.{Mind}
+use Rattle.rand_core.specs.Stream.{next_u64}
+use Rattle.link_trait.specs.Wires.{Call, Dials, Closes}
+use Rattle.loop_model.specs.Journals.{Entry}
+use Rattle.loop_model.specs.Outs.{first_of}
+use Rattle.loop_model.specs.Sessions.{Session, Given, Begins, fed, nothing_said, handled}
+use Rattle.loop_model.specs.Visits.{Met, rests, served}
+use Rattle.loop_model.specs.Loops.{Plan, rules_of, Loop, next_user, begun, Caller, calling, called_by, called, Course, asks, Turn, run, Dialled, opens, dials_to, dials}
+use Rattle.loop_model.specs.Parts.{session_of, of, calls_at, opened_in, Rises, newest}
+use Rattle.loop_model.proofs.Projections.{of-append, opened_in-append, rises_rest}
+use Rattle.loop_model.proofs.Steadies.{Steady, Usual, Calls, Left, Stays, Closed, steady_handled, follows_handled, left_rests}
+use Rattle.loop_model.proofs.Lives.{Own, Keeps, LeftAt, own_left, fits_left, Fits, Apart, Knows, knows_on}
+use Rattle.loop_model.proofs.Owns.{own_steady}
+
+any_usual : Usual (λ g. Unit {0})
+any_usual = record { sends = λ text. tt; leaves = λ sub. tt; takes = tt }
+
+-- the session that an opening leaves
+abbrev list_of : Option Session → List Session
+list_of None = []
+list_of (Some s) = s ∷ []
+
+abbrev IsNumbered : ℕ → Option Session → Type 0
+IsNumbered conn None = Unit {0}
+IsNumbered conn (Some s) = s.number ≡ conn
+
+session_left : (conn n : ℕ) (left : Option Session) → IsNumbered conn left → session_of n (list_of left) ≡ (if conn == n then left else None)
+unfolding session_of
+session_left conn n None p = elim (cases_Bool (conn == n)) [ inl q ↦ rw q refl | inr q ↦ rw q refl ]
+session_left conn n (Some s) p = subst (λ z. (if s.number == n then Some s else None) ≡ (if z == n then Some s else None)) p refl
+
+apart_left : (left : Option Session) → Apart (list_of left)
+unfolding Apart session_of
+apart_left None = tt
+apart_left (Some s) = (refl, tt)
+
+if_false : {A : Type 0} (b : Bool) (x y : A) → b ≡ false → (if b then x else y) ≡ y
+if_false b x y p = rw p refl
+
+module _ (plan : Plan) (caller : Caller) (Allowed : Given → Type 0) (Q : Session → Session → List Entry → List Call → Type 0) (q : Steady (rules_of plan) Allowed Q) (usual : Usual Allowed)
+    (c : Calls (rules_of plan) Q) (own : (s t : Session) (xs : List Entry) (cs : List Call) → Q s t xs cs → Own s t xs cs)
+    (K : Session → List Entry → List Call → Type 0) (E : List Entry → List Call → Type 0) (k : Keeps plan Q K E)
+    (at : ℕ) (first : (l : Loop) (conn : ℕ) (mind : Mind) → l.moment ≡ at
+    → K (fed (rules_of plan) l.moment (begun conn (calling plan caller l) mind) (Begins caller.engine plan.rbc (next_u64 l.words).0)).0
+    (fed (rules_of plan) l.moment (begun conn (calling plan caller l) mind) (Begins caller.engine plan.rbc (next_u64 l.words).0)).1 [])
+  where
+    abbrev Known : List Entry → List Call → List Session → Type 0
+    Known js bs ss = Knows plan Q c own K E k js bs ss
+
+    -- what an opening leaves
+    knows_left : (conn : ℕ) (address : List ℕ) (t : Session) (xs ys : List Entry) (ds : List Call) (left : Option Session)
+        → t.number ≡ conn → IsNumbered conn left → ((n : ℕ) → of n xs ≡ (if conn == n then xs else [])) → K t xs [] → LeftAt plan Q c own K E k t left ys ds
+        → Known (xs ++ ys) (Dials address (Some conn) ∷ ds) (list_of left)
+    unfolding calls_at opened_in Fits
+    knows_left conn address t xs ys ds left num is_left mine h l =
+        let o = own_left plan Q c own K E k t left ys ds l in
+        let entries : (n : ℕ) → of n ys ≡ (if conn == n then ys else []) = λ n. subst (λ z. of n ys ≡ (if z == n then ys else [])) num (o.entries n) in
+        let calls : (n : ℕ) → calls_at n ds ≡ (if conn == n then ds else []) = λ n. subst (λ z. calls_at n ds ≡ (if z == n then ds else [])) num (o.calls n) in
+        record {
+          fits = λ n.
+              rw (of-append n xs ys, mine n, entries n, calls n, session_left conn n left is_left)
+              (elim (cases_Bool (conn == n)) [
+                | inl p ↦ rw p (fits_left plan Q c own K E k t left n xs ys [] ds (num ∙ eqb-true conn n p) h l)
+                | inr p ↦ rw p k.never
+              ]);
+          apart = apart_left left;
+          low = λ n lt.
+              let up : conn < n = subst (λ z. newest conn z < n) o.opens lt in
+              let p : (conn == n) ≡ false = ne_eqb conn n (λ e. let x : ⊥ = omega arith in x) in (
+                of-append n xs ys ∙ rw (mine n, entries n, p) refl,
+                calls n ∙ if_false (conn == n) ds [] p,
+                session_left conn n left is_left ∙ if_false (conn == n) left None p,
+              );
+        }
+
+    left_of : (conn : ℕ) (address : List ℕ) (t : Session) (ts : List Session) (xs ys : List Entry) (ds : List Call)
+        → t.number ≡ conn → ((n : ℕ) → of n xs ≡ (if conn == n then xs else [])) → K t xs [] → Left Q t ts ys ds
+        → Known (xs ++ ys) (Dials address (Some conn) ∷ ds) ts
+    unfolding LeftAt
+    left_of conn address t ts xs ys ds num mine h (Stays u p l) =
+        rw p (knows_left conn address t xs ys ds (Some u) num ((own t u ys ds l).number ∙ num) mine h l)
+    left_of conn address t ts xs ys ds num mine h (Closed u es p e l) =
+        rw p (knows_left conn address t xs ys ds None num tt mine h (u, es, e, l))
+
+    knows_away : (conn m : ℕ) (address : List ℕ)
+        → Known (record { moment = m; conn = conn; event = event.Unserved 0; outcomes = [] } ∷ []) (Dials address (Some conn) ∷ Closes conn ∷ []) []
+    unfolding calls_at opened_in Fits of session_of Apart
+    knows_away conn m address = record {
+      fits = λ n. elim (cases_Bool (conn == n)) [ inl p ↦ rw p (k.unserved m conn 0) | inr p ↦ rw p k.never ];
+      apart = tt;
+      low = λ n up.
+          let p : (conn == n) ≡ false = ne_eqb conn n (λ e. let x : ⊥ = omega arith in x) in (
+            if_false (conn == n) (record { moment = m; conn = conn; event = event.Unserved 0; outcomes = [] } ∷ []) [] p,
+            if_false (conn == n) (Closes conn ∷ []) [] p,
+            refl,
+          );
+    }
+
+    knows_called : (user : Option Mind) (l : Loop) (conn : ℕ) (address : List ℕ) (a : Met) → l.sessions ≡ [] → l.moment ≡ at
+        → Known (called_by user plan caller l conn a).entries (Dials address (Some conn) ∷ (called_by user plan caller l conn a).calls) (called_by user plan caller l conn a).state.sessions
+    unfolding served
+    knows_called None l conn address a none now = rw none (knows_away conn l.moment address)
+    knows_called (Some mind) l conn address a none now =
+        let r = rules_of plan in
+        let m = l.moment in
+        let s = begun conn (calling plan caller l) mind in
+        let g = Begins caller.engine plan.rbc (next_u64 l.words).0 in
+        let says = first_of nothing_said a.says in
+        let h = handled r m s g says in
+        let f = follows_handled r Allowed Q q usual m s g says in
+        let o = steady_handled r (λ g. Unit {0}) Own (own_steady r) any_usual m s g says tt in
+        let known : K h.0 h.1 [] =
+        subst (λ z. K h.0 z []) (sym f.is) (k.visit (fed r m s g).0 h.0 (fed r m s g).1 f.rest [] [] (first l conn mind now) f.holds) in
+        left_of conn address h.0 (rests r m h.0 a.wrote).state h.1 (rests r m h.0 a.wrote).entries (rests r m h.0 a.wrote).calls
+        o.number o.entries known (left_rests r Q c.quiet m h.0 h.0 a.wrote [] [] (c.none h.0))
+
+    -- a dial that opened its connection, and the run behind it
+    knows_opened : (d : Course) (conn : ℕ) (address : List ℕ) (a : Met) (turns : List Turn) → d.loop.sessions ≡ [] → d.loop.moment ≡ at
+        → Rises 0 (opened_in (Dials address (Some conn) ∷ ((opens plan caller d conn a).calls ++ (run plan (opens plan caller d conn a).state turns).calls)))
+        → Known ((opens plan caller d conn a).entries ++ (run plan (opens plan caller d conn a).state turns).entries)
+        (Dials address (Some conn) ∷ ((opens plan caller d conn a).calls ++ (run plan (opens plan caller d conn a).state turns).calls))
+        (run plan (opens plan caller d conn a).state turns).state.loop.sessions
+    unfolding called
+    knows_opened d conn address a turns none now rises =
+        let o = opens plan caller d conn a in
+        let e = run plan o.state turns in
+        let bs : List Call = Dials address (Some conn) ∷ o.calls in
+        let r = subst (λ z. Rises 0 z) (opened_in-append bs e.calls) rises in
+        knows_on plan Q c own K E k o.state turns o.entries bs (rises_rest 0 (opened_in bs) (opened_in e.calls) r)
+        (knows_called (next_user d.loop.users) d.loop conn address a none now)
+
+    knows_to : (conn : Option ℕ) (d : Course) (address : List ℕ) (a : Dialled) → d.loop.sessions ≡ [] → max d.loop.moment a.first ≡ at
+        → Rises 0 (opened_in (dials_to conn plan caller d address a).calls)
+        → Known (dials_to conn plan caller d address a).entries (dials_to conn plan caller d address a).calls (dials_to conn plan caller d address a).state.loop.sessions
+    unfolding calls_at opened_in Fits of session_of Apart
+    knows_to None d address a none now rises = rw none (record { fits = λ n. k.never; apart = tt; low = λ n up. (refl, refl, refl) })
+    knows_to (Some conn) d address a none now rises = knows_opened (asks a.first d) conn address a.met a.turns none now rises
+
+    pub knows_dial : (d : Course) (address : List ℕ) (a : Dialled) → d.loop.sessions ≡ [] → max d.loop.moment a.first ≡ at
+        → Rises 0 (opened_in (dials plan caller d address a).calls)
+        → Known (dials plan caller d address a).entries (dials plan caller d address a).calls (dials plan caller d address a).state.loop.sessions
+    unfolding dials
+    knows_dial d address a none now rises = knows_to a.conn d address a none now rises

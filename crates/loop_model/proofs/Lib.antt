@@ -1,0 +1,13 @@
+pub mod Steadies
+pub mod Projections
+pub mod Loopwise
+pub mod Lives
+pub mod Owns
+pub mod Dialling
+pub mod Printings
+pub mod Givings
+pub mod Closings
+pub mod Failings
+pub mod Readings
+pub mod Countings
+pub mod Orders

@@ -1,0 +1,51 @@
+-- The words in which the loop is defined: what a part of it gives, one part behind another, and a part once for each answer.
+use Rattle.std.specs.Prelude.{ℕ, zero, suc, List, [], ◌∷◌, ◌++◌}
+use Rattle.link_trait.specs.Wires.{Call}
+use Rattle.loop_model.specs.Journals.{Entry}
+
+-- what a part of the loop gives: the state behind it, the events of the journal, the calls on the wires
+pub record Out (S : Type 0) : Type 0 where
+  pub state : S
+  pub entries : List Entry
+  pub calls : List Call
+
+-- nothing happens
+abbrev pub still : {S : Type 0} → S → Out S
+still s = record { state = s; entries = []; calls = [] }
+
+-- one part, and behind it one that begins with its state
+abbrev pub next : {S T : Type 0} → Out S → (S → Out T) → Out T
+next a f = let b = f a.state in record { state = b.state; entries = a.entries ++ b.entries; calls = a.calls ++ b.calls }
+
+-- the same, with what becomes of the state
+abbrev pub changed : {S T : Type 0} → (S → T) → Out S → Out T
+changed f a = record { state = f a.state; entries = a.entries; calls = a.calls }
+
+-- a part that makes no call
+abbrev pub prints : {S : Type 0} → S × List Entry → Out S
+prints x = record { state = x.0; entries = x.1; calls = [] }
+
+-- a call on the wires, and nothing else
+abbrev pub makes : {S : Type 0} → Call → S → Out S
+makes call s = record { state = s; entries = []; calls = call ∷ [] }
+
+-- a part that makes no call, once for each answer
+unfoldable pub runs : {S A : Type 0} → (S → A → S × List Entry) → S → List A → S × List Entry
+runs f s [] = (s, [])
+runs f s (a ∷ answers) = let b = f s a in let c = runs f b.0 answers in (c.0, b.1 ++ c.1)
+
+-- a part, once for each answer
+unfoldable pub acts : {S A : Type 0} → (S → A → Out S) → S → List A → Out S
+acts f s [] = still s
+acts f s (a ∷ answers) = next (f s a) (λ t. acts f t answers)
+
+-- the first so many answers, and a plain one for each that isn't there
+unfoldable pub exactly : {A : Type 0} → ℕ → A → List A → List A
+exactly zero plain answers = []
+exactly (suc n) plain [] = plain ∷ exactly n plain []
+exactly (suc n) plain (a ∷ answers) = a ∷ exactly n plain answers
+
+-- the first answer, and a plain one where there is none
+abbrev pub first_of : {A : Type 0} → A → List A → A
+first_of plain [] = plain
+first_of plain (a ∷ answers) = a

@@ -1,0 +1,221 @@
+-- The session of one connection: its end, its user, and the octets that wait to be written (this profile). Each event is given to the
+-- end, its octets join those that wait, the user hears of it, and what the user says are events in their turn.
+use Rattle.std.specs.Prelude.{ℕ, ◌+◌, ◌==◌, nat_lt, Bool, true, false, ◌||◌, if◌then◌else◌, List, [], ◌∷◌, ◌++◌, length, take, drop, Option, Some, None, is_some}
+use Rattle.er_base.specs.declared.release.Release.{Release}
+use Rattle.safety_automaton.specs.Keys.{key_at}
+use Rattle.safety_automaton.specs.Keys as keys
+use Rattle.end_model.specs.Outcomes.{Outcome, ConnectedTo, Accepted, Taken, NothingToTake, Refused, WasReleased, Octets}
+use Rattle.end_model.specs.Ends as end
+use Rattle.er_end.specs.KeptEnds.{KEnd, happens, tells, used_of, waiting_in}
+use Rattle.er_trace.specs.declared.event.Event.{Event}
+use Rattle.er_trace.specs.declared.event.Event.TheVariants as event
+use Rattle.er_users.specs.Saying.{is_text}
+use Rattle.er_users.specs.Users.{Mind, mind_of, Callers, Heard, Connected, Message, Said, said, quiet}
+use Rattle.loop_model.specs.Journals.{Entry}
+use Rattle.loop_model.specs.Outs.{runs, exactly}
+
+-- what a session goes by: the keys, and the set-up time in milliseconds
+pub record Rules : Type 0 where
+  pub keys : List keys.Entry
+  pub setup : ℕ
+
+pub record Session : Type 0 where
+  -- the number of its connection
+  pub number : ℕ
+  pub end : KEnd
+  -- its user, until that heard of the release
+  pub mind : Option Mind
+  -- the octets that wait to be written
+  pub output : List ℕ
+  -- it had the event ended, fault or stalled, or a write of it failed: it is closed as soon as the events at hand are done
+  pub broken : Bool
+  -- the moment at which it is closed at the latest, once it was released
+  pub closing : Option ℕ
+
+-- the most octets that may wait
+abbrev pub most_output : ℕ
+most_output = 262144
+
+abbrev pub is_released : Session → Bool
+is_released s = is_some s.end.core.released
+
+-- ---- one event
+
+-- what is given to the end of a session: an engine's end begins, octets come, the user sends a message, takes one, leaves with a
+-- sub-reason, time went on, the line ended, failed, stalled
+pub data Given : Type 0 where
+  Begins : (engine rbc rb : ℕ) → Given
+  Hears : (octets : List ℕ) → Given
+  Sends : (text : List ℕ) → Given
+  Takes : Given
+  Leaves : (sub : ℕ) → Given
+  Ticks : Given
+  Ends : Given
+  Faults : Given
+  Stalls : Given
+
+-- as the end takes it
+abbrev pub event_of : Rules → Given → end.Event
+event_of r (Begins engine rbc rb) = end.Start
+event_of r (Hears octets) = end.Come (key_at r.keys) octets
+event_of r (Sends text) = end.Send text
+event_of r Takes = end.Take
+event_of r (Leaves sub) = end.Leave sub
+event_of r Ticks = end.Tick
+event_of r Ends = end.Ended
+event_of r Faults = end.Fault
+event_of r Stalls = end.Stalled
+
+-- as the journal has it: of octets those that the end uses
+abbrev pub written : KEnd → Given → Event
+written k (Begins engine rbc rb) = event.Call engine rbc rb
+written k (Hears octets) = event.Octets (take (used_of k octets) octets)
+written k (Sends text) = event.Send text
+written k Takes = event.Take
+written k (Leaves sub) = event.Release sub
+written k Ticks = event.Tick
+written k Ends = event.Ended
+written k Faults = event.Fault
+written k Stalls = event.Stalled
+
+-- a connection is closed behind these
+abbrev pub breaks : Given → Bool
+breaks (Begins engine rbc rb) = false
+breaks (Hears octets) = false
+breaks (Sends text) = false
+breaks Takes = false
+breaks (Leaves sub) = false
+breaks Ticks = false
+breaks Ends = true
+breaks Faults = true
+breaks Stalls = true
+
+-- the end behind an event, and its outcomes
+unfoldable pub end_after : Rules → ℕ → KEnd → Given → KEnd
+end_after r m k g = happens m (event_of r g) k
+
+unfoldable pub outcomes_of : Rules → ℕ → KEnd → Given → List Outcome
+outcomes_of r m k g = tells m (event_of r g) k
+
+-- an event, as the journal has it
+abbrev pub entry_of : Rules → ℕ → Session → Given → Entry
+entry_of r m s g = record { moment = m; conn = s.number; event = written s.end g; outcomes = outcomes_of r m s.end g }
+
+-- the octets for the line among outcomes
+abbrev pub octets_in : List Outcome → List ℕ
+octets_in [] = []
+octets_in (ConnectedTo peer ∷ outcomes) = octets_in outcomes
+octets_in (Accepted message ∷ outcomes) = octets_in outcomes
+octets_in (Taken message ∷ outcomes) = octets_in outcomes
+octets_in (NothingToTake ∷ outcomes) = octets_in outcomes
+octets_in (Refused refusal ∷ outcomes) = octets_in outcomes
+octets_in (WasReleased release ∷ outcomes) = octets_in outcomes
+octets_in (Octets octets ∷ outcomes) = octets ++ octets_in outcomes
+
+-- the session stalls: the event follows directly
+abbrev pub stalled : Rules → ℕ → Session → Session × List Entry
+stalled r m s = (record s { end = end_after r m s.end Stalls; broken = true }, entry_of r m s Stalls ∷ [])
+
+-- octets join those that wait, or the session stalls where all together would be too many
+unfoldable pub joined : Rules → ℕ → Session → List ℕ → Session × List Entry
+joined r m s octets =
+    if nat_lt most_output (length s.output + length octets) then stalled r m s
+    else (record s { output = s.output ++ octets }, [])
+
+-- an event is given to the end, and the octets that the end gives join those that wait
+unfoldable pub fed : Rules → ℕ → Session → Given → Session × List Entry
+fed r m s g =
+    let b = joined r m (record s { end = end_after r m s.end g; broken = s.broken || breaks g }) (octets_in (outcomes_of r m s.end g)) in
+    (b.0, entry_of r m s g ∷ b.1)
+
+-- ---- the user
+
+-- what the user hears of outcomes: that the connection was made; a message that was taken. (No message has another length.)
+abbrev pub heard_in : List Outcome → Option Heard
+heard_in [] = None
+heard_in (ConnectedTo peer ∷ outcomes) = Some (Connected peer)
+heard_in (Accepted message ∷ outcomes) = heard_in outcomes
+heard_in (Taken message ∷ outcomes) = if is_text message then Some (Message message) else None
+heard_in (NothingToTake ∷ outcomes) = heard_in outcomes
+heard_in (Refused refusal ∷ outcomes) = heard_in outcomes
+heard_in (WasReleased release ∷ outcomes) = heard_in outcomes
+heard_in (Octets octets ∷ outcomes) = heard_in outcomes
+
+-- the replies as events: the texts in their order, then the release by the user who leaves
+abbrev pub leave_of : Option ℕ → List Given
+leave_of None = []
+leave_of (Some sub) = Leaves sub ∷ []
+
+abbrev pub sends_of : List (List ℕ) → List Given
+sends_of [] = []
+sends_of (text ∷ texts) = Sends text ∷ sends_of texts
+
+abbrev pub replies : Said → List Given
+replies a = sends_of a.texts ++ leave_of a.leave
+
+-- a user hears: its mind then, and its replies. What a kind of a caller's own says is an answer of the outside, `free`
+abbrev pub hears : Option Mind → Option Heard → Said → Option Mind × List Given
+hears None heard free = (None, [])
+hears (Some mind) None free = (Some mind, [])
+hears (Some mind) (Some heard) free = let a = said mind.kind mind heard free in (Some a.mind, replies a)
+
+-- a plain answer: nothing is said
+abbrev pub silence : Said
+silence = quiet (mind_of Callers [])
+
+-- ---- events with what follows them
+
+-- an event, what the user hears of it, and the replies
+unfoldable pub dealt : Rules → ℕ → Session → Given → Said → Session × List Entry
+dealt r m s g free =
+    let a = fed r m s g in
+    let b = hears s.mind (heard_in (outcomes_of r m s.end g)) free in
+    let c = runs (fed r m) (record a.0 { mind = b.0 }) b.1 in
+    (c.0, a.1 ++ c.1)
+
+-- the messages that wait are taken
+abbrev pub waiting : Session → ℕ
+waiting s = length (waiting_in s.end)
+
+unfoldable pub takes_all : Rules → ℕ → Session → List Said → Session × List Entry
+takes_all r m s frees = runs (λ t free. dealt r m t Takes free) s (exactly (waiting s) silence frees)
+
+-- a user whose session was released hears of it, and is let go; the session is closed after the set-up time at the latest
+abbrev pub parts : Option Release → Option Mind → ℕ → Session → Session
+parts None mind at s = s
+parts (Some release) None at s = s
+parts (Some release) (Some mind) at s = record s { mind = None; closing = Some at }
+
+abbrev pub parted : Rules → ℕ → Session → Session
+parted r m s = parts s.end.core.released s.mind (m + r.setup) s
+
+-- what a user's object says while an event is handled: to the event, then to each message that it takes
+pub record Says : Type 0 where
+  pub first : Said
+  pub rest : List Said
+
+abbrev pub nothing_said : Says
+nothing_said = record { first = silence; rest = [] }
+
+-- an event with all that follows it
+unfoldable pub handled : Rules → ℕ → Session → Given → Says → Session × List Entry
+handled r m s g says =
+    let a = dealt r m s g says.first in
+    let b = takes_all r m a.0 says.rest in
+    (parted r m b.0, a.1 ++ b.1)
+
+-- ---- octets of a read
+
+-- the next part of them, as far as the end uses it at once; nothing where none is left, or the session broke off
+unfoldable pub poured : Rules → ℕ → Session × List ℕ → Says → (Session × List ℕ) × List Entry
+poured r m x says =
+    if (length x.1 == 0) || x.0.broken then (x, [])
+    else
+    let a = handled r m x.0 (Hears x.1) says in
+    ((a.0, drop (used_of x.0.end x.1) x.1), a.1)
+
+-- part by part
+unfoldable pub pours : Rules → ℕ → Session → List ℕ → List Says → Session × List Entry
+pours r m s octets says =
+    let a = runs (poured r m) (s, octets) (exactly (length octets) nothing_said says) in
+    (a.0.0, a.1)

@@ -1,0 +1,45 @@
+//! What holds of the loop, whatever the outside answers, as facts that a caller can cite.
+
+ghost use Rattle.loop_model.specs.Laws.{ConnectionsAreIsolated, JournalIsPrinted, OctetsAreAccounted, CallsAreOnOpen, FaultsHaveFailed, OneReadATurn, TurnsAreCounted, FewAreLive, SessionsRise};
+
+/// The outcomes of each connection are those that the end model gives to its own events, whichever session answered for it; and what is
+/// printed of the journal is the printed text of its events.
+pub fn journal()
+    ensures isolated { ConnectionsAreIsolated }
+    ensures printed { JournalIsPrinted }
+{
+    er_end::laws::standing();
+}
+
+/// The octets given to a connection are a beginning of those of its outcomes, in order.
+pub fn octets()
+    ensures { OctetsAreAccounted }
+{}
+
+/// No call is made on a connection that was closed.
+pub fn open_connections()
+    ensures { CallsAreOnOpen }
+{}
+
+/// There are at most as many events `fault` as reads and writes that failed.
+pub fn faults()
+    ensures { FaultsHaveFailed }
+{}
+
+/// Before a turn nothing is read. Behind it a connection is read from once, exactly where it is readable, live and not released.
+pub fn reads()
+    ensures { OneReadATurn }
+{}
+
+/// No turn follows one that ended or failed. The loop halts as ended exactly where its last turn ended, and fails exactly where that
+/// failed. It does at most the turns of the plan, and all of them where it doesn't halt. Its moment is the greatest that the clock
+/// answered.
+pub fn turns()
+    ensures { TurnsAreCounted }
+{}
+
+/// At most 256 connections are live, and their sessions are in rising number.
+pub fn sessions()
+    ensures few { FewAreLive }
+    ensures rise { SessionsRise }
+{}

@@ -1,0 +1,251 @@
+//! Events given to the end of a connection: their lines, and the octets that the end gives.
+
+ghost use Rattle.std.specs.Prelude.{◌≡◌, ◌≤◌, ◌++◌, ◌∷◌, [], take, Some, None, OnOk, IfOk};
+ghost use Rattle.safety_automaton.specs.Keys.{key_at};
+ghost use Rattle.er_base.specs.LineTexts.{line_text};
+ghost use Rattle.er_trace.specs.Texts.{entry_words};
+ghost use Rattle.er_trace.specs.declared.event.Event.TheVariants as event;
+ghost use Rattle.end_model.specs.Ends.{Start, Come, Send, Leave, Tick, Ended, Fault, Stalled};
+ghost use Rattle.er_end.specs.KeptEnds.{happens, tells, used_of};
+ghost use Rattle.trace_model.specs.Printed.{outcomes_text};
+ghost use Rattle.loop_model.specs.Sessions.{octets_in};
+ghost use Rattle.loop_session.specs.Giving.{Joins, JoinsHeard, connected_in};
+
+use crate::join::join_waiting;
+use bytes::BytesMut;
+use end_lines::{tell, tell_refused};
+use er_base::NoMemory;
+use er_end::End;
+use er_trace::{Entry, Event, print_entry, print_octets, print_send};
+use safety_automaton::KeyFinder;
+
+/// What an engine calls with.
+#[derive(Clone, Copy, Debug, PartialEq, Eq)]
+pub struct Called {
+    /// The engine's ETCS number, below 2^24.
+    pub engine: u32,
+    /// That of the radio block centre, below 2^24.
+    pub rbc: u32,
+    /// The engine's random number.
+    pub rb: u64,
+}
+
+// The line of an event.
+fn put(moment: u64, conn: u64, event: Event, line: &mut Vec<u8>) -> Result<(), NoMemory>
+    ensures { OnOk result (line.new.items ≡ line.old.items ++ line_text (entry_words moment conn event)) }
+{
+    let entry = Entry {
+        line: 0,
+        moment,
+        conn,
+        event,
+    };
+    print_entry(&entry, line)
+}
+
+/// A moment has come.
+#[tactic(auto, using(crate::proofs::Givings::octets_told))]
+pub fn give_tick(
+    end: &mut End,
+    conn: u64,
+    moment: u64,
+    line: &mut Vec<u8>,
+    output: &mut BytesMut,
+) -> Result<bool, NoMemory>
+    requires { moment ≤ 1000000000000000 }
+    ensures end { OnOk result (end.new ≡ happens moment Tick end.old) }
+    ensures text { OnOk result (line.new.items
+        ≡ (line.old.items ++ line_text (entry_words moment conn event.Tick)) ++ outcomes_text conn (tells moment Tick end.old)) }
+    ensures joins { Joins result output.old.items output.new.items (octets_in (tells moment Tick end.old)) }
+{
+    put(moment, conn, Event::Tick, line)?;
+    let deeds = end.tick(moment);
+    tell(conn, &deeds, line)?;
+    join_waiting(output, deeds.out)
+}
+
+/// The user releases, with this sub-reason.
+#[tactic(auto, using(crate::proofs::Givings::octets_told))]
+pub fn give_release(
+    end: &mut End,
+    conn: u64,
+    moment: u64,
+    sub: u8,
+    line: &mut Vec<u8>,
+    output: &mut BytesMut,
+) -> Result<bool, NoMemory>
+    requires { moment ≤ 1000000000000000 }
+    ensures end { OnOk result (end.new ≡ happens moment (Leave sub) end.old) }
+    ensures text { OnOk result (line.new.items
+        ≡ (line.old.items ++ line_text (entry_words moment conn (event.Release sub))) ++ outcomes_text conn (tells moment (Leave sub) end.old)) }
+    ensures joins { Joins result output.old.items output.new.items (octets_in (tells moment (Leave sub) end.old)) }
+{
+    put(moment, conn, Event::Release(sub), line)?;
+    let deeds = end.release(moment, sub);
+    tell(conn, &deeds, line)?;
+    join_waiting(output, deeds.out)
+}
+
+/// The user sends a message. Where it is refused, no octets join those that wait.
+#[tactic(auto, using(crate::proofs::Givings::octets_told))]
+pub fn give_send(
+    end: &mut End,
+    conn: u64,
+    moment: u64,
+    text: &[u8],
+    line: &mut Vec<u8>,
+    output: &mut BytesMut,
+) -> Result<bool, NoMemory>
+    requires { moment ≤ 1000000000000000 }
+    ensures end { OnOk result (end.new ≡ happens moment (Send text.now) end.old) }
+    ensures text { OnOk result (line.new.items
+        ≡ (line.old.items ++ line_text (entry_words moment conn (event.Send text.now))) ++ outcomes_text conn (tells moment (Send text.now) end.old)) }
+    ensures joins { Joins result output.old.items output.new.items (octets_in (tells moment (Send text.now) end.old)) }
+{
+    print_send(moment, conn, text, line)?;
+    match end.send(moment, text) {
+        Ok(deeds) => {
+            tell(conn, &deeds, line)?;
+            join_waiting(output, deeds.out)
+        }
+        Err(refused) => {
+            tell_refused(conn, &refused, line)?;
+            join_waiting(output, b"")
+        }
+    }
+}
+
+/// The line stalled: octets that were to join those that wait are dropped.
+pub fn give_stalled(
+    end: &mut End,
+    conn: u64,
+    moment: u64,
+    line: &mut Vec<u8>,
+) -> Result<(), NoMemory>
+    ensures end { OnOk result (end.new ≡ happens moment Stalled end.old) }
+    ensures text { OnOk result (line.new.items
+        ≡ (line.old.items ++ line_text (entry_words moment conn event.Stalled)) ++ outcomes_text conn (tells moment Stalled end.old)) }
+{
+    put(moment, conn, Event::Stalled, line)?;
+    tell(conn, &end.stalled(), line)
+}
+
+/// The line ended.
+#[tactic(auto, using(crate::proofs::Givings::octets_told))]
+pub fn give_ended(
+    end: &mut End,
+    conn: u64,
+    moment: u64,
+    line: &mut Vec<u8>,
+    output: &mut BytesMut,
+) -> Result<bool, NoMemory>
+    ensures end { OnOk result (end.new ≡ happens moment Ended end.old) }
+    ensures text { OnOk result (line.new.items
+        ≡ (line.old.items ++ line_text (entry_words moment conn event.Ended)) ++ outcomes_text conn (tells moment Ended end.old)) }
+    ensures joins { Joins result output.old.items output.new.items (octets_in (tells moment Ended end.old)) }
+{
+    put(moment, conn, Event::Ended, line)?;
+    let deeds = end.ended();
+    tell(conn, &deeds, line)?;
+    join_waiting(output, deeds.out)
+}
+
+/// The line failed.
+#[tactic(auto, using(crate::proofs::Givings::octets_told))]
+pub fn give_fault(
+    end: &mut End,
+    conn: u64,
+    moment: u64,
+    line: &mut Vec<u8>,
+    output: &mut BytesMut,
+) -> Result<bool, NoMemory>
+    ensures end { OnOk result (end.new ≡ happens moment Fault end.old) }
+    ensures text { OnOk result (line.new.items
+        ≡ (line.old.items ++ line_text (entry_words moment conn event.Fault)) ++ outcomes_text conn (tells moment Fault end.old)) }
+    ensures joins { Joins result output.old.items output.new.items (octets_in (tells moment Fault end.old)) }
+{
+    put(moment, conn, Event::Fault, line)?;
+    let deeds = end.fault();
+    tell(conn, &deeds, line)?;
+    join_waiting(output, deeds.out)
+}
+
+/// The end of an engine begins: its station sends the set-up frame.
+#[tactic(auto, using(crate::proofs::Givings::octets_told))]
+pub fn give_start(
+    end: &mut End,
+    conn: u64,
+    moment: u64,
+    call: &Called,
+    line: &mut Vec<u8>,
+    output: &mut BytesMut,
+) -> Result<bool, NoMemory>
+    requires { moment ≤ 1000000000000000 }
+    ensures end { OnOk result (end.new ≡ happens moment Start end.old) }
+    ensures text { OnOk result (line.new.items
+        ≡ (line.old.items ++ line_text (entry_words moment conn (event.Call call.now.engine call.now.rbc call.now.rb))) ++ outcomes_text conn (tells moment Start end.old)) }
+    ensures joins { Joins result output.old.items output.new.items (octets_in (tells moment Start end.old)) }
+{
+    let event = Event::Call {
+        engine: call.engine,
+        rbc: call.rbc,
+        rb: call.rb,
+    };
+    put(moment, conn, event, line)?;
+    let deeds = end.start(moment);
+    tell(conn, &deeds, line)?;
+    join_waiting(output, deeds.out)
+}
+
+/// What came of octets: how many were used, whether the connection came to stand, with which peer, and whether what the end gave fits.
+#[derive(Clone, Copy, Debug, PartialEq, Eq)]
+pub struct Heard {
+    /// The octets that the end used.
+    pub used: usize,
+    /// The peer's ETCS number, where the connection came to stand.
+    pub connected: Option<u32>,
+    /// Whether the octets that the end gave joined those that wait.
+    pub fits: bool,
+}
+
+// The first octets of a piece, so many where there are as many.
+fn front(piece: &[u8], used: usize) -> &[u8]
+    ensures { result.now ≡ take used piece.now }
+{
+    if used < piece.len() {
+        &piece[..used]
+    } else {
+        piece
+    }
+}
+
+/// Octets come, and the end uses them up to the first closed frame.
+#[tactic(auto, using(crate::proofs::Givings::octets_told, crate::proofs::Givings::connected_told))]
+pub fn give_octets<K: KeyFinder>(
+    keys: &K,
+    end: &mut End,
+    conn: u64,
+    moment: u64,
+    piece: &[u8],
+    line: &mut Vec<u8>,
+    output: &mut BytesMut,
+) -> Result<Heard, NoMemory>
+    requires { moment ≤ 1000000000000000 }
+    ensures end { OnOk result (end.new ≡ happens moment (Come (key_at (K.entries keys.now)) piece.now) end.old) }
+    ensures text { OnOk result (line.new.items
+        ≡ (line.old.items ++ line_text (entry_words moment conn (event.Octets (take (used_of end.old piece.now) piece.now))))
+        ++ outcomes_text conn (tells moment (Come (key_at (K.entries keys.now)) piece.now) end.old)) }
+    ensures joins { JoinsHeard result output.old.items output.new.items (octets_in (tells moment (Come (key_at (K.entries keys.now)) piece.now) end.old)) }
+    ensures used { IfOk result (λ heard. heard.used ≡ used_of end.old piece.now) }
+    ensures connected { IfOk result (λ heard. heard.connected ≡ connected_in (tells moment (Come (key_at (K.entries keys.now)) piece.now) end.old)) }
+{
+    let (used, deeds) = end.octets(keys, moment, piece);
+    print_octets(moment, conn, front(piece, used), line)?;
+    tell(conn, &deeds, line)?;
+    let fits = join_waiting(output, deeds.out)?;
+    Ok(Heard {
+        used,
+        connected: deeds.connected,
+        fits,
+    })
+}
