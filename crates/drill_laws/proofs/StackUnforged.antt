@@ -21,8 +21,8 @@ use Rattle.drill_laws.proofs.Losing.{not_false}
 use Rattle.drill_laws.proofs.Worlds.{AtPlace, Keeps, world_lives}
 use Rattle.drill_laws.proofs.Viewing.{FitsLinkStep, FitsLinkOpening, step_opening, no_send_fits}
 use Rattle.drill_laws.proofs.Fitting.{steps_fit}
-use Rattle.drill_laws.proofs.StackWiring.{Numbers, opening_of}
-use Rattle.drill_laws.proofs.StackWired.{IsStacked, stacked_steps, stacked_opens}
+use Rattle.drill_laws.proofs.StackWiring.{Numbers, opening_of, Sees}
+use Rattle.drill_laws.proofs.StackWired.{IsStacked, stacked_steps, stacked_numbers, stacked_opens, opened_numbers}
 use Rattle.drill_laws.proofs.StackLaws.{StackLaws, pair_opening, pair_of, agrees, IsLower, fits_stack}
 use Rattle.drill_laws.proofs.StackTrusting.{SoundAt, KnowsAt, step_sound, opened_sound}
 
@@ -95,12 +95,19 @@ module _ (laws : StackLaws) (facts : FactsGrow) where
       let t : IsStacked settings l history = h.stacked in
       let a : Link × List Occurrence = link_step l s in
       let u : IsStacked settings a.0 (history ++ a.1) = stacked_steps laws.only laws.calls settings l history s (fits_stack laws facts s fit) t in
+      let p : Pair = pair_of settings l history t in
+      let q : Pair = pair_of settings a.0 (history ++ a.1) u in
+      let k_is : u.k ≡ t.k = stacked_numbers laws.only laws.calls settings l history s (fits_stack laws facts s fit) t in
       record {
         stacked = u;
         sound = λ allowed same calm.
+            let same_before : t.k.kr ≡ Some t.k.ke = subst (λ (k : Numbers). k.kr ≡ Some k.ke) k_is same in
             let before : is_disturbed history ≡ false = calm_before history a.1 calm in
-            step_sound facts laws.marks laws.only laws.calls t.k l history (pair_of settings l history t) (pair_of settings a.0 (history ++ a.1) u) s t.sees
-            (knows_at settings l history t allowed same before) (knows_at settings a.0 (history ++ a.1) u allowed same calm) calm (h.sound allowed same before) u.sees;
+            let knows : KnowsAt t.k q = subst (λ (k : Numbers). KnowsAt k q) k_is (knows_at settings a.0 (history ++ a.1) u allowed same calm) in
+            let sees : Sees t.k a.0 (history ++ a.1) q = subst (λ (k : Numbers). Sees k a.0 (history ++ a.1) q) k_is u.sees in
+            subst (λ (k : Numbers). SoundAt k q (history ++ a.1)) (sym k_is)
+            (step_sound facts laws.marks laws.only laws.calls t.k l history p q s t.sees (knows_at settings l history t allowed same_before before) knows calm
+            (h.sound allowed same_before before) sees);
       }
 
   opens_trusted : (settings : Settings) (moment : ℕ) (opening : LinkOpening) → FitsLinkOpening facts opening
@@ -115,9 +122,13 @@ module _ (laws : StackLaws) (facts : FactsGrow) where
       let k : Numbers = record { engine = engine; rbc = rbc; ke = ke; kr = kr; ra = ra; rb = rb } in
       let a : Link × List Occurrence = opened settings moment (OfStacks engine rbc ke kr ra rb) in
       let u : IsStacked settings a.0 a.1 = stacked_opens laws.only laws.calls laws.opens settings moment k fit in
+      let q : Pair = pair_of settings a.0 a.1 u in
+      let k_is : u.k ≡ k = opened_numbers laws.only laws.calls laws.opens settings moment k fit in
+      let sees : Sees k a.0 a.1 q = subst (λ (j : Numbers). Sees j a.0 a.1 q) k_is u.sees in
       inl (record {
         stacked = u;
-        sound = λ allowed same calm. opened_sound facts laws.marks laws.only laws.calls k laws.opens settings moment (pair_of settings a.0 a.1 u) u.sees;
+        sound = λ allowed same calm.
+            subst (λ (j : Numbers). SoundAt j q a.1) (sym k_is) (opened_sound facts laws.marks laws.only laws.calls k laws.opens settings moment q sees);
       })
 
   trusted_keep : (settings : Settings) → Keeps settings (FitsLinkOpening facts) (FitsLinkStep facts) (Trusted settings)
