@@ -44,10 +44,10 @@ module _ (key_of : ℕ → ℕ → Option TripleKey) (before : Safety) where
   Spoke x = Speaks key_of before x.upper.spoke x.safe.safety
 
   -- the side took no step yet
-  abbrev pub Silent : Core → Type 0
+  abbrev Silent : Core → Type 0
   Silent x = (x.upper.spoke ≡ None) × (x.safe.safety ≡ before)
 
-  pub if_core : (P : Core → Type 0) (b : Bool) (x y : Core) → P x → P y → P (if b then x else y)
+  if_core : (P : Core → Type 0) (b : Bool) (x y : Core) → P x → P y → P (if b then x else y)
   if_core P true x y hx hy = hx
   if_core P false x y hx hy = hy
 
@@ -143,7 +143,7 @@ module _ (key_of : ℕ → ℕ → Option TripleKey) (before : Safety) where
 
   -- ---- the events
 
-  pub starts_spoke : (now : ℕ) (x : Core) → x.safe.safety ≡ before → Spoke (starts model now x)
+  starts_spoke : (now : ℕ) (x : Core) → x.safe.safety ≡ before → Spoke (starts model now x)
   starts_spoke now x same =
       let y : Core = begins_at model now x in
       if_core Spoke (is_some y.released) y (concludes model (record y { line = model.starts y.moment y.line })) same

@@ -1,5 +1,5 @@
 -- What an event at a stack tells as one step of its safety side, or as none: its facts, and what was sent and accepted by it.
-use Rattle.std.proofs.Common.{◌≡◌, ℕ, suc, zero, if◌then◌else◌, true, false, Bool, List, [], ◌∷◌, ◌++◌, length, map, refl, sym, ap, ap₂, subst, ◌∙◌, append-nil}
+use Rattle.std.proofs.Common.{◌≡◌, ℕ, suc, zero, if◌then◌else◌, true, false, Bool, List, [], ◌∷◌, ◌++◌, length, map, refl, sym, ap₂, subst, ◌∙◌, append-nil}
 use Rattle.std.specs.Prelude.{Option, Some, None, is_some}
 use Rattle.std.specs.List.{flat_map}
 use Rattle.std.specs.Option.{option_to_list}
@@ -17,15 +17,15 @@ use Rattle.safe_pair.specs.Openings.{PairOpening}
 use Rattle.station_pair.specs.Links.{said_octets}
 use Rattle.end_model.specs.Outcomes.{SendRefusal}
 use Rattle.end_model.specs.Layers.{Spoken, Core, model}
-use Rattle.end_model.specs.Steps.{Finds, begins_at, ends, gives, shuts, finishes, departs, gives_next, goes_on, offers, most_offers, concludes, starts, comes, refusal_of, sends_unless, uses, is_spent, di_of, time_at, ticks, normal_disconnect}
+use Rattle.end_model.specs.Steps.{begins_at, ends, gives, shuts, finishes, departs, gives_next, goes_on, offers, most_offers, concludes, starts, comes, refusal_of, sends_unless, uses, is_spent, di_of, time_at, ticks, normal_disconnect}
 use Rattle.end_model.specs.Ends.{hears_each}
-use Rattle.drill_model.specs.Outcomes.{Outcome, OfSafety, Refused, Frame, at_end, facts_in}
+use Rattle.drill_model.specs.Outcomes.{Outcome, Frame, at_end, facts_in}
 use Rattle.drill_model.specs.Growth.{FactsGrow}
 use Rattle.drill_model.specs.StationEnds.{if_released, if_expired}
-use Rattle.drill_model.specs.StackEnds.{facts_told, told_at, stack_told, as_refusal, told_unless, took}
+use Rattle.drill_model.specs.StackEnds.{facts_told, told_at, stack_told, told_unless, took}
 use Rattle.drill_model.specs.StackReports.{user_in}
 use Rattle.drill_model.specs.Kinds.{sent_in, accepted_in}
-use Rattle.drill_laws.proofs.Speaking.{Speaks, Spoke, Silent, if_core, starts_spoke, comes_spoke, sends_spoke, uses_silent, ticks_spoke, facts_append, facts_of_facts, rest_silent, expired_silent, took_silent}
+use Rattle.drill_laws.proofs.Speaking.{Speaks, Spoke, comes_spoke, sends_spoke, uses_silent, facts_append, facts_of_facts, rest_silent, expired_silent, took_silent}
 use Rattle.drill_laws.proofs.StackSaying.{sent_in_step, call_sent, call_accepted}
 
 -- ---- an event in which the safety side takes no step

@@ -1,41 +1,40 @@
 -- A link of two stacks that is loss-free so far, where the keys agree: nothing is forged, since each text that a stack verifies the other had
 -- sealed before. Each step of the link keeps it.
-use Rattle.std.proofs.Common.{◌≡◌, inl, inr, ℕ, max, Bool, true, false, not, ◌||◌, List, [], ◌∷◌, ◌++◌, length, take, map, refl, sym, ap, ap₂, subst, ◌∙◌, append-nil, append_assoc, true≢false}
+use Rattle.std.proofs.Common.{◌≡◌, ℕ, max, true, false, List, [], ◌∷◌, ◌++◌, length, take, map, refl, sym, ap, ap₂, subst, ◌∙◌, append-nil, append_assoc, true≢false}
 use Rattle.std.specs.Prelude.{zero, suc, Option, Some, None}
 use Rattle.std.specs.Option.{option_to_list}
-use Rattle.std.specs.List.{flat_map, list_any, AllByRecursion}
+use Rattle.std.specs.List.{flat_map, AllByRecursion}
 use Rattle.std.proofs.lemmas.Bool.{or_parts}
 use Rattle.std.proofs.lemmas.List.Folds.{list_any-append}
 use Rattle.er_base.specs.declared.side.Side.{Side}
 use Rattle.er_base.specs.declared.side.Side.TheVariants.{E, R}
 use Rattle.er_base.specs.Sides.{other}
 use Rattle.er_settings.specs.declared.settings.Settings.{Settings}
-use Rattle.des_block.specs.declared.triple_key.TripleKey.{TripleKey}
 use Rattle.safety_automaton.specs.Safety.{Safety, SafetyOutcome, step}
 use Rattle.safety_automaton.specs.Rules.{IsStep, StepsOnly}
 use Rattle.safe_pair.specs.Facts.{SideFact, MarkedFact, at_side, marked_from, marked}
 use Rattle.safe_pair.specs.Marks.{MarksGrow}
 use Rattle.safe_pair.specs.Openings.{PairOpening, OfKeys}
-use Rattle.end_model.specs.Layers.{Spoken, Core, model}
-use Rattle.end_model.specs.Steps.{begins_at, starts, uses, ticks}
+use Rattle.end_model.specs.Layers.{Spoken, model}
+use Rattle.end_model.specs.Steps.{begins_at, starts, ticks}
 use Rattle.end_model.specs.Ends.{End as Stack, Event, Call, Answer, news, opened as stack_opened}
 use Rattle.end_model.specs.Ends as on_end
 use Rattle.end_pair.specs.Links.{Link as Pair, end_of}
 use Rattle.end_pair.specs.Laws.{IsPrefix, IsOneFrame}
 use Rattle.drill_model.specs.Outcomes.{Outcome, NothingWaits, UserReleased, Passed, Occurrence, at_end, facts_in}
 use Rattle.drill_model.specs.Growth.{FactsGrow}
-use Rattle.drill_model.specs.StackEnds.{stack_told, finds_expired}
+use Rattle.drill_model.specs.StackEnds.{finds_expired}
 use Rattle.drill_model.specs.StackReports.{IsOrderly, OpensOrderly, CallsReport, user_in}
 use Rattle.drill_model.specs.Ends.{End, OfStack, EndEvent, Receive, stack_end_step, end_step}
 use Rattle.drill_model.specs.Ends as event
-use Rattle.drill_model.specs.Waiting.{LineChange, changes}
+use Rattle.drill_model.specs.Waiting.{changes}
 use Rattle.drill_model.specs.Links.{Link, LinkOpening, key_on, waiting_of, with_waiting, answered, joined, opened_stacks, LinkStep, Send, Pass, Change, Take, Release, Tick, pass, link_step}
 use Rattle.drill_model.specs.Links as drill
 use Rattle.drill_model.specs.Kinds.{sent_in, accepted_in, is_disturbance, is_disturbed}
 use Rattle.drill_laws.proofs.Speaking.{Speaks}
 use Rattle.drill_laws.proofs.Talking.{silent_changes}
 use Rattle.drill_laws.proofs.StackSaying.{sent_in_step}
-use Rattle.drill_laws.proofs.StackGoing.{Does, as_given, stack_leads, stack_does}
+use Rattle.drill_laws.proofs.StackGoing.{as_given, stack_leads, stack_does}
 use Rattle.drill_laws.proofs.StackWiring.{Numbers, opening_of, key_of, Sees}
 use Rattle.drill_laws.proofs.StackCalls.{facts_spoken, Tells, Calls, sends_call, takes_call, hears_call, starts_rest, starts_tell, ticks_rest, ticks_tell}
 use Rattle.drill_laws.proofs.Sealing.{IsSealed}

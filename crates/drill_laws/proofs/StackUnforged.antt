@@ -1,7 +1,6 @@
 -- On each link of two stacks in a world that is loss-free so far, where the keys agree, nothing is forged.
-use Rattle.std.proofs.Common.{◌≡◌, inl, inr, ℕ, ◌||◌, Bool, true, false, not, List, [], ◌∷◌, ◌++◌, refl, sym, ap₂, subst, ◌∙◌, ◌⊎◌}
+use Rattle.std.proofs.Common.{◌≡◌, inl, inr, ℕ, ◌||◌, Bool, true, false, List, [], ◌∷◌, ◌++◌, refl, sym, ap₂, subst, ◌∙◌, ◌⊎◌}
 use Rattle.std.specs.Prelude.{Option, Some}
-use Rattle.std.specs.List.{list_any}
 use Rattle.std.proofs.lemmas.Bool.{or_parts}
 use Rattle.std.proofs.lemmas.List.Folds.{list_any-append}
 use Rattle.er_settings.specs.declared.settings.Settings.{Settings}

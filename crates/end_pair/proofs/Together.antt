@@ -1,8 +1,7 @@
 -- A frame that waits is one frame; and on a loss-free line, where the keys agree, the two safety sides are in step: read off what the two ends
 -- gave and heard.
-use Rattle.std.proofs.Common.{◌≡◌, ℕ, ◌≤◌, Bool, true, false, not, List, [], ◌∷◌, length, take, Option, refl, sym, ◌∙◌, ap, subst, arith}
+use Rattle.std.proofs.Common.{◌≡◌, ℕ, ◌≤◌, Bool, true, false, not, List, [], ◌∷◌, length, take, Option, refl, sym, ◌∙◌, ap, arith}
 use Rattle.std.specs.Prelude.{is_some}
-use Rattle.des_block.specs.declared.triple_key.TripleKey.{TripleKey}
 use Rattle.safety_automaton.specs.Safety.{Safety, Phase, Ready, WaitAu1, WaitAu2, WaitAu3, WaitAr, Connected, Released, session_in}
 use Rattle.station_model.specs.declared.phase.Phase.{Phase as Link_phase}
 use Rattle.x224_class2.specs.Segments.{messages_in}
@@ -14,12 +13,12 @@ use Rattle.end_model.specs.Steps.{is_connected}
 use Rattle.end_model.specs.Ends.{news}
 use Rattle.end_pair.specs.Openings.{Opening}
 use Rattle.end_pair.specs.Links.{Link}
-use Rattle.end_pair.specs.Phases.{IsEngines, IsCentres, AreInStep}
+use Rattle.end_pair.specs.Phases.{IsEngines, IsCentres}
 use Rattle.end_pair.specs.Laws.{after, OneFrame, InStep}
 use Rattle.end_pair.proofs.Lists.{Head, head_trans, head_take, head_length}
 use Rattle.end_pair.proofs.Segments.{messages_head}
 use Rattle.end_pair.proofs.Ports.{got_head}
-use Rattle.end_pair.proofs.Constants.{side_in, said_all}
+use Rattle.end_pair.proofs.Constants.{said_all}
 use Rattle.end_pair.proofs.Own.{Stages, Joint, PhaseIs, Own, heard}
 use Rattle.end_pair.proofs.Below.{Below}
 use Rattle.end_pair.proofs.Worlds.{first_of_line, r_news, e_news}
