@@ -87,9 +87,9 @@ counted_at p side (o ∷ os) =
 -- the counts behind these outcomes at one side
 pub counts_at : (history : List Occurrence) (side : Side) (os : List Outcome)
     → let h = counts_of history in
-      counts_of (history ++ map (at_end side) os)
-      ≡ totals (saturated h.sent (length (flat_map sent_in os))) (saturated h.accepted (length (flat_map accepted_in os)))
-      (saturated h.passes (length (flat_map passed_in os))) (saturated h.lost (count_by is_loss os)) (saturated h.repeated (count_by is_repeat os))
+    counts_of (history ++ map (at_end side) os)
+    ≡ totals (saturated h.sent (length (flat_map sent_in os))) (saturated h.accepted (length (flat_map accepted_in os)))
+    (saturated h.passes (length (flat_map passed_in os))) (saturated h.lost (count_by is_loss os)) (saturated h.repeated (count_by is_repeat os))
 counts_at history side os =
     let came : List Occurrence = map (at_end side) os in
     let one : (n all more : ℕ) → all ≡ n + more → min all (2 ^ 64 - 1) ≡ saturated (min n (2 ^ 64 - 1)) more =
@@ -174,6 +174,12 @@ record AreCounted (os : List Outcome) (list : List Told) : Type 0 where
 one_none : (p : Outcome → Bool) (o : Outcome) (os : List Outcome) → p o ≡ false → count_by p os ≡ 0 → count_by p (o ∷ os) ≡ 0
 one_none p o os no' none = sum_by-cons (λ (x : Outcome). if p x then 1 else 0) o os ∙ rw (no', none) refl
 
+both_none : (xs ys : List (List ℕ)) → xs ≡ [] → length ys ≡ 0 → length (xs ++ ys) ≡ 0
+both_none xs ys none others = rw none others
+
+two_alike : (a b c d e : ℕ) → a ≡ c → b ≡ d → c + d ≡ e → a + b ≡ e
+two_alike a b c d e p q r = rw (p, q) r
+
 all_counted : (os : List Outcome) (list : List Told) → AreTold os list → AreCounted os list
 all_counted [] [] are = record { messages = refl; passed = refl; lost = refl; repeated = refl }
 all_counted [] (t ∷ list) are = absurd are
@@ -199,8 +205,8 @@ all_counted (o ∷ os) (t ∷ list) are =
     let first = one_counted o t are.0 in
     record {
       messages = length-append (accepted_in o) (flat_map accepted_in os)
-          ∙ rw (first.message, rest.messages) (sym (sum_by-cons (λ (x : Told). if is_message x then 1 else 0) t list));
-      passed = length-append (passed_in o) (flat_map passed_in os) ∙ rw (first.passed, rest.passed) refl;
+          ∙ two_alike _ _ _ _ _ first.message rest.messages (sym (sum_by-cons (λ (x : Told). if is_message x then 1 else 0) t list));
+      passed = both_none (passed_in o) (flat_map passed_in os) first.passed rest.passed;
       lost = one_none is_loss o os first.lost rest.lost;
       repeated = one_none is_repeat o os first.repeated rest.repeated;
     }

@@ -1,5 +1,5 @@
 -- A send is Ok exactly where it isn't refused: what an end tells of each event, at each level.
-use Rattle.std.proofs.Common.{◌≡◌, ℕ, zero, suc, ◌+◌, Bool, true, false, if◌then◌else◌, List, [], ◌∷◌, ◌++◌, map, length, length-append, refl, sym, ap, ◌∙◌, subst, Option, Some, None, Result, Ok, Err}
+use Rattle.std.proofs.Common.{◌≡◌, ℕ, zero, suc, ◌+◌, Bool, true, false, if◌then◌else◌, List, [], ◌∷◌, ◌++◌, map, length, length-append, refl, sym, ap, ◌∙◌, subst, arith, Option, Some, None, Result, Ok, Err}
 use Rattle.std.specs.Prelude.{not, is_some, nat_le, ◌&&◌, ◌==◌}
 use Rattle.std.specs.List.{flat_map}
 use Rattle.std.proofs.lemmas.List.Concat.{flat_map-append}
@@ -101,7 +101,10 @@ sends_alike Tick os list are = refl
 sent_more : (xs ys : List Outcome) → sent_of xs ≡ 0 → sent_of ys ≡ 0 → sent_of (xs ++ ys) ≡ 0
 sent_more xs ys one two =
     ap length (flat_map-append sent_in xs ys) ∙ length-append (flat_map sent_in xs) (flat_map sent_in ys)
-    ∙ ap (λ n. n + sent_of ys) one ∙ two
+    ∙ two_none (sent_of xs) (sent_of ys) one two
+  where
+    two_none : (n m : ℕ) → n ≡ 0 → m ≡ 0 → n + m ≡ 0
+    two_none n m p q = omega (arith, p, q)
 
 frames_unsent : (frames : List (List ℕ)) → sent_of (map Frame frames) ≡ 0
 frames_unsent [] = refl

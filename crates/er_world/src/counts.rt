@@ -92,13 +92,7 @@ fn sent_at(event: &EndEvent, told: &VecDeque<Told>) -> u64
     match event {
         EndEvent::Start => 0,
         EndEvent::Receive(_) => 0,
-        EndEvent::Send(_) => {
-            if begins_refused(told) {
-                0
-            } else {
-                1
-            }
-        }
+        EndEvent::Send(_) => { if begins_refused(told) { 0 } else { 1 } }
         EndEvent::Take => 0,
         EndEvent::Release(_) => 0,
         EndEvent::Tick => 0,
