@@ -12,6 +12,8 @@ pub data Command : Type 0 where
   Bits : (name : List ℕ) → Command
   -- `migrate KEYS`: the file word
   Migrate : (keys : List ℕ) → Command
+  -- `replay KEYS TRACE`: the file words
+  Replay : (keys trace : List ℕ) → Command
 
 -- words as octets
 abbrev pub texts : List (String Global) → List (List ℕ)
@@ -24,11 +26,16 @@ command_of_two command name =
     if bytes_eq command (codes "bits") then Bits name else
     if bytes_eq command (codes "migrate") then Migrate name else Misused
 
+-- the command that three words fit
+abbrev pub command_of_three : List ℕ → List ℕ → List ℕ → Command
+command_of_three command first second = if bytes_eq command (codes "replay") then Replay first second else Misused
+
 abbrev pub command_of : List (List ℕ) → Command
 command_of [] = Misused
 command_of (command ∷ []) = Misused
 command_of (command ∷ name ∷ []) = command_of_two command name
-command_of (command ∷ name ∷ more ∷ rest) = Misused
+command_of (command ∷ first ∷ second ∷ []) = command_of_three command first second
+command_of (command ∷ first ∷ second ∷ more ∷ rest) = Misused
 
 -- the file words of a command, in their order
 abbrev pub names_of : Command → List (List ℕ)
@@ -36,3 +43,4 @@ names_of Misused = []
 names_of (Drill name) = name ∷ []
 names_of (Bits name) = name ∷ []
 names_of (Migrate keys) = keys ∷ []
+names_of (Replay keys trace) = keys ∷ trace ∷ []

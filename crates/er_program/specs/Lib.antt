@@ -9,3 +9,5 @@ pub mod BitTexts
 pub mod BitWriting
 pub mod KeyLines
 pub mod KeyWriting
+pub mod ReplayWriting
+pub mod Asking

@@ -16,6 +16,7 @@ mod key_lines;
 mod last_lines;
 mod machine_clock;
 mod migrate;
+mod replay;
 mod status;
 mod stdout_sink;
 mod stop;

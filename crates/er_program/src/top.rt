@@ -3,6 +3,7 @@
 ghost use Rattle.std.specs.Prelude.{◌≡◌, ◌≢◌, ◌≤◌, ◌-◌, ◌^◌, [], ◌∷◌, IfOk};
 ghost use Rattle.er_scenario.specs.Files.{scenario_of};
 ghost use Rattle.link_trait.specs.Outside.{Grew, GrewPart, Kept};
+ghost use Rattle.er_program.specs.Asking.{Asks};
 ghost use Rattle.er_program.specs.Commands.{Drill, command_of, names_of, texts};
 ghost use Rattle.er_program.specs.CommandViews.{command_view};
 ghost use Rattle.er_program.specs.Writing.{EndsFile, Ends};
@@ -13,6 +14,7 @@ use crate::command::{Command, command_from};
 use crate::drill::drill;
 use crate::endings::{misused, out_of_form, out_of_memory, unfetched};
 use crate::migrate::migrate_run;
+use crate::replay::replay_run;
 use crate::status::Status;
 use crate::stop::Stop;
 use er_base::TextFault;
@@ -64,8 +66,8 @@ fn answered<F: Cabinet, K: Sink>(
     ensures ends { Ends (command_of (texts words.now)) (F.files cabinet.new) (F.faults cabinet.old)
         (F.faults cabinet.new)
         (K.held sink.old) (K.held sink.new) (K.faults sink.old) (K.faults sink.new) result }
-    ensures asked { IfOk result (λ _. Grew (F.asked cabinet.old) (F.asked cabinet.new) (names_of (command_of
-        (texts words.now)))) }
+    ensures asks { IfOk result (λ s. Asks (command_of (texts words.now)) s.0 (F.asked cabinet.old) (F.asked cabinet.new)
+        (K.held sink.old) (K.held sink.new)) }
     ensures part { GrewPart (F.asked cabinet.old) (F.asked cabinet.new) (names_of (command_of (texts words.now))) }
     ensures files { Kept (F.files cabinet.old) (F.files cabinet.new) }
     ensures count { F.faults cabinet.old ≤ F.faults cabinet.new }
@@ -76,6 +78,7 @@ fn answered<F: Cabinet, K: Sink>(
         Command::Drill { name } => drill_run(alloc, name, cabinet, sink),
         Command::Bits { name } => bits_run(alloc, name, cabinet, sink),
         Command::Migrate { keys } => migrate_run(alloc, keys, cabinet, sink),
+        Command::Replay { keys, trace } => replay_run(alloc, keys, trace, cabinet, sink),
     }
 }
 
@@ -89,8 +92,8 @@ fn ran<F: Cabinet, K: Sink>(
         (F.asked cabinet.new)
         (F.faults cabinet.old) (F.faults cabinet.new) (K.faults sink.old) (K.faults sink.new) (K.held sink.old)
         (K.held sink.new) result.0 }
-    ensures asked { result.0 ≢ 5 → result.0 ≢ 7 → Grew (F.asked cabinet.old) (F.asked cabinet.new) (names_of
-        (command_of (texts words.now))) }
+    ensures asked { result.0 ≢ 2 → result.0 ≢ 4 → result.0 ≢ 5 → result.0 ≢ 7
+        → Grew (F.asked cabinet.old) (F.asked cabinet.new) (names_of (command_of (texts words.now))) }
     ensures part { GrewPart (F.asked cabinet.old) (F.asked cabinet.new) (names_of (command_of (texts words.now))) }
     ensures files { Kept (F.files cabinet.old) (F.files cabinet.new) }
     ensures count { F.faults cabinet.old ≤ F.faults cabinet.new }
@@ -159,8 +162,9 @@ pub fn run<F: Cabinet, K: Sink>(
         (F.faults cabinet.new)
         (K.faults sink.old) (K.faults sink.new) result.0 }
 
-    // The file words are asked for in their order, each once, and nothing else is.
-    ensures asked { result.0 ≢ 5 → result.0 ≢ 7
+    // The file words are asked for in their order, each once, and nothing else is; at statuses 2 and 4 `fetch` and
+    // `keys` say up to which one.
+    ensures asked { result.0 ≢ 2 → result.0 ≢ 4 → result.0 ≢ 5 → result.0 ≢ 7
         → Grew (F.asked cabinet.old) (F.asked cabinet.new) (names_of (command_of (texts words.now))) }
     ensures asked_part { GrewPart (F.asked cabinet.old) (F.asked cabinet.new) (names_of (command_of
         (texts words.now))) }
