@@ -1,6 +1,5 @@
 -- The printed text of a trace grows event by event, and an answer goes on from the text of the events that are taken.
 use Rattle.std.proofs.Common.{◌≡◌, ℕ, inl, inr, ◌⊎◌, List, [], ◌∷◌, ◌++◌, length, Option, Some, None, refl, ap, sym, subst, ◌∙◌, append_assoc, append-nil, length-append, arith}
-use Rattle.std.proofs.lemmas.List.{cons_same}
 use Rattle.er_base.specs.LineTexts.{line_text}
 use Rattle.er_settings.specs.declared.settings.Settings.{Settings}
 use Rattle.er_trace.specs.declared.entry.Entry.{Entry}
@@ -36,13 +35,15 @@ printed_more s f xs ys =
 -- a place in a list with one more behind it is the last one, or one before it
 split_more : (xs : List Entry) (e : Entry) (ys : List Entry) (y : Entry) (zs : List Entry) → xs ++ e ∷ [] ≡ ys ++ y ∷ zs
     → ((ys ≡ xs) × (y ≡ e)) ⊎ ((ws : List Entry) × (xs ≡ ys ++ y ∷ ws))
-split_more [] e [] y zs is = inl (refl, sym (cons_same is).0)
+split_more [] e [] y zs is = inl (refl, cc)
 split_more [] e (b ∷ ys) y zs is = absurd (omega (arith, ap length is, length-append ys (y ∷ zs)))
-split_more (a ∷ xs) e [] y zs is = inr (xs, rw (cons_same is).0 refl)
+split_more (a ∷ xs) e [] y zs is = inr (xs, cc)
 split_more (a ∷ xs) e (b ∷ ys) y zs is =
-    elim (split_more xs e ys y zs (cons_same is).1) [
-      | inl last ↦ inl (rw ((cons_same is).0, last.0) refl, last.1)
-      | inr before ↦ inr (before.0, rw (cons_same is).0 (ap (λ (ws : List Entry). b ∷ ws) before.1))
+    let head : a ≡ b = cc in
+    let rest : xs ++ e ∷ [] ≡ ys ++ y ∷ zs = cc in
+    elim (split_more xs e ys y zs rest) [
+      | inl last ↦ inl (rw (head, last.0) refl, last.1)
+      | inr before ↦ inr (before.0, rw head (ap (λ (ws : List Entry). b ∷ ws) before.1))
     ]
 
 pub taken_none : (s : Settings) (f : Finds) → AreTaken s f []

@@ -12,8 +12,9 @@ use Rattle.drill_model.specs.Worlds.{plan_of, steps_of}
 use Rattle.drill_model.specs.Faults.{fault_behind}
 use Rattle.drill_model.specs.Texts.{first_lines, drill_text}
 use Rattle.link_trait.specs.Outside.{HasFile, Rose}
-use Rattle.er_program.specs.Commands.{Command, Misused, Drill, Bits, Migrate, Replay}
+use Rattle.er_program.specs.Commands.{Command, Misused, Drill, Bits, Migrate, Replay, Bulk}
 use Rattle.er_program.specs.BitTexts.{most_line_octets, bits_text}
+use Rattle.er_program.specs.BulkTexts.{bulk_plan, steps_of_bulk, totals_of_bulk, totals_line, AllDone, FirstOverfull}
 use Rattle.safety_automaton.specs.Keys.{Entry, key_at}
 use Rattle.er_settings.specs.declared.settings.Settings.{Settings}
 use Rattle.er_trace.specs.declared.entry.Entry.{Entry as TraceEntry}
@@ -195,6 +196,16 @@ pub record IsReplayWordsAnswer (keys name : List ℕ) (files : Files) (c d : ℕ
   pub stands : HasFetched keys fetched files c d
   pub is : IsFetchedReplay keys name fetched files c d a
 
+-- ---- a bulk run
+
+-- where its steps are all done, one line is printed, with their totals; where one isn't, too many frames would wait. No step is refused
+pub data IsBulkAnswer (seed count : ℕ) (a : Answer) : Type 0 where
+  AllAreCounted : AllDone bulk_plan (steps_of_bulk seed count) (length (steps_of_bulk seed count))
+      → a ≡ record { status = 0; text = totals_line seed count (totals_of_bulk seed count) }
+      → IsBulkAnswer seed count a
+  TooManyWait : (f : FirstOverfull bulk_plan (steps_of_bulk seed count)) → a ≡ record { status = 8; text = overfull_line f.link f.side f.most }
+      → IsBulkAnswer seed count a
+
 -- ---- the words
 
 -- the answer to a command, by the files and the cabinet's count of faults before and after
@@ -204,3 +215,4 @@ IsAnswer (Drill name) files c d a = IsFileAnswer name files c d a
 IsAnswer (Bits name) files c d a = IsBitsAnswer name files c d a
 IsAnswer (Migrate keys) files c d a = IsMigrateAnswer keys files c d a
 IsAnswer (Replay keys trace) files c d a = IsReplayWordsAnswer keys trace files c d a
+IsAnswer (Bulk seed count) files c d a = IsBulkAnswer seed count a

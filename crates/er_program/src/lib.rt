@@ -7,6 +7,7 @@
 mod bits;
 #[cfg(test)]
 mod bits_tests;
+mod bulk;
 mod command;
 mod drill;
 mod endings;
