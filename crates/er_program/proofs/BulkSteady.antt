@@ -11,6 +11,7 @@ use Rattle.drill_model.specs.Links.{Link, LinkOpening, LinkStep}
 use Rattle.drill_model.specs.Worlds.{Plan, World, Came, new_world, is_link, link_at, overfull_side, at_link, open_link, went_on, drain_link, ticks, ticked, world_step, world_run_from, world_run, link_opening}
 use Rattle.drill_model.specs.Faults.{wants, wants_moment, or_else, refusal, overfull_fault, overfull_at, first_overfull, overfull_of, fault_of, fault_behind}
 use Rattle.drill_model.specs.Headline.{OpensAlways, opening_by, or_opening, opening_of}
+use Rattle.bulk_steps.specs.Turns.{kmac}
 use Rattle.er_program.specs.BulkTexts.{bulk_plan, steps_of_bulk}
 use Rattle.er_program.proofs.BulkSteps.{IsGood, AreGood, moment_after, first_step, later_steps, steps_are, later_good}
 
@@ -107,7 +108,7 @@ pub unrefused : OpensAlways → (seed count k : ℕ) (s : Step) → slice_get (s
 unrefused opens seed count k s =
     let Holds : List Step → Type 0 = λ steps. slice_get steps k ≡ Some s → refusal (world_run bulk_plan (take k steps)).0 s ≡ None in
     subst Holds (sym (steps_are seed count))
-    (then_unrefused opens bulk_plan (1000 * count) first_step _ (later_steps seed count) refl refl (open_moment bulk_plan new_world 1 None _) (later_good seed count) k s)
+    (then_unrefused opens bulk_plan (1000 * count) first_step _ (later_steps seed count) refl refl (open_moment bulk_plan new_world 1 None (link_opening bulk_plan.level 1 2 kmac (Some kmac) 1 2)) (later_good seed count) k s)
 
 -- ---- other faults
 

@@ -25,4 +25,5 @@ returns-in-Err-Failed-clause-ends g c =
 
 pub returns-in-Err-NoMemory-clause-part : goal.returns-in-Err-NoMemory-clause-part
 returns-in-Err-NoMemory-clause-part g c =
-    part_more _ _ (c.args.keys.now ∷ []) (c.args.trace.now ∷ []) c.in-Err-NoMemory.ensures.noted
+    part_more _ _ (c.args.keys.now ∷ []) (c.args.trace.now ∷ [])
+    (rw c.in-Err-NoMemory.field-0-is at c.in-Err-NoMemory.ensures.noted)
