@@ -1,7 +1,7 @@
 -- What is claimed of the world holds at every moment of the steps that are done, by the laws of every list of steps.
 use Rattle.std.proofs.Common.{◌≡◌, ℕ, zero, suc, ◌+◌, inl, inr, List, [], ◌∷◌, ◌++◌, length, map, take, slice_index, Some, None, sym, subst, ap, ◌∙◌, arith}
 use Rattle.std.proofs.lemmas.Bool.{cases_lt}
-use Rattle.std.proofs.lemmas.List.{get_or_past}
+use Rattle.std.proofs.lemmas.List.{get_or_past, take_all}
 use Rattle.std.proofs.lemmas.Option.{slice_get_cases}
 use Rattle.std.specs.List.{AllByRecursion}
 use Rattle.er_base.specs.Octets.{AreOctets}
@@ -18,11 +18,15 @@ use Rattle.er_settings.specs.declared.settings.Settings.{Settings}
 use Rattle.er_settings.specs.Ranges.{AllAllowed}
 use Rattle.drill_model.specs.Links.{LinkOpening, OfPair, OfStations, OfStacks, Link}
 use Rattle.drill_model.specs.Steps.{HasOctets, FitsFields, AllFit}
-use Rattle.drill_model.specs.Worlds.{plan_of, link_at, overfull_side, world_run}
+use Rattle.drill_model.specs.Worlds.{Plan, plan_of, link_at, overfull_side, world_run}
 use Rattle.drill_model.specs.Headline.{LawfulAlways, OpensAlways, RoomAlways, FitsSettings, FitsSteps, InOrderAlways, LosingLineReasonsAlways, DeliversAlways}
 use Rattle.er_program.specs.Answers.{AreDone, first_steps}
 use Rattle.er_program.proofs.DrillSteps.{etcs_numbers, first_more, all_steps}
 use Rattle.er_program.proofs.RunMeanings.{AlwaysHolds}
+use Rattle.er_program.specs.BulkTexts.{bulk_plan, steps_of_bulk, AllDone}
+use Rattle.er_program.specs.Runs.{Holds}
+use Rattle.er_program.proofs.BulkMeanings.{BulkHolds}
+use Rattle.er_program.proofs.BulkSteps.{take_one_more, usual_allowed, first_steps_fit}
 
 -- the octets of a text
 text_octets : (text : List ℕ) → IsText text → AreOctets text
@@ -86,16 +90,42 @@ steps_fit steps (OfPair opening) all = tt
 steps_fit steps OfStations all = tt
 steps_fit steps (OfStacks engine rbc ke kr ra rb) all = all
 
+-- what is claimed of a world behind steps, where no link is overfull
+holds_behind : LawfulAlways → OpensAlways → InOrderAlways → LosingLineReasonsAlways → DeliversAlways → (plan : Plan) (steps : List Step) → AllAllowed plan.settings → AllFit steps
+    → ((n : ℕ) (l : Link) → link_at (world_run plan steps).0 n ≡ Some l → overfull_side l ≡ None) → Holds plan steps
+holds_behind lawful opens in_order reasons delivers plan steps allowed all room = record {
+  opens = opens plan steps;
+  lawful = lawful plan steps;
+  in_order = λ n l at. in_order plan steps n l at (fits plan.settings l.opening allowed) (steps_fit steps l.opening all);
+  reasons = λ n l at. reasons plan steps n l at (fits plan.settings l.opening allowed) (steps_fit steps l.opening all);
+  delivers = λ n l at. delivers plan steps all n l at (fits plan.settings l.opening allowed);
+  room = room;
+}
+
 pub holds_always : LawfulAlways → OpensAlways → InOrderAlways → LosingLineReasonsAlways → DeliversAlways → RoomAlways → AlwaysHolds
 holds_always lawful opens in_order reasons delivers law s readable count done k le =
-    let all : AllFit (first_steps s k) = first_fit Running s.level s.steps k readable.steps in
-    record {
-      opens = opens (plan_of s) (first_steps s k);
-      lawful = lawful (plan_of s) (first_steps s k);
-      in_order = λ n l at.
-          in_order (plan_of s) (first_steps s k) n l at (fits s.settings l.opening readable.settings) (steps_fit (first_steps s k) l.opening all);
-      reasons = λ n l at.
-          reasons (plan_of s) (first_steps s k) n l at (fits s.settings l.opening readable.settings) (steps_fit (first_steps s k) l.opening all);
-      delivers = λ n l at. delivers (plan_of s) (first_steps s k) all n l at (fits s.settings l.opening readable.settings);
-      room = room law s k (λ j x lt is. done j x (omega (arith, lt, le)) is);
-    }
+    holds_behind lawful opens in_order reasons delivers (plan_of s) (first_steps s k) readable.settings (first_fit Running s.level s.steps k readable.steps)
+    (room law s k (λ j x lt is. done j x (omega (arith, lt, le)) is))
+
+-- ---- a bulk run
+
+-- behind the first steps that are done no link is overfull
+bulk_room : RoomAlways → (steps : List Step) (k : ℕ) → AllDone bulk_plan steps k → (n : ℕ) (l : Link)
+    → link_at (world_run bulk_plan (take k steps)).0 n ≡ Some l → overfull_side l ≡ None
+bulk_room law steps zero done n l at = absurd (cc)
+bulk_room law steps (suc k) done n l at =
+    let plus : k + 1 ≡ suc k = omega arith in
+    let At : List Step → Type 0 = λ first. link_at (world_run bulk_plan first).0 n ≡ Some l in
+    elim (slice_get_cases steps k).1 [
+      | inl here ↦
+          let is : take (suc k) steps ≡ take k steps ++ here.0 ∷ [] = sym (ap (λ j. take j steps) plus) ∙ take_one_more steps k here.0 here.2 in
+          law bulk_plan (take k steps) here.0 (done k here.0 (omega arith) here.2) n l (subst At is at)
+      | inr past ↦
+          let is : take (suc k) steps ≡ take k steps = take_all (suc k) steps (omega (arith, past.0)) ∙ sym (take_all k steps past.0) in
+          bulk_room law steps k (λ j s lt next. done j s (omega (arith, lt)) next) n l (subst At is at)
+    ]
+
+pub bulk_holds : LawfulAlways → OpensAlways → InOrderAlways → LosingLineReasonsAlways → DeliversAlways → RoomAlways → BulkHolds
+bulk_holds lawful opens in_order reasons delivers law seed count most done k le =
+    holds_behind lawful opens in_order reasons delivers bulk_plan (take k (steps_of_bulk seed count)) usual_allowed (first_steps_fit seed count k)
+    (bulk_room law (steps_of_bulk seed count) k (λ j s lt is. done j s (omega (arith, lt, le)) is))

@@ -9,3 +9,11 @@ pub mod BitRuns
 pub mod BitMeanings
 pub mod KeyRuns
 pub mod KeyMeanings
+pub mod TraceTexts
+pub mod ReplayRuns
+pub mod Askings
+pub mod ReplayMeanings
+pub mod BulkSteps
+pub mod BulkSteady
+pub mod BulkRuns
+pub mod BulkMeanings

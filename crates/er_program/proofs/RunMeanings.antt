@@ -12,7 +12,8 @@ use Rattle.drill_model.specs.declared.world_fault.WorldFault.TheVariants.{NoLink
 use Rattle.drill_model.specs.Texts.{drill_text}
 use Rattle.link_trait.specs.Outside.{Grew, GrewPart, Rose, HasFile}
 use Rattle.link_trait.specs.Growth.{grew_then}
-use Rattle.er_program.specs.Commands.{Command, Misused, Drill, Bits, names_of, Migrate}
+use Rattle.er_program.specs.Asking.{Asks}
+use Rattle.er_program.specs.Commands.{Command, Misused, Drill, Bits, Migrate, Replay, Bulk}
 use Rattle.er_program.specs.LastLines.{fault_line, why_word, fetch_line, usage_line, memory_line}
 use Rattle.er_program.specs.Answers.{Answer, HasFetched, IsFetchedAnswer, Files, FirstFault, AreDone, IsDrillAnswer, IsWhole, BreaksOff, IsScenarioAnswer, lines_of_first, fault_answer}
 use Rattle.er_program.specs.Runs.{HoldsAlways, BrokeOff, AreFirstLines, Means, HasStatus, IsSinkFailed, IsOutOfMemory, IsComplete}
@@ -20,6 +21,8 @@ use Rattle.er_program.specs.Writing.{HasReadable, IsReadable, IsBegun, Finished,
 use Rattle.er_program.specs.declared.status.Status.{Status}
 use Rattle.er_program.proofs.BitMeanings.{means_bits}
 use Rattle.er_program.proofs.KeyMeanings.{means_migrate}
+use Rattle.er_program.proofs.ReplayMeanings.{means_replay}
+use Rattle.er_program.proofs.BulkMeanings.{BulkHolds, means_bulk}
 
 -- what is claimed of the world holds at every moment of the steps that are done
 abbrev pub AlwaysHolds : Type 0
@@ -67,6 +70,8 @@ memory_complete Misused files c d f g status is = λ fine. inr is
 memory_complete (Drill name) files c d f g status is = λ good fine. inr is
 memory_complete (Bits name) files c d f g status is = λ good fine. inr is
 memory_complete (Migrate keys) files c d f g status is = λ good fine. inr is
+memory_complete (Replay keys trace) files c d f g status is = λ good fine. inr is
+memory_complete (Bulk seed count) files c d f g status is = λ fine. inr is
 
 means_memory : (command : Command) (files : Files) (p q : Names) (c d f g : ℕ) (before now : Option (List ℕ)) (status : ℕ)
     → status ≡ 7 → IsOutOfMemory command files before now → Means command files p q c d f g before now status
@@ -89,6 +94,8 @@ not_complete Misused files c d f g status rose = λ fine. absurd (fine rose)
 not_complete (Drill name) files c d f g status rose = λ good fine. absurd (fine rose)
 not_complete (Bits name) files c d f g status rose = λ good fine. absurd (fine rose)
 not_complete (Migrate keys) files c d f g status rose = λ good fine. absurd (fine rose)
+not_complete (Replay keys trace) files c d f g status rose = λ good fine. absurd (fine rose)
+not_complete (Bulk seed count) files c d f g status rose = λ fine. absurd (fine rose)
 
 means_sink : (command : Command) (files : Files) (p q : Names) (c d f g : ℕ) (before now : Option (List ℕ)) (status : ℕ)
     → status ≡ 5 → IsSinkFailed command files c d f g before now → Means command files p q c d f g before now status
@@ -283,17 +290,21 @@ means_fetched name (Some file) a files p q c d f g before now status asked law s
     means_file name file (scenario_of file) a files p q c d f g before now status law stands refl readable answers stated printed
 
 -- the words were answered
-pub means_finished : AlwaysHolds → (command : Command) (files : Files) (p q : Names) (c d : ℕ) (before now : Option (List ℕ)) (f g status : ℕ)
-    → Grew p q (names_of command) → Finished command files c d before now f g status → Means command files p q c d f g before now status
-means_finished law Misused files p q c d before now f g status asked ends =
+pub means_finished : AlwaysHolds → BulkHolds → (command : Command) (files : Files) (p q : Names) (c d : ℕ) (before now : Option (List ℕ)) (f g status : ℕ)
+    → Asks command status p q before now → Finished command files c d before now f g status → Means command files p q c d f g before now status
+means_finished law bulk Misused files p q c d before now f g status asked ends =
     means_usage files p q c d f g before now status (ends.stated ∙ ap (λ (a : Answer). a.status) ends.is) (rw ends.is at ends.printed)
-means_finished law (Drill name) files p q c d before now f g status asked ends =
+means_finished law bulk (Drill name) files p q c d before now f g status asked ends =
     let given = ends.is.answer in
     means_fetched name given.fetched ends.answer files p q c d f g before now status asked law given.stands ends.is.readable given.is ends.stated ends.printed
-means_finished law (Bits name) files p q c d before now f g status asked ends =
+means_finished law bulk (Bits name) files p q c d before now f g status asked ends =
     means_bits name ends.is.fetched ends.answer files p q c d f g before now status asked ends.is.stands ends.is.is ends.stated ends.printed
-means_finished law (Migrate keys) files p q c d before now f g status asked ends =
+means_finished law bulk (Migrate keys) files p q c d before now f g status asked ends =
     means_migrate keys ends.is.fetched ends.answer files p q c d f g before now status asked ends.is.stands ends.is.is ends.stated ends.printed
+means_finished law bulk (Replay keys trace) files p q c d before now f g status asked ends =
+    means_replay keys trace ends.is.fetched ends.answer files p q c d f g before now status asked ends.is.stands ends.is.is ends.stated ends.printed
+means_finished law bulk (Bulk seed count) files p q c d before now f g status asked ends =
+    means_bulk bulk seed count ends.answer files p q c d f g before now status ends.is ends.stated ends.printed
 
 -- a write failed
 pub means_broken : (command : Command) (files : Files) (p q : Names) (c d : ℕ) (before now : Option (List ℕ)) (f g : ℕ)
@@ -319,6 +330,8 @@ first_lines_hold law (Drill name) files text begun =
     ]
 first_lines_hold law (Bits name) files text begun = begun
 first_lines_hold law (Migrate keys) files text begun = begun
+first_lines_hold law (Replay keys trace) files text begun = begun
+first_lines_hold law (Bulk seed count) files text begun = begun
 
 -- memory ran out, and the last line was written
 means_exhausted : AlwaysHolds → (command : Command) (files : Files) (p q : Names) (c d : ℕ) (before mid now : Option (List ℕ)) (f g h : ℕ)

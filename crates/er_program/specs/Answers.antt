@@ -12,14 +12,23 @@ use Rattle.drill_model.specs.Worlds.{plan_of, steps_of}
 use Rattle.drill_model.specs.Faults.{fault_behind}
 use Rattle.drill_model.specs.Texts.{first_lines, drill_text}
 use Rattle.link_trait.specs.Outside.{HasFile, Rose}
-use Rattle.er_program.specs.Commands.{Command, Misused, Drill, Bits, Migrate}
+use Rattle.er_program.specs.Commands.{Command, Misused, Drill, Bits, Migrate, Replay, Bulk}
 use Rattle.er_program.specs.BitTexts.{most_line_octets, bits_text}
-use Rattle.safety_automaton.specs.Keys.{Entry}
+use Rattle.er_program.specs.BulkTexts.{bulk_plan, steps_of_bulk, totals_of_bulk, totals_line, AllDone, FirstOverfull}
+use Rattle.safety_automaton.specs.Keys.{Entry, key_at}
+use Rattle.er_settings.specs.declared.settings.Settings.{Settings}
+use Rattle.er_trace.specs.declared.entry.Entry.{Entry as TraceEntry}
+use Rattle.er_trace.specs.declared.trace.Trace.{Trace}
+use Rattle.er_trace.specs.Files.{trace_of}
+use Rattle.end_model.specs.Steps.{Finds}
+use Rattle.trace_model.specs.declared.replay_fault.ReplayFault.{ReplayFault}
+use Rattle.trace_model.specs.Printed.{printed}
+use Rattle.trace_model.specs.Replays.{AreTaken, FirstRefused}
 use Rattle.key_store.specs.declared.key_file_fault.KeyFileFault.{KeyFileFault}
 use Rattle.key_store.specs.declared.key_file_fault.KeyFileFault.TheVariants as keys
 use Rattle.key_store.specs.KeyFiles.{keys_of}
 use Rattle.er_program.specs.KeyLines.{keys_line}
-use Rattle.er_program.specs.LastLines.{usage_line, fetch_line, fault_line, memory_line, overfull_line, why_word}
+use Rattle.er_program.specs.LastLines.{usage_line, fetch_line, fault_line, refused_line, memory_line, overfull_line, why_word}
 
 pub record Answer : Type 0 where
   pub status : ℕ
@@ -146,6 +155,57 @@ pub record IsMigrateAnswer (name : List ℕ) (files : Files) (c d : ℕ) (a : An
   pub stands : HasFetched name fetched files c d
   pub is : IsFetchedKeys name fetched a
 
+-- ---- a key file and a trace
+
+-- events that are all taken give their printed text; where one is refused, the text of those before it is followed by its line
+pub data IsReplayAnswer (settings : Settings) (finds : Finds) (entries : List TraceEntry) (a : Answer) : Type 0 where
+  AllAreTaken : AreTaken settings finds entries → a ≡ record { status = 0; text = printed settings finds entries }
+      → IsReplayAnswer settings finds entries a
+  OneIsRefused : (fault : ReplayFault) (first : FirstRefused settings finds entries fault)
+      → a ≡ record { status = 3; text = printed settings finds first.first ++ refused_line fault }
+      → IsReplayAnswer settings finds entries a
+
+-- a file that spells a trace is replayed with these entries of a key file; a fault of its grammar prints its line alone
+abbrev pub IsTraceAnswer : List Entry → Result Trace TextFault → Answer → Type 0
+IsTraceAnswer keys (Err (text.At line why)) a = a ≡ record { status = 3; text = fault_line line (why_word why) }
+IsTraceAnswer keys (Err (text.NoMemory want)) a = a ≡ record { status = 7; text = memory_line }
+IsTraceAnswer keys (Ok trace) a = IsReplayAnswer trace.settings (key_at keys) trace.entries a
+
+abbrev pub IsFetchedTrace : List Entry → List ℕ → Option (List ℕ) → Answer → Type 0
+IsFetchedTrace keys name None a = a ≡ record { status = 2; text = fetch_line name }
+IsFetchedTrace keys name (Some file) a = IsTraceAnswer keys (trace_of file) a
+
+-- the answer to the file word of a trace, where the key file has these entries
+pub record IsTraceFileAnswer (keys : List Entry) (name : List ℕ) (files : Files) (c d : ℕ) (a : Answer) : Type 0 where
+  pub fetched : Option (List ℕ)
+  pub stands : HasFetched name fetched files c d
+  pub is : IsFetchedTrace keys name fetched a
+
+-- the trace is asked for where the key file is good
+abbrev pub IsAnswerBehindKeys : Result (List Entry) KeyFileFault → (name : List ℕ) → Files → ℕ → ℕ → Answer → Type 0
+IsAnswerBehindKeys (Err fault) name files c d a = a ≡ keys_answer fault
+IsAnswerBehindKeys (Ok keys) name files c d a = IsTraceFileAnswer keys name files c d a
+
+abbrev pub IsFetchedReplay : (keys name : List ℕ) → Option (List ℕ) → Files → ℕ → ℕ → Answer → Type 0
+IsFetchedReplay keys name None files c d a = a ≡ record { status = 2; text = fetch_line keys }
+IsFetchedReplay keys name (Some file) files c d a = IsAnswerBehindKeys (keys_of file) name files c d a
+
+-- the answer to the file words of a key file and of a trace
+pub record IsReplayWordsAnswer (keys name : List ℕ) (files : Files) (c d : ℕ) (a : Answer) : Type 0 where
+  pub fetched : Option (List ℕ)
+  pub stands : HasFetched keys fetched files c d
+  pub is : IsFetchedReplay keys name fetched files c d a
+
+-- ---- a bulk run
+
+-- where its steps are all done, one line is printed, with their totals; where one isn't, too many frames would wait. No step is refused
+pub data IsBulkAnswer (seed count : ℕ) (a : Answer) : Type 0 where
+  AllAreCounted : AllDone bulk_plan (steps_of_bulk seed count) (length (steps_of_bulk seed count))
+      → a ≡ record { status = 0; text = totals_line seed count (totals_of_bulk seed count) }
+      → IsBulkAnswer seed count a
+  TooManyWait : (f : FirstOverfull bulk_plan (steps_of_bulk seed count)) → a ≡ record { status = 8; text = overfull_line f.link f.side f.most }
+      → IsBulkAnswer seed count a
+
 -- ---- the words
 
 -- the answer to a command, by the files and the cabinet's count of faults before and after
@@ -154,3 +214,5 @@ IsAnswer Misused files c d a = a ≡ record { status = 1; text = usage_line }
 IsAnswer (Drill name) files c d a = IsFileAnswer name files c d a
 IsAnswer (Bits name) files c d a = IsBitsAnswer name files c d a
 IsAnswer (Migrate keys) files c d a = IsMigrateAnswer keys files c d a
+IsAnswer (Replay keys trace) files c d a = IsReplayWordsAnswer keys trace files c d a
+IsAnswer (Bulk seed count) files c d a = IsBulkAnswer seed count a

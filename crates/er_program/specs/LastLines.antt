@@ -1,10 +1,12 @@
 -- The last line of a run that isn't ended with status 0 (this profile).
-use Rattle.std.specs.Prelude.{ℕ, List, ◌++◌, codes}
+use Rattle.std.specs.Prelude.{ℕ, List, [], ◌++◌, codes}
 use Rattle.std.specs.Fmt.{decimal}
 use Rattle.er_base.specs.declared.side.Side.{Side}
 use Rattle.er_base.specs.Sides.{side_word}
 use Rattle.er_base.specs.declared.why.Why.{Why}
 use Rattle.er_base.specs.declared.why.Why.TheVariants.{Header, Word, Count, Level, Late, Number, Hex, Value, Long}
+use Rattle.trace_model.specs.declared.replay_fault.ReplayFault.{ReplayFault}
+use Rattle.trace_model.specs.declared.replay_fault.ReplayFault.TheVariants.{NoConn, ConnTwice, MomentBack, NoKey, Many, Sink, NoMemory}
 
 -- status 1
 abbrev pub usage_line : List ℕ
@@ -17,6 +19,16 @@ fetch_line name = codes "! fetch " ++ (name ++ codes "\n")
 -- status 3: a fault of a line of the file, by its number and a word
 unfoldable pub fault_line : ℕ → List ℕ → List ℕ
 fault_line line word = codes "! line " ++ (decimal line ++ (codes " " ++ (word ++ codes "\n")))
+
+-- status 3: an event of a trace that isn't taken, by its line; no event is refused as the sink's failure or as want of memory
+abbrev pub refused_line : ReplayFault → List ℕ
+refused_line (NoConn line conn) = fault_line line (codes "noconn")
+refused_line (ConnTwice line conn) = fault_line line (codes "twice")
+refused_line (MomentBack line was now) = fault_line line (codes "back")
+refused_line (NoKey line engine rbc) = fault_line line (codes "nokey")
+refused_line (Many line live) = fault_line line (codes "many")
+refused_line Sink = []
+refused_line (NoMemory want) = []
 
 -- status 7
 abbrev pub memory_line : List ℕ

@@ -7,5 +7,9 @@ pub mod Writing
 pub mod WriterSinks
 pub mod BitTexts
 pub mod BitWriting
+pub mod BulkTexts
+pub mod BulkRuns
 pub mod KeyLines
 pub mod KeyWriting
+pub mod ReplayWriting
+pub mod Asking

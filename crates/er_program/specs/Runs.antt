@@ -1,5 +1,5 @@
 -- What is claimed of a run of the program: each status with its cause, what the sink got, the names that were asked for (this profile).
-use Rattle.std.specs.Prelude.{◌≡◌, ◌⊎◌, ◌≤◌, ℕ, ◌<◌, List, [], ◌∷◌, ◌++◌, length, take, Option, Some, None, Ok, Err, codes}
+use Rattle.std.specs.Prelude.{◌≡◌, ◌⊎◌, ◌≤◌, ℕ, ◌<◌, List, [], ◌∷◌, ◌++◌, length, take, Option, Some, None, Result, Ok, Err, codes}
 use Rattle.std.specs.List.{AllByRecursion}
 use Rattle.std.specs.Option.{option_map}
 use Rattle.er_base.specs.declared.why.Why.{Why}
@@ -13,11 +13,18 @@ use Rattle.drill_model.specs.Texts.{drill_text}
 use Rattle.drill_model.specs.Kinds.{releases_in, IsOrderKeeping, IsLossFree}
 use Rattle.drill_model.specs.Headline.{opening_of, LawfulAt, IsInOrder, IsLosingLineReason, Delivers}
 use Rattle.link_trait.specs.Outside.{Grew, GrewPart, Rose, HasFile}
-use Rattle.er_program.specs.Commands.{Command, Misused, Drill, Bits, names_of, Migrate}
-use Rattle.er_program.specs.LastLines.{usage_line, memory_line, fetch_line, fault_line, why_word}
-use Rattle.er_program.specs.Answers.{Answer, IsAnswer, IsScenarioAnswer, Files, FirstFault, AreDone, first_steps, lines_of_first, fault_answer, bits_answer, IsKeysAnswer}
+use Rattle.er_program.specs.Commands.{Command, Misused, Drill, Bits, names_of, Migrate, Replay, Bulk}
+use Rattle.er_program.specs.LastLines.{usage_line, memory_line, fetch_line, fault_line, refused_line, overfull_line, why_word}
+use Rattle.er_program.specs.Answers.{Answer, IsAnswer, IsScenarioAnswer, Files, FirstFault, AreDone, first_steps, lines_of_first, fault_answer, bits_answer, IsKeysAnswer, IsTraceAnswer, IsBulkAnswer, keys_answer}
 use Rattle.er_program.specs.BitTexts.{most_line_octets, verdict_lines, verdicts_in, bits_text}
-use Rattle.safety_automaton.specs.Keys.{Entry}
+use Rattle.er_program.specs.BulkTexts.{bulk_plan, steps_of_bulk, totals_of_bulk, totals_line, AllDone, FirstOverfull}
+use Rattle.safety_automaton.specs.Keys.{Entry, key_at}
+use Rattle.er_trace.specs.declared.entry.Entry.{Entry as TraceEntry}
+use Rattle.er_trace.specs.declared.trace.Trace.{Trace}
+use Rattle.er_trace.specs.Files.{trace_of}
+use Rattle.trace_model.specs.declared.replay_fault.ReplayFault.{ReplayFault}
+use Rattle.trace_model.specs.Printed.{printed}
+use Rattle.trace_model.specs.Replays.{AreTaken, FirstRefused}
 use Rattle.key_store.specs.declared.key_file_fault.KeyFileFault.{KeyFileFault}
 use Rattle.key_store.specs.KeyFiles.{keys_of}
 use Rattle.er_program.specs.KeyLines.{keys_line}
@@ -83,11 +90,40 @@ pub record Migrated (name : List ℕ) (files : Files) (before now : Option (List
   pub printed : Grew before now text
   pub same : keys_of text ≡ Ok entries
 
+-- the file of the first name is a key file with these entries, and that of the second one spells this trace
+pub record SpellTrace (keys name : List ℕ) (files : Files) (entries : List Entry) (trace : Trace) : Type 0 where
+  pub key_file : List ℕ
+  pub keys_stand : HasFile files keys key_file
+  pub keys_spelled : keys_of key_file ≡ Ok entries
+  pub file : List ℕ
+  pub stands : HasFile files name file
+  pub spelled : trace_of file ≡ Ok trace
+
+-- the events of the trace are all taken, and their printed text was written
+pub record Replayed (keys name : List ℕ) (files : Files) (before now : Option (List ℕ)) : Type 0 where
+  pub entries : List Entry
+  pub trace : Trace
+  pub spell : SpellTrace keys name files entries trace
+  pub taken : AreTaken trace.settings (key_at entries) trace.entries
+  pub written : Grew before now (printed trace.settings (key_at entries) trace.entries)
+
+-- what is claimed of a world holds at every moment of the first steps of a bulk run
+abbrev pub HoldsInBulk : (seed count : ℕ) → (done : ℕ) → Type 0
+HoldsInBulk seed count done = (k : ℕ) → k ≤ done → Holds bulk_plan (take k (steps_of_bulk seed count))
+
+-- the steps of a bulk run are all done, and their totals were written
+pub record BulkCounted (seed count : ℕ) (before now : Option (List ℕ)) : Type 0 where
+  pub are_done : AllDone bulk_plan (steps_of_bulk seed count) (length (steps_of_bulk seed count))
+  pub written : Grew before now (totals_line seed count (totals_of_bulk seed count))
+  pub holds : HoldsInBulk seed count (length (steps_of_bulk seed count))
+
 abbrev pub IsDone : Command → Files → Option (List ℕ) → Option (List ℕ) → Type 0
 IsDone Misused files before now = ⊥
 IsDone (Drill name) files before now = Drilled name files before now
 IsDone (Bits name) files before now = BitsRead name files before now
 IsDone (Migrate keys) files before now = Migrated keys files before now
+IsDone (Replay keys trace) files before now = Replayed keys trace files before now
+IsDone (Bulk seed count) files before now = BulkCounted seed count before now
 
 -- ---- status 1
 
@@ -96,6 +132,8 @@ IsMisused Misused before now = Grew before now usage_line
 IsMisused (Drill name) before now = ⊥
 IsMisused (Bits name) before now = ⊥
 IsMisused (Migrate keys) before now = ⊥
+IsMisused (Replay keys trace) before now = ⊥
+IsMisused (Bulk seed count) before now = ⊥
 
 -- ---- status 2
 
@@ -137,12 +175,43 @@ pub record BitsTooLong (name : List ℕ) (files : Files) (before now : Option (L
   pub long : most_line_octets < length file
   pub printed : Grew before now (fault_line 0 (codes "long"))
 
--- status 3: the file is out of its grammar, or a step is refused
+-- the key file is good, and the file of the second name is out of the grammar of traces: its first fault, which is printed alone
+pub record IsTraceOutOfForm (keys name : List ℕ) (files : Files) (before now : Option (List ℕ)) : Type 0 where
+  pub key_file : List ℕ
+  pub keys_stand : HasFile files keys key_file
+  pub entries : List Entry
+  pub keys_spelled : keys_of key_file ≡ Ok entries
+  pub file : List ℕ
+  pub stands : HasFile files name file
+  pub line : ℕ
+  pub why : Why
+  pub unspelled : trace_of file ≡ Err (At line why)
+  pub written : Grew before now (fault_line line (why_word why))
+
+-- an event of the trace isn't taken, the first such, for this fault: the printed text of those before it was written, and then its line
+pub record IsEventRefused (keys name : List ℕ) (files : Files) (before now : Option (List ℕ)) : Type 0 where
+  pub entries : List Entry
+  pub trace : Trace
+  pub spell : SpellTrace keys name files entries trace
+  pub fault : ReplayFault
+  pub first : FirstRefused trace.settings (key_at entries) trace.entries fault
+  pub written : Grew before now (printed trace.settings (key_at entries) first.first ++ refused_line fault)
+
+-- status 3: the file is out of its grammar, or a step or an event is refused
 abbrev pub IsRefused : Command → Files → Option (List ℕ) → Option (List ℕ) → Type 0
 IsRefused Misused files before now = ⊥
 IsRefused (Drill name) files before now = IsOutOfForm name files before now ⊎ BrokeOff name files 3 before now
 IsRefused (Bits name) files before now = BitsTooLong name files before now
 IsRefused (Migrate keys) files before now = ⊥
+IsRefused (Replay keys trace) files before now =
+    IsTraceOutOfForm keys trace files before now ⊎ IsEventRefused keys trace files before now
+IsRefused (Bulk seed count) files before now = ⊥
+
+-- in a step of a bulk run too many frames would wait, which is printed alone
+pub record IsBulkOverfull (seed count : ℕ) (before now : Option (List ℕ)) : Type 0 where
+  pub first : FirstOverfull bulk_plan (steps_of_bulk seed count)
+  pub written : Grew before now (overfull_line first.link first.side first.most)
+  pub holds : HoldsInBulk seed count first.count
 
 -- status 8: a frame would be one more than may wait in one direction
 abbrev pub IsOverfull : Command → Files → Option (List ℕ) → Option (List ℕ) → Type 0
@@ -150,6 +219,8 @@ IsOverfull Misused files before now = ⊥
 IsOverfull (Drill name) files before now = BrokeOff name files 8 before now
 IsOverfull (Bits name) files before now = ⊥
 IsOverfull (Migrate keys) files before now = ⊥
+IsOverfull (Replay keys trace) files before now = ⊥
+IsOverfull (Bulk seed count) files before now = IsBulkOverfull seed count before now
 
 -- ---- status 4
 
@@ -167,6 +238,8 @@ IsKeyless Misused files asked asked_now before now = ⊥
 IsKeyless (Drill name) files asked asked_now before now = ⊥
 IsKeyless (Bits name) files asked asked_now before now = ⊥
 IsKeyless (Migrate keys) files asked asked_now before now = AreKeysRefused keys files asked asked_now before now
+IsKeyless (Replay keys trace) files asked asked_now before now = AreKeysRefused keys files asked asked_now before now
+IsKeyless (Bulk seed count) files asked asked_now before now = ⊥
 
 -- ---- status 7
 
@@ -186,12 +259,26 @@ pub record FirstVerdictLines (name : List ℕ) (files : Files) (text : List ℕ)
   pub count : ℕ
   pub is : text ≡ verdict_lines (take count (verdicts_in file))
 
+-- a beginning of the printed text of some first events, which are taken
+pub record FirstEventLines (keys name : List ℕ) (files : Files) (text : List ℕ) : Type 0 where
+  pub entries : List Entry
+  pub trace : Trace
+  pub spell : SpellTrace keys name files entries trace
+  pub first : List TraceEntry
+  pub others : List TraceEntry
+  pub are_first : trace.entries ≡ first ++ others
+  pub taken : AreTaken trace.settings (key_at entries) first
+  pub rest : List ℕ
+  pub is : text ++ rest ≡ printed trace.settings (key_at entries) first
+
 -- nothing was written where memory ran out before the first step
 abbrev pub AreFirstLines : Command → Files → List ℕ → Type 0
 AreFirstLines Misused files text = text ≡ []
 AreFirstLines (Drill name) files text = (text ≡ []) ⊎ FirstLines name files text
 AreFirstLines (Bits name) files text = (text ≡ []) ⊎ FirstVerdictLines name files text
 AreFirstLines (Migrate keys) files text = text ≡ []
+AreFirstLines (Replay keys trace) files text = (text ≡ []) ⊎ FirstEventLines keys trace files text
+AreFirstLines (Bulk seed count) files text = text ≡ []
 
 -- want of memory: the sink got the lines of some first steps, and then the last line
 pub record IsOutOfMemory (command : Command) (files : Files) (before now : Option (List ℕ)) : Type 0 where
@@ -237,6 +324,32 @@ pub record HasKeysStatus (file : List ℕ) (status : ℕ) : Type 0 where
   pub answers : IsKeysAnswer (keys_of file) answer
   pub is : status ≡ answer.status
 
+-- a trace's status is that of its answer; in particular 0 where it spells a trace whose events are all taken
+pub record HasTraceStatus (entries : List Entry) (name : List ℕ) (files : Files) (status : ℕ) : Type 0 where
+  pub file : List ℕ
+  pub stands : HasFile files name file
+  pub answer : Answer
+  pub answers : IsTraceAnswer entries (trace_of file) answer
+  pub is : status ≡ answer.status
+  pub all_taken : (trace : Trace) → trace_of file ≡ Ok trace → AreTaken trace.settings (key_at entries) trace.entries → status ≡ 0
+
+-- a key file that is refused has its status, and one that is good leaves it to the trace
+abbrev pub IsStatusBehindKeys : Result (List Entry) KeyFileFault → (name : List ℕ) → Files → ℕ → Type 0
+IsStatusBehindKeys (Err fault) name files status = status ≡ (keys_answer fault).status
+IsStatusBehindKeys (Ok entries) name files status = HasTraceStatus entries name files status
+
+pub record HasReplayStatus (keys name : List ℕ) (files : Files) (status : ℕ) : Type 0 where
+  pub key_file : List ℕ
+  pub keys_stand : HasFile files keys key_file
+  pub is : IsStatusBehindKeys (keys_of key_file) name files status
+
+-- a bulk run's status is that of its answer; in particular 0 where its steps are all done
+pub record HasBulkStatus (seed count : ℕ) (status : ℕ) : Type 0 where
+  pub answer : Answer
+  pub answers : IsBulkAnswer seed count answer
+  pub is : status ≡ answer.status
+  pub all_done : AllDone bulk_plan (steps_of_bulk seed count) (length (steps_of_bulk seed count)) → status ≡ 0
+
 -- where the counts of cabinet and sink didn't rise, the words and the file give their status, want of memory aside
 abbrev pub IsComplete : Command → Files → ℕ → ℕ → ℕ → ℕ → ℕ → Type 0
 IsComplete Misused files c d f g status = (Rose f g → ⊥) → (status ≡ 1) ⊎ (status ≡ 7)
@@ -249,6 +362,9 @@ IsComplete (Bits name) files c d f g status =
 IsComplete (Migrate keys) files c d f g status =
     (Rose c d → ⊥) → (Rose f g → ⊥)
     → ((file : List ℕ) × HasFile files keys file × HasKeysStatus file status) ⊎ (status ≡ 7)
+IsComplete (Replay keys trace) files c d f g status =
+    (Rose c d → ⊥) → (Rose f g → ⊥) → HasReplayStatus keys trace files status ⊎ (status ≡ 7)
+IsComplete (Bulk seed count) files c d f g status = (Rose f g → ⊥) → HasBulkStatus seed count status ⊎ (status ≡ 7)
 
 -- ---- a run
 

@@ -13,10 +13,10 @@ use Rattle.er_world.specs.Standing.{KeptWorld, Ran, IsFaultBehind}
 use Rattle.drill_model.specs.Faults.{fault_behind}
 use Rattle.link_trait.specs.Outside.{Grew, GrewPart, Rose}
 use Rattle.link_trait.specs.declared.sink.Failed.{Failed}
-use Rattle.er_program.specs.Commands.{Command, Misused, Drill, Bits, Migrate}
+use Rattle.er_program.specs.Commands.{Command, Misused, Drill, Bits, Migrate, Replay, Bulk}
 use Rattle.er_program.specs.LastLines.{usage_line, memory_line}
-use Rattle.er_program.specs.Answers.{Answer, IsAnswer, IsDrillAnswer, IsScenarioAnswer, IsFileAnswer, IsBitsAnswer, Files, AreDone, first_steps, lines_of_first, fault_answer, IsMigrateAnswer}
-use Rattle.er_program.specs.Runs.{Spells, FirstVerdictLines}
+use Rattle.er_program.specs.Answers.{Answer, IsAnswer, IsDrillAnswer, IsScenarioAnswer, IsFileAnswer, IsBitsAnswer, Files, AreDone, first_steps, lines_of_first, fault_answer, IsMigrateAnswer, IsReplayWordsAnswer, IsBulkAnswer}
+use Rattle.er_program.specs.Runs.{Spells, FirstVerdictLines, FirstEventLines}
 use Rattle.er_program.specs.declared.status.Status.{Status}
 use Rattle.er_program.specs.declared.halt.Halt.{Halt}
 use Rattle.er_program.specs.declared.halt.Halt.TheVariants as halt
@@ -160,6 +160,8 @@ IsGiven Misused files c d a = a ≡ record { status = 1; text = usage_line }
 IsGiven (Drill name) files c d a = IsReadAnswer name files c d a
 IsGiven (Bits name) files c d a = IsBitsAnswer name files c d a
 IsGiven (Migrate keys) files c d a = IsMigrateAnswer keys files c d a
+IsGiven (Replay keys trace) files c d a = IsReplayWordsAnswer keys trace files c d a
+IsGiven (Bulk seed count) files c d a = IsBulkAnswer seed count a
 
 -- the words were answered
 pub record Finished (command : Command) (files : Files) (c d : ℕ) (before now : Option (List ℕ)) (f g status : ℕ) : Type 0 where
@@ -190,6 +192,8 @@ IsBegun Misused files text = text ≡ []
 IsBegun (Drill name) files text = (text ≡ []) ⊎ StepsBegun name files text
 IsBegun (Bits name) files text = (text ≡ []) ⊎ FirstVerdictLines name files text
 IsBegun (Migrate keys) files text = text ≡ []
+IsBegun (Replay keys trace) files text = (text ≡ []) ⊎ FirstEventLines keys trace files text
+IsBegun (Bulk seed count) files text = text ≡ []
 
 -- memory ran out
 pub record Exhausted (command : Command) (files : Files) (before now : Option (List ℕ)) (f g : ℕ) : Type 0 where

@@ -7,6 +7,7 @@
 mod bits;
 #[cfg(test)]
 mod bits_tests;
+mod bulk;
 mod command;
 mod drill;
 mod endings;
@@ -16,6 +17,7 @@ mod key_lines;
 mod last_lines;
 mod machine_clock;
 mod migrate;
+mod replay;
 mod status;
 mod stdout_sink;
 mod stop;

@@ -1,10 +1,11 @@
 -- What the status means, by how the run ended.
-use Rattle.er_program.proofs.HoldsAlways.{holds_always}
+use Rattle.er_program.proofs.HoldsAlways.{holds_always, bulk_holds}
 use Rattle.er_program.proofs.RunMeanings.{means_finished, means_broken, means_spent}
 use Rattle.er_program.proofs.top.ran.Goals as goal
 
 pub returns-in-Ok-clause-means : goal.returns-in-Ok-clause-means
-returns-in-Ok-clause-means g c = means_finished (holds_always c.lawful.ensures c.worlds.ensures.opens c.in_order.ensures c.losing_line_reasons.ensures c.delivery.ensures c.worlds.ensures.room) _ _ _ _ _ _ _ _ _ _ _ c.in-Ok.ensures.asked c.in-Ok.ensures.ends
+returns-in-Ok-clause-means g c = means_finished (holds_always c.lawful.ensures c.worlds.ensures.opens c.in_order.ensures c.losing_line_reasons.ensures c.delivery.ensures c.worlds.ensures.room)
+    (bulk_holds c.lawful.ensures c.worlds.ensures.opens c.in_order.ensures c.losing_line_reasons.ensures c.delivery.ensures c.worlds.ensures.room) _ _ _ _ _ _ _ _ _ _ _ c.in-Ok.ensures.asks c.in-Ok.ensures.ends
 
 pub returns-in-Err-Sink-clause-means : goal.returns-in-Err-Sink-clause-means
 returns-in-Err-Sink-clause-means g c = means_broken _ _ _ _ _ _ _ _ _ _ (rw c.in-Err-Sink.field-0-is at c.in-Err-Sink.ensures.ends)

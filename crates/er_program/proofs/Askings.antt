@@ -1,0 +1,129 @@
+-- Which names were asked for, by how the parts of a run end.
+use Rattle.std.proofs.Common.{◌≡◌, ◌≢◌, ◌⊎◌, inl, inr, ℕ, List, [], ◌∷◌, Option, Some, None, Result, Ok, Err, IfOk, refl, sym, ◌∙◌, ap, arith}
+use Rattle.er_base.specs.declared.no_memory.NoMemory.{NoMemory as Want}
+use Rattle.er_base.specs.declared.text_fault.TextFault.{TextFault}
+use Rattle.er_base.specs.declared.text_fault.TextFault.TheVariants as text
+use Rattle.er_trace.specs.declared.trace.Trace.{Trace}
+use Rattle.safety_automaton.specs.Keys.{Entry}
+use Rattle.key_store.specs.declared.key_file_fault.KeyFileFault.{KeyFileFault}
+use Rattle.key_store.specs.declared.key_file_fault.KeyFileFault.TheVariants as keys
+use Rattle.link_trait.specs.Outside.{Grew}
+use Rattle.link_trait.specs.Growth.{grew_then, grew_nothing}
+use Rattle.er_program.specs.Asking.{Names, AsksLast, AsksBehindKeys, Asks}
+use Rattle.er_program.specs.Commands.{Command, Misused, Drill, Bits, Migrate, Replay, Bulk, names_of}
+use Rattle.er_program.specs.LastLines.{fetch_line}
+use Rattle.er_program.specs.Answers.{Answer, IsReplayAnswer, AllAreTaken, OneIsRefused, IsTraceAnswer, keys_answer}
+use Rattle.er_program.specs.ReplayWriting.{EndsOne}
+use Rattle.er_program.specs.Writing.{Gives}
+use Rattle.er_program.specs.declared.status.Status.{Status}
+use Rattle.er_program.specs.declared.stop.Stop.{Stop}
+use Rattle.er_program.specs.declared.stop.Stop.TheVariants as stop
+
+-- ---- the trace
+
+-- a status that tells neither a file that wasn't fetched nor a key file that is refused
+abbrev IsBehind : ℕ → Type 0
+IsBehind status = (status ≡ 0) ⊎ (status ≡ 3) ⊎ (status ≡ 7)
+
+status_behind : (known : List Entry) (read : Result Trace TextFault) (a : Answer) → IsTraceAnswer known read a → IsBehind a.status
+status_behind known (Err (text.At line why)) a is = inr (inl (ap (λ (x : Answer). x.status) is))
+status_behind known (Err (text.NoMemory want)) a is = inr (inr (ap (λ (x : Answer). x.status) is))
+status_behind known (Ok trace) a (AllAreTaken taken is) = inl (ap (λ (x : Answer). x.status) is)
+status_behind known (Ok trace) a (OneIsRefused why first is) = inr (inl (ap (λ (x : Answer). x.status) is))
+
+last_behind : (name : List ℕ) (status answered : ℕ) (before now : Option (List ℕ)) → status ≡ answered → IsBehind answered → AsksLast name status before now
+last_behind name status answered before now is behind =
+    elim behind [
+      | inl all ↦ (λ h. omega (arith), λ h. absurd (omega arith))
+      | inr other ↦
+          elim other [
+            | inl refused ↦ (λ h. omega (arith), λ h. absurd (omega arith))
+            | inr forgot ↦ (λ h. omega (arith), λ h. absurd (omega arith))
+          ]
+    ]
+
+-- its file was read
+pub asks_read : (known : List Entry) (read : Result Trace TextFault) (IsBegun : List ℕ → Type 0) (name : List ℕ) (before now : Option (List ℕ)) (f g : ℕ) (r : Result Status Stop)
+    → EndsOne (IsTraceAnswer known read) IsBegun before now f g r → IfOk r (λ s. AsksLast name s.0 before now)
+asks_read known read IsBegun name before now f g (Ok s) ends =
+    last_behind name s.0 ends.answer.status before now ends.stated (status_behind known read ends.answer ends.is)
+asks_read known read IsBegun name before now f g (Err why) ends = tt
+
+-- its name wasn't fetched
+pub asks_lost : (name : List ℕ) (before now : Option (List ℕ)) (f g : ℕ) (r : Result Status Stop)
+    → Gives (record { status = 2; text = fetch_line name }) before now f g r → IfOk r (λ s. AsksLast name s.0 before now)
+asks_lost name before now f g (Ok s) gives = (λ h. omega (arith, gives.0), λ h. gives.1)
+asks_lost name before now f g (Err why) gives = tt
+
+-- ---- behind the key file
+
+pub asks_good : (name : List ℕ) (asked asked_now : Names) (before now : Option (List ℕ)) (r : Result Status Stop)
+    → IfOk r (λ s. Grew asked asked_now (name ∷ [])) → IfOk r (λ s. AsksLast name s.0 before now)
+    → IfOk r (λ s. AsksBehindKeys name s.0 asked asked_now before now)
+asks_good name asked asked_now before now (Ok s) grew last = inr (grew, last)
+asks_good name asked asked_now before now (Err why) grew last = tt
+
+-- it is refused
+refused_so : (name : List ℕ) (asked : Names) (before now : Option (List ℕ)) (status : ℕ) → status ≡ 4 → AsksBehindKeys name status asked asked before now
+refused_so name asked before now status is = inl (grew_nothing asked, is)
+
+pub asks_bad : (why : KeyFileFault) (name : List ℕ) (asked : Names) (before now : Option (List ℕ)) (f g : ℕ) (r : Result Status Stop)
+    → ((want : Want) → why ≡ keys.NoMemory want → r ≡ Err (stop.NoMemory want)) → Gives (keys_answer why) before now f g r
+    → IfOk r (λ s. AsksBehindKeys name s.0 asked asked before now)
+asks_bad why name asked before now f g (Err stop) passed gives = tt
+asks_bad keys.Document name asked before now f g (Ok s) passed gives = refused_so name asked before now s.0 gives.0
+asks_bad (keys.Field entry field) name asked before now f g (Ok s) passed gives = refused_so name asked before now s.0 gives.0
+asks_bad (keys.Hex entry) name asked before now f g (Ok s) passed gives = refused_so name asked before now s.0 gives.0
+asks_bad (keys.Number entry) name asked before now f g (Ok s) passed gives = refused_so name asked before now s.0 gives.0
+asks_bad (keys.Range entry) name asked before now f g (Ok s) passed gives = refused_so name asked before now s.0 gives.0
+asks_bad (keys.Twice first second) name asked before now f g (Ok s) passed gives = refused_so name asked before now s.0 gives.0
+asks_bad (keys.Version n) name asked before now f g (Ok s) passed gives = refused_so name asked before now s.0 gives.0
+asks_bad (keys.NoMemory want) name asked before now f g (Ok s) passed gives =
+    let never : Ok s ≡ Err (stop.NoMemory want) = passed want refl in
+    absurd (cc)
+
+-- ---- the words
+
+behind_words : (keys_name name : List ℕ) (status : ℕ) (a b c : Names) (before now : Option (List ℕ))
+    → Grew a b (keys_name ∷ []) → AsksBehindKeys name status b c before now → Asks (Replay keys_name name) status a c before now
+behind_words keys_name name status a b c before now first further =
+    elim further [
+      | inl bad ↦ inl (record {
+        asked_for = grew_then a b c (keys_name ∷ []) [] first bad.0;
+        ends = inr bad.1;
+        written = λ h. absurd (omega (arith, bad.1));
+      })
+      | inr good ↦ inr (record { asked_for = grew_then a b c (keys_name ∷ []) (name ∷ []) first good.0; last = good.1 })
+    ]
+
+-- the key file was fetched
+pub asks_words : (keys_name name : List ℕ) (a b c : Names) (before now : Option (List ℕ)) (r : Result Status Stop)
+    → Grew a b (keys_name ∷ []) → IfOk r (λ s. AsksBehindKeys name s.0 b c before now)
+    → IfOk r (λ s. Asks (Replay keys_name name) s.0 a c before now)
+asks_words keys_name name a b c before now (Ok s) first further = behind_words keys_name name s.0 a b c before now first further
+asks_words keys_name name a b c before now (Err why) first further = tt
+
+-- or not
+pub asks_words_lost : (keys_name name : List ℕ) (a b : Names) (before now : Option (List ℕ)) (f g : ℕ) (r : Result Status Stop)
+    → Grew a b (keys_name ∷ []) → Gives (record { status = 2; text = fetch_line keys_name }) before now f g r
+    → IfOk r (λ s. Asks (Replay keys_name name) s.0 a b before now)
+asks_words_lost keys_name name a b before now f g (Ok s) first gives = inl (record { asked_for = first; ends = inl gives.0; written = λ h. gives.1 })
+asks_words_lost keys_name name a b before now f g (Err why) first gives = tt
+
+-- all names were asked for, but at statuses 2 and 4
+pub asks_all : (command : Command) (status : ℕ) (asked asked_now : Names) (before now : Option (List ℕ))
+    → Asks command status asked asked_now before now → status ≢ 2 → status ≢ 4 → Grew asked asked_now (names_of command)
+asks_all Misused status asked asked_now before now asks fetched good = asks
+asks_all (Drill name) status asked asked_now before now asks fetched good = asks
+asks_all (Bits name) status asked asked_now before now asks fetched good = asks
+asks_all (Migrate keys_name) status asked asked_now before now asks fetched good = asks
+asks_all (Replay keys_name name) status asked asked_now before now asks fetched good =
+    elim asks [
+      | inl first ↦
+          elim first.ends [
+            | inl lost ↦ absurd (fetched lost)
+            | inr bad ↦ absurd (good bad)
+          ]
+      | inr both ↦ both.asked_for
+    ]
+asks_all (Bulk seed count) status asked asked_now before now asks fetched good = asks

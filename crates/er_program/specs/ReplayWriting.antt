@@ -1,0 +1,85 @@
+-- Representation: what the replay of a trace writes to the sink, and how it ends; no claim rests on it.
+use Rattle.std.specs.Prelude.{◌≡◌, ◌⊎◌, ℕ, ◌≤◌, List, [], ◌++◌, Option, Result, Ok, Err}
+use Rattle.er_base.specs.declared.text_fault.TextFault.{TextFault}
+use Rattle.er_settings.specs.declared.settings.Settings.{Settings}
+use Rattle.er_trace.specs.declared.entry.Entry.{Entry as TraceEntry}
+use Rattle.er_trace.specs.declared.trace.Trace.{Trace}
+use Rattle.er_trace.specs.Files.{trace_of}
+use Rattle.end_model.specs.Steps.{Finds}
+use Rattle.trace_model.specs.declared.replay_fault.ReplayFault.{ReplayFault}
+use Rattle.trace_model.specs.declared.replay_fault.ReplayFault.TheVariants.{NoConn, ConnTwice, MomentBack, NoKey, Many, Sink, NoMemory}
+use Rattle.trace_model.specs.Printed.{printed}
+use Rattle.trace_model.specs.Replays.{AreTaken}
+use Rattle.safety_automaton.specs.Keys.{Entry, key_at}
+use Rattle.key_store.specs.declared.key_file_fault.KeyFileFault.{KeyFileFault}
+use Rattle.link_trait.specs.Outside.{Grew, HasFile}
+use Rattle.er_program.specs.LastLines.{refused_line}
+use Rattle.er_program.specs.Answers.{Answer, Files}
+use Rattle.er_program.specs.KeyWriting.{GaveOne, BrokeOne}
+use Rattle.er_program.specs.Writing.{Gives}
+use Rattle.er_program.specs.declared.status.Status.{Status}
+use Rattle.er_program.specs.declared.stop.Stop.{Stop}
+use Rattle.er_program.specs.declared.stop.Stop.TheVariants as stop
+
+-- ---- an answer of a kind
+
+-- a text of this kind was written
+pub record BeganOne (IsBegun : List ℕ → Type 0) (before now : Option (List ℕ)) (f g : ℕ) : Type 0 where
+  pub text : List ℕ
+  pub begun : IsBegun text
+  pub written : Grew before now text
+  pub later : f ≤ g
+
+-- an answer of one kind was given, or a beginning of it where the sink failed, or a text of the other kind where memory ran out
+abbrev pub EndsOne : (Answer → Type 0) → (List ℕ → Type 0) → Option (List ℕ) → Option (List ℕ) → ℕ → ℕ → Result Status Stop → Type 0
+EndsOne Is IsBegun before now f g (Ok s) = GaveOne Is before now f g s.0
+EndsOne Is IsBegun before now f g (Err stop.Sink) = BrokeOne Is before now f g
+EndsOne Is IsBegun before now f g (Err (stop.NoMemory want)) = BeganOne IsBegun before now f g
+
+-- ---- what is written where memory runs out
+
+-- a beginning of the printed text of some first events, which are taken
+pub record BeginsEvents (settings : Settings) (finds : Finds) (entries : List TraceEntry) (text : List ℕ) : Type 0 where
+  pub first : List TraceEntry
+  pub others : List TraceEntry
+  pub are_first : entries ≡ first ++ others
+  pub taken : AreTaken settings finds first
+  pub rest : List ℕ
+  pub is : text ++ rest ≡ printed settings finds first
+
+-- where the file spells a trace
+abbrev pub BeginsSpelled : List Entry → Result Trace TextFault → List ℕ → Type 0
+BeginsSpelled keys (Err fault) text = ⊥
+BeginsSpelled keys (Ok trace) text = BeginsEvents trace.settings (key_at keys) trace.entries text
+
+abbrev pub BeginsTrace : List Entry → Result Trace TextFault → List ℕ → Type 0
+BeginsTrace keys read text = (text ≡ []) ⊎ BeginsSpelled keys read text
+
+-- of the file of that name
+pub record BeginsFile (keys : List Entry) (name : List ℕ) (files : Files) (text : List ℕ) : Type 0 where
+  pub file : List ℕ
+  pub stands : HasFile files name file
+  pub begins : BeginsSpelled keys (trace_of file) text
+
+abbrev pub BeginsTraceFile : List Entry → (name : List ℕ) → Files → List ℕ → Type 0
+BeginsTraceFile keys name files text = (text ≡ []) ⊎ BeginsFile keys name files text
+
+-- behind a key file
+abbrev pub BeginsGood : Result (List Entry) KeyFileFault → (name : List ℕ) → Files → List ℕ → Type 0
+BeginsGood (Err fault) name files text = ⊥
+BeginsGood (Ok keys) name files text = BeginsFile keys name files text
+
+abbrev pub BeginsBehindKeys : Result (List Entry) KeyFileFault → (name : List ℕ) → Files → List ℕ → Type 0
+BeginsBehindKeys read name files text = (text ≡ []) ⊎ BeginsGood read name files text
+
+-- ---- the fault of a replay
+
+-- an event's refusal was told; where the sink failed or memory ran out, nothing more was written
+abbrev pub TellsRefusal : ReplayFault → Option (List ℕ) → Option (List ℕ) → ℕ → ℕ → Result Status Stop → Type 0
+TellsRefusal (NoConn line conn) before now f g r = Gives (record { status = 3; text = refused_line (NoConn line conn) }) before now f g r
+TellsRefusal (ConnTwice line conn) before now f g r = Gives (record { status = 3; text = refused_line (ConnTwice line conn) }) before now f g r
+TellsRefusal (MomentBack line was moment) before now f g r = Gives (record { status = 3; text = refused_line (MomentBack line was moment) }) before now f g r
+TellsRefusal (NoKey line engine rbc) before now f g r = Gives (record { status = 3; text = refused_line (NoKey line engine rbc) }) before now f g r
+TellsRefusal (Many line live) before now f g r = Gives (record { status = 3; text = refused_line (Many line live) }) before now f g r
+TellsRefusal Sink before now f g r = (r ≡ Err stop.Sink) × Grew before now [] × (f ≤ g)
+TellsRefusal (NoMemory want) before now f g r = (r ≡ Err (stop.NoMemory want)) × Grew before now [] × (f ≤ g)

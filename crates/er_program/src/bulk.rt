@@ -1,0 +1,137 @@
+//! `bulk SEED COUNT`: many messages over one link whose line now and then loses or repeats a frame, and how much came of them.
+
+ghost use Rattle.std.specs.Prelude.{◌≡◌, ◌≤◌, [], ◌∷◌, ◌++◌, List, None, OnOk, IfErr, IfOk, false};
+ghost use Rattle.er_scenario.specs.declared.step.Step.{Step as AnyStep};
+ghost use Rattle.drill_model.specs.Faults.{fault_behind};
+ghost use Rattle.drill_model.specs.Steps.{IsOfLevel, HasEtcsNumbers, HasMoment};
+ghost use Rattle.drill_model.specs.Worlds.{Plan};
+ghost use Rattle.er_world.specs.Standing.{Ran, IsFaultBehind};
+ghost use Rattle.er_program.specs.Answers.{IsBulkAnswer};
+ghost use Rattle.er_program.specs.BulkTexts.{bulk_plan, steps_of_bulk, totals_line};
+ghost use Rattle.er_program.specs.BulkRuns.{AreDoable, DoesAll};
+ghost use Rattle.er_program.specs.KeyWriting.{GivesOne};
+ghost use Rattle.er_program.specs.Writing.{Gives};
+
+use crate::endings::{last, not_done};
+use crate::status::Status;
+use crate::stop::Stop;
+use bulk_steps::steps;
+use er_base::PrintedWord::{Decimal, Plain};
+use er_base::{NoMemory, put_line};
+use er_scenario::{Level, Step};
+use er_settings::Settings;
+use er_world::{Totals, World, WorldFault};
+use link_trait::Sink;
+use std::alloc::Global;
+
+// Does a step, of which nothing is printed.
+fn do_unseen(alloc: Global, step: &Step, world: &mut World) -> Result<(), WorldFault>
+    requires level { IsOfLevel world.old.plan.level step.now }
+    requires numbers { HasEtcsNumbers step.now }
+    requires moment { HasMoment step.now }
+    requires unspent { world.old.spent ≡ false }
+    ensures ran { OnOk result ((plan : Plan) (before : List AnyStep) → Ran world.old plan before
+        → Ran world.new plan (before ++ step.now ∷ [])) }
+    ensures none { OnOk result ((plan : Plan) (before : List AnyStep) → Ran world.old plan before
+        → fault_behind plan before step.now ≡ None) }
+    ensures fault { IfErr result (λ fault. (plan : Plan) (before : List AnyStep) → Ran world.old plan before
+        → IsFaultBehind plan before step.now fault) }
+    ensures unspent { OnOk result (world.new.spent ≡ false) }
+    ensures plan { world.new.plan ≡ world.old.plan }
+{
+    let mut unseen = Vec::new(alloc);
+    world.apply(alloc, step, &mut unseen)
+}
+
+// Does steps, to the end or up to the first one that isn't done.
+fn do_all(alloc: Global, steps: &[Step], world: &mut World) -> Result<(), WorldFault>
+    requires doable { AreDoable world.old.plan.level steps.now }
+    requires ran { Ran world.old world.old.plan [] }
+    requires unspent { world.old.spent ≡ false }
+    ensures { DoesAll world.old.plan steps.now world.new result }
+{
+    for step in steps {
+        match do_unseen(alloc, step, world) {
+            Ok(()) => {}
+            Err(fault) => return Err(fault),
+        }
+    }
+    Ok(())
+}
+
+// The line of a bulk run.
+fn put_totals(
+    seed: u64,
+    count: u32,
+    totals: &Totals,
+    out: &mut Vec<u8>,
+) -> Result<(), NoMemory>
+    ensures { OnOk result (out.new.items ≡ out.old.items ++ totals_line seed count totals.now) }
+{
+    put_line(
+        &Plain(b"bulk"),
+        &[
+            Decimal(seed),
+            Decimal(count as u64),
+            Plain(b"sent"),
+            Decimal(totals.sent),
+            Plain(b"accepted"),
+            Decimal(totals.accepted),
+            Plain(b"passes"),
+            Decimal(totals.passes),
+            Plain(b"lost"),
+            Decimal(totals.lost),
+            Plain(b"repeated"),
+            Decimal(totals.repeated),
+        ],
+        out,
+    )
+}
+
+// All steps are done.
+fn counted<K: Sink>(
+    alloc: Global,
+    seed: u64,
+    count: u32,
+    totals: &Totals,
+    sink: &mut K,
+) -> Result<Status, Stop>
+    ensures gives { Gives (record { status = 0; text = totals_line seed count totals.now }) (K.held sink.old)
+        (K.held sink.new) (K.faults sink.old) (K.faults sink.new) result }
+    ensures sink_count { K.faults sink.old ≤ K.faults sink.new }
+{
+    let mut line = Vec::new(alloc);
+    put_totals(seed, count, totals, &mut line)?;
+    last(0, line.as_slice(), sink)
+}
+
+// The steps of a bulk run, which are opaque above.
+#[tactic(auto, unfolding(crate::specs::BulkTexts::steps_of_bulk))]
+fn drawn(alloc: Global, seed: u64, count: u32) -> Result<Vec<Step>, NoMemory>
+    requires { count ≤ 10000 }
+    ensures steps { IfOk result (λ steps. steps.items ≡ steps_of_bulk seed count) }
+    ensures doable { IfOk result (λ steps. AreDoable bulk_plan.level steps.items) }
+{
+    steps(alloc, seed, count)
+}
+
+/// `bulk SEED COUNT`: does the steps of a bulk run, and prints their totals.
+pub fn bulk_run<K: Sink>(
+    alloc: Global,
+    seed: u64,
+    count: u32,
+    sink: &mut K,
+) -> Result<Status, Stop>
+    requires { count ≤ 10000 }
+    ensures ends { GivesOne (IsBulkAnswer seed count) (K.held sink.old) (K.held sink.new) (K.faults sink.old)
+        (K.faults sink.new) result }
+    ensures sink_count { K.faults sink.old ≤ K.faults sink.new }
+{
+    drill_laws::laws::worlds();
+    let steps = drawn(alloc, seed, count)?;
+    let mut world = World::new(alloc, Level::Full, Settings::usual(), false)?;
+    match do_all(alloc, steps.as_slice(), &mut world) {
+        Ok(()) => counted(alloc, seed, count, &world.totals(), sink),
+        Err(fault) => not_done(alloc, 0, fault, sink),
+    }
+}
