@@ -81,7 +81,7 @@ keeps : (plan : Plan) → Keeps plan Q Live Gone
 unfolding Opens
 keeps plan = record {
   visit = λ s t xs ys cs ds h q. no_close-append cs ds h q.1;
-  close = λ s t xs ys cs ds h q. subst EndAtClose (append_assoc cs ds (Closes t.number ∷ [])) (closed_ends (cs ++ ds) t.number (no_close-append cs ds h q.1));
+  close = λ s t xs ys cs ds over h q. subst EndAtClose (append_assoc cs ds (Closes t.number ∷ [])) (closed_ends (cs ++ ds) t.number (no_close-append cs ds h q.1));
   open_ = λ l conn mind. tt;
   never = tt;
   full = λ m conn. (λ e. refl, tt);

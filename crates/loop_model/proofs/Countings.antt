@@ -53,7 +53,7 @@ calls r = usual_calls r (λ g. Unit {0}) NoTurn (steady r) all_given bare read_n
 left_none : (s : Session) (ts : List Session) (xs : List Entry) (cs : List Call) → Left NoTurn s ts xs cs → turns_of cs ≡ []
 unfolding NoTurn turns_of
 left_none s ts xs cs (Stays t p q) = q
-left_none s ts xs cs (Closed t ds p e q) = ap turns_of e ∙ turns_of-append ds (Closes t.number ∷ []) ∙ append-nil (turns_of ds) ∙ q
+left_none s ts xs cs (Closed t ds over p e q) = ap turns_of e ∙ turns_of-append ds (Closes t.number ∷ []) ∙ append-nil (turns_of ds) ∙ q
 
 visit_none : (r : Rules) (m : ℕ) (visit : Visit) (n : ℕ) (ss : List Session) (a : Met) → turns_of (visit_at (visited r m visit) n ss a).calls ≡ []
 unfolding visit_at turns_of

@@ -84,8 +84,8 @@ module _ (plan : Plan) (caller : Caller) (Allowed : Given → Type 0) (Q : Sessi
     unfolding LeftAt
     left_of conn address t ts xs ys ds num mine h (Stays u p l) =
         rw p (knows_left conn address t xs ys ds (Some u) num ((own t u ys ds l).number ∙ num) mine h l)
-    left_of conn address t ts xs ys ds num mine h (Closed u es p e l) =
-        rw p (knows_left conn address t xs ys ds None num tt mine h (u, es, e, l))
+    left_of conn address t ts xs ys ds num mine h (Closed u es over p e l) =
+        rw p (knows_left conn address t xs ys ds None num tt mine h (u, es, over, e, l))
 
     knows_away : (conn m : ℕ) (address : List ℕ)
         → Known (record { moment = m; conn = conn; event = event.Unserved 0; outcomes = [] } ∷ []) (Dials address (Some conn) ∷ Closes conn ∷ []) []

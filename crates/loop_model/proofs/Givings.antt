@@ -219,7 +219,7 @@ keeps : (plan : Plan) → Keeps plan Q Given_so Gone
 unfolding given_in octets_of
 keeps plan = record {
   visit = λ s t xs ys cs ds h q. more s t xs ys cs ds h q.1;
-  close = λ s t xs ys cs ds h q.
+  close = λ s t xs ys cs ds over h q.
       let m = more s t xs ys cs ds h q.1 in
       record { rest = m.rest; is = ap (λ z. z ++ m.rest) (closed_given cs ds t.number) ∙ m.is };
   open_ = λ l conn mind. record { rest = []; is = refl; whole = λ p. refl };

@@ -18,7 +18,7 @@ use Rattle.loop_model.specs.Loops.{Plan, rules_of, Loop, most_live, visit_at, un
 use Rattle.loop_model.specs.Parts.{session_of, of, calls_at, opened_by, opened_in, Rises, newest}
 use Rattle.loop_model.proofs.Projections.{split_if, of-append, calls_at-append, opened_in-append, rises_first, rises_rest, newest-append}
 use Rattle.loop_model.proofs.Loopwise.{Loopwise, wise_run}
-use Rattle.loop_model.proofs.Steadies.{Left, Stays, Closed, Calls, left_visited}
+use Rattle.loop_model.proofs.Steadies.{is_over, Left, Stays, Closed, Calls, left_visited}
 
 same : (n : ℕ) → (n == n) ≡ true
 same n = eq-eqb n n refl
@@ -40,7 +40,7 @@ pub record Own (s t : Session) (xs : List Entry) (cs : List Call) : Type 0 where
 -- a relation that each visit keeps, and what it comes to
 pub record Keeps (plan : Plan) (Q : Session → Session → List Entry → List Call → Type 0) (K : Session → List Entry → List Call → Type 0) (E : List Entry → List Call → Type 0) : Type 0 where
   pub visit : (s t : Session) (xs ys : List Entry) (cs ds : List Call) → K s xs cs → Q s t ys ds → K t (xs ++ ys) (cs ++ ds)
-  pub close : (s t : Session) (xs ys : List Entry) (cs ds : List Call) → K s xs cs → Q s t ys ds → E (xs ++ ys) (cs ++ (ds ++ Closes t.number ∷ []))
+  pub close : (s t : Session) (xs ys : List Entry) (cs ds : List Call) → is_over t ≡ true → K s xs cs → Q s t ys ds → E (xs ++ ys) (cs ++ (ds ++ Closes t.number ∷ []))
   pub open_ : (l : Loop) (conn : ℕ) (mind : Mind)
       → K (begun conn (answering plan l) mind) (record { moment = l.moment; conn = conn; event = event.Answer plan.rbc (next_u64 l.words).0; outcomes = [] } ∷ []) []
   pub never : E [] []
@@ -53,7 +53,7 @@ module _ (plan : Plan) (Q : Session → Session → List Entry → List Call →
 
   unfoldable pub LeftAt : Session → Option Session → List Entry → List Call → Type 0
   LeftAt s (Some t) xs cs = Q s t xs cs
-  LeftAt s None xs cs = (t : Session) × (ds : List Call) × (cs ≡ ds ++ Closes t.number ∷ []) × Q s t xs ds
+  LeftAt s None xs cs = (t : Session) × (ds : List Call) × (is_over t ≡ true) × (cs ≡ ds ++ Closes t.number ∷ []) × Q s t xs ds
 
   data Moved (n : ℕ) (ss ts : List Session) (xs : List Entry) (cs : List Call) : Type 0 where
     Absent : session_of n ss ≡ None → ts ≡ ss → xs ≡ [] → cs ≡ [] → Moved n ss ts xs cs
@@ -73,11 +73,11 @@ module _ (plan : Plan) (Q : Session → Session → List Entry → List Call →
       (λ conn ne. rw (subst (λ z. (z == conn) ≡ false) (sym num) ne, ne) refl)
       (rw at_t q)
       (subst (λ z. session_of z ss ≡ None) (sym num) a.0, a.1))
-  here s ss ts xs cs a (Closed t ds p e q) =
+  here s ss ts xs cs a (Closed t ds over p e q) =
       rw p
       (Found s (rw (same s.number) refl) refl
       (λ conn ne. rw ne refl)
-      (rw a.0 (t, ds, e, q))
+      (rw a.0 (t, ds, over, e, q))
       a.1)
 
   moved : (m : ℕ) (visit : Visit) (n : ℕ) (ss : List Session) (a : Met) → Apart ss
@@ -122,7 +122,7 @@ module _ (plan : Plan) (Q : Session → Session → List Entry → List Call →
   pub own_left : (s : Session) (left : Option Session) (xs : List Entry) (cs : List Call) → LeftAt s left xs cs → OwnAt s xs cs
   unfolding LeftAt calls_at opened_in
   own_left s (Some t) xs cs q = let o = own s t xs cs q in record { entries = o.entries; calls = o.calls; opens = o.opens }
-  own_left s None xs cs (t, ds, e, q) =
+  own_left s None xs cs (t, ds, over, e, q) =
       let o = own s t xs ds q in
       record {
         entries = o.entries;
@@ -137,7 +137,7 @@ module _ (plan : Plan) (Q : Session → Session → List Entry → List Call →
       → Fits left n (js ++ xs) (bs ++ cs)
   unfolding LeftAt Fits
   fits_left s (Some t) n js xs bs cs num h q = ((own s t xs cs q).number ∙ num, k.visit s t js xs bs cs h q)
-  fits_left s None n js xs bs cs num h (t, ds, e, q) = rw e (k.close s t js xs bs ds h q)
+  fits_left s None n js xs bs cs num h (t, ds, over, e, q) = rw e (k.close s t js xs bs ds over h q)
 
   knows_moved : (n : ℕ) (js xs : List Entry) (bs cs : List Call) (ss ts : List Session) → Knows js bs ss → Moved n ss ts xs cs → Knows (js ++ xs) (bs ++ cs) ts
   unfolding Fits

@@ -41,7 +41,7 @@ module _ (r : Rules) (Allowed : Given → Type 0) (Q : Session → Session → L
     wrote = b.wrote;
     put_off = b.put_off;
     failed = λ m s says live. q.then_ s s _ [] _ (Writes s.number s.output write.Failed ∷ []) [] (b.failed s) (steady_handled r Allowed Q q all.usual m s Faults says all.faults);
-    failed_released = λ s. q.then_ s s (record s { broken = true }) [] [] (Writes s.number s.output write.Failed ∷ []) [] (b.failed s) (b.breaks s);
+    failed_released = λ s gone. q.then_ s s (record s { broken = true }) [] [] (Writes s.number s.output write.Failed ∷ []) [] (b.failed s) (b.breaks s);
     ticked = λ m s says due. steady_handled r Allowed Q q all.usual m s Ticks says all.ticks;
   }
 

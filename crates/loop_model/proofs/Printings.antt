@@ -206,7 +206,7 @@ module _ (steps : StepsAlike) (made : MadeStands) (plan : Plan) (allowed : AllAl
   unfolding behind Goes
   keeps = record {
     visit = λ s t xs ys cs ds h q. more s.end t.end xs ys h q.1;
-    close = λ s t xs ys cs ds h q. (more s.end t.end xs ys h q.1).told;
+    close = λ s t xs ys cs ds over h q. (more s.end t.end xs ys h q.1).told;
     open_ = λ l conn mind. record {
       told = (refl, tt);
       now = opened (AnswersWith plan.settings plan.rbc (next_u64 l.words).0 l.moment);
