@@ -291,13 +291,13 @@ module _ (r : Rules) (m : ℕ) (Q : Session → Session → List Entry → List 
   unless_at : (b : Bool) (s : Session) (a : Wrote) → s.broken ≡ b
       → Q s (written_unless b r m s a).state (written_unless b r m s a).entries (written_unless b r m s a).calls
   unfolding writes
-  unless_at true m s a is = c.none s
-  unless_at false m s a is = flow_at s (exactly (length s.output) write.NotNow a.answers) a.says is
+  unless_at true s a is = c.none s
+  unless_at false s a is = flow_at s (exactly (length s.output) write.NotNow a.answers) a.says is
 
   pub written_at : (s : Session) (a : Wrote)
       → Q s (written r m s a).state (written r m s a).entries (written r m s a).calls
   unfolding written
-  written_at s a = unless_at s.broken m s a refl
+  written_at s a = unless_at s.broken s a refl
 
   abbrev LeftBy : Session → Out (List Session) → Type 0
   LeftBy s o = Left Q s o.state o.entries o.calls
