@@ -41,7 +41,7 @@ steady r = record {
   given = λ m s g allowed fits. tt;
   stalls = λ m s g allowed fits. tt;
   heard = λ s mind. tt;
-  parts = λ s at. tt;
+  parts = λ s at gone. tt;
 }
 
 bare : Bare Opens
@@ -50,7 +50,7 @@ bare = record {
   wrote = λ s n whole. (refl, tt);
   put_off = λ s. (refl, tt);
   failed = λ s. (refl, tt);
-  breaks = λ s. tt;
+  breaks = λ s gone. tt;
 }
 
 all_given : AllGiven (λ g. Unit {0})

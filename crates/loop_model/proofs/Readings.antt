@@ -32,12 +32,12 @@ steady r = record {
   given = λ m s g allowed fits. refl;
   stalls = λ m s g allowed fits. refl;
   heard = λ s mind. refl;
-  parts = λ s at. refl;
+  parts = λ s at gone. refl;
 }
 
 bare : Bare NoRead
 unfolding NoRead reads_of
-bare = record { wrote = λ s n whole. refl; put_off = λ s. refl; failed = λ s. refl; breaks = λ s. refl }
+bare = record { wrote = λ s n whole. refl; put_off = λ s. refl; failed = λ s. refl; breaks = λ s gone. refl }
 
 all_given : AllGiven (λ g. Unit {0})
 all_given = record { usual = record { sends = λ text. tt; leaves = λ sub. tt; takes = tt }; hears = λ octets. tt; ticks = tt; ends = tt; faults = tt }

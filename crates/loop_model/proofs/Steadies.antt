@@ -47,7 +47,7 @@ pub record SteadyAt (r : Rules) (m : ℕ) (Allowed : Given → Type 0) (Q : Sess
       → Q s (record s { end = end_after r m (end_after r m s.end g) Stalls; broken = true })
       (entry_of r m s g ∷ entry_of r m (record s { end = end_after r m s.end g }) Stalls ∷ []) []
   pub heard : (s : Session) (mind : Option Mind) → Q s (record s { mind = mind }) [] []
-  pub parts : (s : Session) (at : ℕ) → Q s (record s { mind = None; closing = Some at }) [] []
+  pub parts : (s : Session) (at : ℕ) → is_released s ≡ true → Q s (record s { mind = None; closing = Some at }) [] []
 
 -- at every moment
 pub record Steady (r : Rules) (Allowed : Given → Type 0) (Q : Session → Session → List Entry → List Call → Type 0) : Type 0 where
@@ -61,7 +61,7 @@ pub record Steady (r : Rules) (Allowed : Given → Type 0) (Q : Session → Sess
       → Q s (record s { end = end_after r m (end_after r m s.end g) Stalls; broken = true })
       (entry_of r m s g ∷ entry_of r m (record s { end = end_after r m s.end g }) Stalls ∷ []) []
   pub heard : (s : Session) (mind : Option Mind) → Q s (record s { mind = mind }) [] []
-  pub parts : (s : Session) (at : ℕ) → Q s (record s { mind = None; closing = Some at }) [] []
+  pub parts : (s : Session) (at : ℕ) → is_released s ≡ true → Q s (record s { mind = None; closing = Some at }) [] []
 
 -- the events that follow others are allowed
 pub record Usual (Allowed : Given → Type 0) : Type 0 where
@@ -108,10 +108,10 @@ module _ (r : Rules) (m : ℕ) (Allowed : Given → Type 0) (Q : Session → Ses
       runs_lift (λ t u xs. Q t u xs []) (λ t free. dealt r m t Takes free) q.none (λ t u v xs ys. q.then_ t u v xs ys [] [])
       (λ t free. dealt_at t Takes free (fed_at t Takes usual.takes)) s (exactly (waiting s) silence frees)
 
-  parts_at : (release : Option Release) (mind : Option Mind) (at : ℕ) (s : Session) → Q s (parts release mind at s) [] []
-  parts_at None mind at s = q.none s
-  parts_at (Some release) None at s = q.none s
-  parts_at (Some release) (Some mind) at s = q.parts s at
+  parts_at : (release : Option Release) (mind : Option Mind) (at : ℕ) (s : Session) → s.end.core.released ≡ release → Q s (parts release mind at s) [] []
+  parts_at None mind at s is = q.none s
+  parts_at (Some release) None at s is = q.none s
+  parts_at (Some release) (Some mind) at s is = q.parts s at (ap is_some is)
 
   pub handled_of_at : (s : Session) (g : Given) (says : Says)
       → Q s (fed r m s g).0 (fed r m s g).1 [] → Q s (handled r m s g says).0 (handled r m s g says).1 []
@@ -122,7 +122,7 @@ module _ (r : Rules) (m : ℕ) (Allowed : Given → Type 0) (Q : Session → Ses
       rw (← append-nil (a.1 ++ b.1))
       (q.then_ s b.0 (parted r m b.0) (a.1 ++ b.1) [] [] []
       (q.then_ s a.0 b.0 a.1 b.1 [] [] (dealt_at s g says.first p) (takes_at a.0 says.rest))
-      (parts_at b.0.end.core.released b.0.mind (m + r.setup) b.0))
+      (parts_at b.0.end.core.released b.0.mind (m + r.setup) b.0 refl))
 
   -- what follows an event, of which it need not hold
   pub record Follows (s : Session) (g : Given) (t : Session) (xs : List Entry) : Type 0 where
@@ -156,7 +156,7 @@ module _ (r : Rules) (m : ℕ) (Allowed : Given → Type 0) (Q : Session → Ses
             subst (λ z. Q (fed r m s g).0 (parted r m b.0) z []) (append-nil (d.rest ++ b.1))
             (q.then_ (fed r m s g).0 b.0 (parted r m b.0) (d.rest ++ b.1) [] [] []
             (q.then_ (fed r m s g).0 a.0 b.0 d.rest b.1 [] [] d.holds (takes_at a.0 says.rest))
-            (parts_at b.0.end.core.released b.0.mind (m + r.setup) b.0));
+            (parts_at b.0.end.core.released b.0.mind (m + r.setup) b.0 refl));
       }
 
   pub handled_at : (s : Session) (g : Given) (says : Says) → Allowed g
