@@ -17,26 +17,29 @@ use Rattle.er_trace.specs.declared.event.Event.TheVariants as event
 use Rattle.er_users.specs.Users.{Mind}
 use Rattle.rand_core.specs.Stream.{next_u64}
 use Rattle.trace_model.specs.Connections.{end_at}
-use Rattle.trace_model.specs.Checks.{Declines, Belongs, role_of, last_moment, is_opened, is_live, opened_in as named_in, live_count}
+use Rattle.trace_model.specs.Printed.{entries_text}
+use Rattle.trace_model.specs.Checks.{Declines, Belongs, role_of, last_moment, is_named, is_opened, is_live, opened_in as named_in, live_count}
 use Rattle.link_trait.specs.Wires.{Call, Reading, Reads, Dials, Turns, Closes}
 use Rattle.link_trait.specs.declared.wires.Conn.{Conn}
 use Rattle.link_trait.specs.declared.wires.Happening.TheVariants as happening
-use Rattle.loop_model.specs.Journals.{Entry, line_of, lines_of}
+use Rattle.loop_model.specs.Journals.{Entry, header, text, line_of, lines_of}
 use Rattle.loop_model.specs.Outs.{first_of}
-use Rattle.loop_model.specs.Sessions.{Rules, Session, Given, Begins, Hears, Sends, Takes, Leaves, Ticks, Ends, Faults, Stalls, written, is_released, entry_of, end_after, outcomes_of, most_output, octets_in, joined, fed, Says, nothing_said, handled}
+use Rattle.loop_model.specs.Sessions.{Rules, Session, Given, Begins, Hears, Sends, Takes, Leaves, Ticks, Ends, Faults, Stalls, written, is_released, entry_of, end_after, outcomes_of, most_output, octets_in, breaks, joined, fed, Says, nothing_said, handled}
 use Rattle.loop_model.specs.Visits.{most_read, Met, Visit, visited, rests, served}
-use Rattle.loop_model.specs.Loops.{Plan, rules_of, Loop, most_live, with_sessions, visit_at, begun, answering, Caller, calling, Course, Turn, run}
+use Rattle.loop_model.specs.Loops.{Plan, rules_of, Loop, most_live, with_sessions, visit_at, next_user, begun, answering, Caller, calling, called_by, called, Course, asks, Turn, run, Dialled, opens, dials_to, dials}
 use Rattle.loop_model.specs.Parts.{session_of, of, calls_at, opened_in, Rises, newest}
 use Rattle.loop_model.specs.Laws.{IsServing, IsDialling}
+use Rattle.loop_model.specs.Recordings.{AreEvents, ReplaysTo, RecordingsReplay}
 use Rattle.loop_model.proofs.Projections.{of-append, opened_in-append as opens-append, rises_first, rises_rest, newest-append}
-use Rattle.loop_model.proofs.Steadies.{SteadyAt, Steady, Usual, Calls, CallsAt, Left, Stays, Closed, is_over, left_visited_at}
+use Rattle.loop_model.proofs.Steadies.{SteadyAt, Steady, Usual, steady_handled, follows_handled_at, Calls, CallsAt, Left, Stays, Closed, is_over, left_rests_at, left_visited_at}
 use Rattle.loop_model.proofs.Lives.{Own, Keeps, Fits, Apart, Knows, knows_none, moved, knows_moved, knows_turned, accepted_above, knows_opened, knows_away, same}
+use Rattle.loop_model.proofs.Dialling.{first_handled, knows_called}
 use Rattle.loop_model.proofs.Owns.{Bare, Both, bare_both, calls_both, usual_calls, usual_calls_at}
 use Rattle.loop_model.proofs.Momentwise.{Momentwise, moment_run}
 use Rattle.loop_model.proofs.Printings as printings
 use Rattle.loop_model.proofs.Printings.{IsOfEnd, all_of_end}
-use Rattle.loop_model.proofs.Resting.{Sound, Sounds, Rests, sounds_calls, rests_calls}
-use Rattle.loop_model.proofs.Taking.{PassesAs, Passes, AllPass, all_pass-append, UpTo, up_to-append, up_to_more, not_before, lines-append, opened_own, unnamed, opened_more, opened_in-append, few_live, not_many}
+use Rattle.loop_model.proofs.Resting.{Sound, Sounds, Rests, sounds_calls, sounds_steadily, rests_calls, handled_none}
+use Rattle.loop_model.proofs.Taking.{PassesAs, Passes, AllPass, all_pass-append, UpTo, up_to-append, up_to_more, not_before, lines-append, opened_own, unnamed, opened_more, opened_in-append, few_live, not_many, are_taken, all_pass_plain, text_plain}
 
 -- ---- events of an end
 
@@ -400,3 +403,189 @@ module _ (steps : StepsAlike) (made : MadeStands) (shows : ShowsAlike) (waits : 
     unfolding Goes opened_in
     passes c turns h =
         (moment_run plan Goes wise c turns [] [] h.rises (rw h.none (knows_none plan Q q_calls own K E keeps)) tt).pass
+
+    -- ---- a dial
+
+    any_usual : Usual (λ g. Unit {0})
+    any_usual = record { sends = λ text. tt; leaves = λ sub. tt; takes = tt }
+
+    abbrev begins : Caller → Loop → Given
+    begins caller l = Begins caller.engine plan.rbc (next_u64 l.words).0
+
+    joined_so : (m : ℕ) (s : Session) (octets : List ℕ) → ((joined r m s octets).0.number ≡ s.number) × ArePlain m s.number (joined r m s octets).1
+    unfolding joined
+    joined_so m s octets =
+        elim (cases_Bool (nat_lt most_output (length s.output + length octets))) [
+          | inl p ↦ rw p (refl, (record { moment = refl; conn = refl; role = refl }, tt))
+          | inr p ↦ rw p (refl, tt)
+        ]
+
+    -- a call, and events of its end
+    record CallsSo (caller : Caller) (l : Loop) (conn : ℕ) (mind : Mind) (xs : List Entry) : Type 0 where
+      rest : List Entry
+      is : xs ≡ entry_of r l.moment (begun conn (calling plan caller l) mind) (begins caller l) ∷ rest
+      plain : ArePlain l.moment conn rest
+
+    record Handled (caller : Caller) (l : Loop) (conn : ℕ) (mind : Mind) (says : Says) : Type 0 where
+      calls : CallsSo caller l conn mind (handled r l.moment (begun conn (calling plan caller l) mind) (begins caller l) says).1
+      number : (handled r l.moment (begun conn (calling plan caller l) mind) (begins caller l) says).0.number ≡ conn
+
+    handled_so : (caller : Caller) (l : Loop) (conn : ℕ) (mind : Mind) (says : Says) → Handled caller l conn mind says
+    unfolding Plainly fed
+    handled_so caller l conn mind says =
+        let m = l.moment in
+        let s = begun conn (calling plan caller l) mind in
+        let g = begins caller l in
+        let f = follows_handled_at r m IsOfEnd (Plainly m) (plainly r m) all_of_end.usual s g says in
+        let j = joined_so m (record s { end = end_after r m s.end g; broken = s.broken || breaks g }) (octets_in (outcomes_of r m s.end g)) in
+        record {
+          calls = record {
+            rest = (joined r m (record s { end = end_after r m s.end g; broken = s.broken || breaks g }) (octets_in (outcomes_of r m s.end g))).1 ++ f.rest;
+            is = f.is;
+            plain = plain-append m conn _ f.rest j.1 (subst (λ z. ArePlain m z f.rest) j.0 f.holds.1);
+          };
+          number = f.holds.0 ∙ j.0;
+        }
+
+    names_call : (caller : Caller) (l : Loop) (conn : ℕ) (mind : Mind) (xs : List Entry) → CallsSo caller l conn mind xs → length (named_in (lines_of xs)) ≤ 1
+    unfolding named_in
+    names_call caller l conn mind xs c =
+        subst (λ z. length (named_in (lines_of z)) ≤ 1) (sym c.is)
+        (subst (λ z. length (conn ∷ z) ≤ 1) (sym (names_none l.moment conn c.rest c.plain)) (omega arith))
+
+    opens_call : (caller : Caller) (l : Loop) (conn : ℕ) (mind : Mind) (xs : List Entry) → CallsSo caller l conn mind xs → is_opened conn (lines_of xs) ≡ true
+    unfolding is_opened
+    opens_call caller l conn mind xs c =
+        subst (λ z. is_opened conn (lines_of z) ≡ true) (sym c.is) (first_opened conn (conn == conn) (is_opened conn (lines_of c.rest)) (same conn))
+
+    first : (caller : Caller) (at : ℕ) → key_at plan.keys at caller.engine plan.rbc ≡ Some caller.kmac
+        → (l : Loop) (conn : ℕ) (mind : Mind) (says : Says) → l.moment ≡ at
+        → Lives (handled r l.moment (begun conn (calling plan caller l) mind) (begins caller l) says).0
+        (handled r l.moment (begun conn (calling plan caller l) mind) (begins caller l) says).1
+    unfolding Sounds
+    first caller at key l conn mind says now =
+        let m = l.moment in
+        let s = begun conn (calling plan caller l) mind in
+        let g = begins caller l in
+        let h = handled_so caller l conn mind says in
+        record {
+          told =
+              first_handled plan caller IsOfEnd Told (printings.q_steady steps made plan allowed) all_of_end.usual (printings.q_calls steps made plan allowed) (λ s t xs cs p. p.0)
+              (printings.Told steps made plan allowed) (printings.Gone steps made plan allowed) (printings.keeps steps made plan allowed) at
+              (printings.first_told steps made plan allowed caller at key) l conn mind says now;
+          opened = subst (λ z. is_opened z (lines_of (handled r m s g says).1) ≡ true) (sym h.number) (opens_call caller l conn mind _ h.calls);
+          once = names_call caller l conn mind _ h.calls;
+          sound =
+              steady_handled r (λ g. Unit {0}) Sounds (sounds_steadily stays breaks_release r) any_usual m s g says tt
+              (record { broken = λ p. absurd (true≢false (sym p)); closing = λ p. absurd (true≢false (sym p)) });
+          none = handled_none waits bring r m s g says;
+        }
+
+    -- the opening
+    record OpensSo (m : ℕ) (xs : List Entry) : Type 0 where
+      up_to : UpTo m xs
+      pass : AllPass plan.settings (key_at plan.keys) [] (lines_of xs)
+
+    calls_pass : (caller : Caller) (l : Loop) (conn : ℕ) (mind : Mind) (xs : List Entry) → key_at plan.keys l.moment caller.engine plan.rbc ≡ Some caller.kmac
+        → CallsSo caller l conn mind xs → OpensSo l.moment xs
+    unfolding is_named live_count named_in is_opened
+    calls_pass caller l conn mind xs key c =
+        let m = l.moment in
+        let x = entry_of r m (begun conn (calling plan caller l) mind) (begins caller l) in
+        let up : UpTo m (x ∷ []) = (omega arith, tt) in
+        subst (λ z. OpensSo m z) (sym c.is) (record {
+          up_to = up_to-append m (x ∷ []) c.rest up (up_to_plain m conn c.rest c.plain);
+          pass = (
+              record { moment = not_before m [] tt; role = (refl, ap is_some key, refl) },
+              plain_pass plan m conn (x ∷ []) c.rest c.plain up (first_opened conn (conn == conn) false (same conn)),
+            );
+        })
+
+    served_so : (caller : Caller) (l : Loop) (conn : ℕ) (mind : Mind) (a : Met) → CallsSo caller l conn mind (served r l.moment (begun conn (calling plan caller l) mind) (begins caller l) a).entries
+    unfolding served Plainly
+    served_so caller l conn mind a =
+        let m = l.moment in
+        let s = begun conn (calling plan caller l) mind in
+        let g = begins caller l in
+        let says = first_of nothing_said a.says in
+        let h = handled_so caller l conn mind says in
+        let t = (handled r m s g says).0 in
+        let o = rests r m t a.wrote in
+        let p : ArePlain m t.number o.entries =
+        plain_left m t o.state o.entries o.calls (left_rests_at r m (Plainly m) (plain_calls r m).quiet t t a.wrote [] [] (refl, tt)) in
+        record {
+          rest = h.calls.rest ++ o.entries;
+          is = ap (λ z. z ++ o.entries) h.calls.is;
+          plain = plain-append m conn h.calls.rest o.entries h.calls.plain (subst (λ z. ArePlain m z o.entries) h.number p);
+        }
+
+    called_pass : (user : Option Mind) (caller : Caller) (l : Loop) (conn : ℕ) (a : Met) → key_at plan.keys l.moment caller.engine plan.rbc ≡ Some caller.kmac
+        → OpensSo l.moment (called_by user plan caller l conn a).entries
+    unfolding is_named
+    called_pass None caller l conn a key = record {
+      up_to = (omega arith, tt);
+      pass = (record { moment = not_before l.moment [] tt; role = refl }, tt);
+    }
+    called_pass (Some mind) caller l conn a key =
+        calls_pass caller l conn mind (served r l.moment (begun conn (calling plan caller l) mind) (begins caller l) a).entries key (served_so caller l conn mind a)
+
+    called_moment : (user : Option Mind) (caller : Caller) (l : Loop) (conn : ℕ) (a : Met) → (called_by user plan caller l conn a).state.moment ≡ l.moment
+    called_moment None caller l conn a = refl
+    called_moment (Some mind) caller l conn a = refl
+
+    dial_on : (caller : Caller) (d : Course) (conn : ℕ) (address : List ℕ) (a : Met) (turns : List Turn) → d.loop.sessions ≡ []
+        → key_at plan.keys d.loop.moment caller.engine plan.rbc ≡ Some caller.kmac
+        → Rises 0 (opened_in (Dials address (Some conn) ∷ ((opens plan caller d conn a).calls ++ (run plan (opens plan caller d conn a).state turns).calls)))
+        → AllPass plan.settings (key_at plan.keys) [] (lines_of ((opens plan caller d conn a).entries ++ (run plan (opens plan caller d conn a).state turns).entries))
+    unfolding Goes called
+    dial_on caller d conn address a turns none key rises =
+        let user = next_user d.loop.users in
+        let o = opens plan caller d conn a in
+        let e = run plan o.state turns in
+        let bs : List Call = Dials address (Some conn) ∷ o.calls in
+        let s = subst (λ z. Rises 0 z) (opens-append bs e.calls) rises in
+        let known = knows_called plan caller Q q_calls own K E keeps d.loop.moment (first caller d.loop.moment key) user d.loop conn address a none refl in
+        let so = called_pass user caller d.loop conn a key in
+        let went =
+        moment_run plan Goes wise o.state turns o.entries bs (rises_rest 0 (opened_in bs) (opened_in e.calls) s) known
+        (subst (λ z. UpTo z o.entries) (sym (called_moment user caller d.loop conn a)) so.up_to) in
+        subst (λ z. AllPass plan.settings (key_at plan.keys) [] z) (sym (lines-append o.entries e.entries))
+        (all_pass-append plan.settings (key_at plan.keys) [] (lines_of o.entries) (lines_of e.entries) so.pass went.pass)
+
+    dial_to : (conn : Option ℕ) (caller : Caller) (c : Course) (address : List ℕ) (a : Dialled) → c.loop.sessions ≡ []
+        → key_at plan.keys (max c.loop.moment a.first) caller.engine plan.rbc ≡ Some caller.kmac
+        → Rises 0 (opened_in (dials_to conn plan caller c address a).calls)
+        → AllPass plan.settings (key_at plan.keys) [] (lines_of (dials_to conn plan caller c address a).entries)
+    dial_to None caller c address a none key rises = tt
+    dial_to (Some conn) caller c address a none key rises = dial_on caller (asks a.first c) conn address a.met a.turns none key rises
+
+    dial_passes : (caller : Caller) (c : Course) (address : List ℕ) (a : Dialled) → IsDialling plan caller c address a
+        → AllPass plan.settings (key_at plan.keys) [] (lines_of (dials plan caller c address a).entries)
+    unfolding dials
+    dial_passes caller c address a h = dial_to a.conn caller c address a h.none h.key h.rises
+
+-- ---- both
+
+replays_to : (plan : Plan) (lines : List Event_line) (xs : List Entry) → AreEvents lines xs → AllPass plan.settings (key_at plan.keys) [] (lines_of xs)
+    → text xs ≡ entries_text plan.settings (key_at plan.keys) [] (lines_of xs) → ReplaysTo plan lines xs
+unfolding header
+replays_to plan lines xs e pass printed = record {
+  taken =
+      are_taken plan.settings (key_at plan.keys) lines
+      (all_pass_plain plan.settings (key_at plan.keys) [] lines (subst (λ z. AllPass plan.settings (key_at plan.keys) [] z) (sym e) pass));
+  printed =
+      ap (λ z. header plan.settings ++ z)
+      (sym (text_plain plan.settings (key_at plan.keys) [] lines) ∙ ap (λ z. entries_text plan.settings (key_at plan.keys) [] z) e ∙ sym printed);
+}
+
+pub recordings_replay : StepsAlike → MadeStands → ShowsAlike → WaitsMove → OctetsBring → ReleaseStays → BreaksRelease → RecordingsReplay
+recordings_replay steps made shows waits bring stays breaks_release =
+    let printed = printings.all_printed steps made in
+    record {
+      serving = λ plan c turns h lines e.
+          replays_to plan lines (run plan c turns).entries e
+          (passes steps made shows waits bring stays breaks_release plan h.allowed c turns h) (printed.serving plan c turns h);
+      dialling = λ plan caller c address a h lines e.
+          replays_to plan lines (dials plan caller c address a).entries e
+          (dial_passes steps made shows waits bring stays breaks_release plan h.allowed caller c address a h) (printed.dialling plan caller c address a h);
+    }

@@ -6,14 +6,17 @@ use Rattle.std.proofs.Math.Nat.{max-le}
 use Rattle.std.proofs.lemmas.Bool.{cases_Bool, lt-leb}
 use Rattle.std.proofs.lemmas.List.Folds.{list_any-append}
 use Rattle.des_block.specs.declared.triple_key.TripleKey.{TripleKey}
+use Rattle.er_base.specs.LineTexts.{line_text}
 use Rattle.er_settings.specs.declared.settings.Settings.{Settings}
 use Rattle.end_model.specs.Steps.{Finds}
 use Rattle.end_model.specs.Ends.{End}
 use Rattle.er_trace.specs.declared.entry.Entry.{Entry as Event_line}
 use Rattle.er_trace.specs.declared.event.Event.{Event}
 use Rattle.er_trace.specs.declared.event.Event.TheVariants as event
+use Rattle.er_trace.specs.Texts.{entry_words}
 use Rattle.trace_model.specs.Connections.{happens, happens_at, end_behind, end_at}
 use Rattle.trace_model.specs.Checks.{Role, Opens, Declines, Belongs, role_of, opens, names, is_named, is_opened, last_moment, is_live, opened_in, live_count, most_live, no_key, key_check, role_check, fault_of}
+use Rattle.trace_model.specs.Printed.{outcomes_text, entry_text, entries_text}
 use Rattle.trace_model.specs.Replays.{AreTaken}
 use Rattle.loop_model.specs.Journals.{Entry, line_of, lines_of}
 use Rattle.loop_model.specs.Sessions.{Session}
@@ -338,3 +341,15 @@ few_live settings finds xs ss there once =
 
 pub not_many : (live some : ℕ) → live ≤ some → nat_lt some most_live ≡ true → nat_le most_live live ≡ false
 not_many live some p q = lt-leb most_live live (let h : some < most_live = ltb-true some most_live q in omega arith)
+
+-- ---- what is printed, whatever the numbers of the lines
+
+pub text_plain : (settings : Settings) (finds : Finds) (before es : List Event_line)
+    → entries_text settings finds (map plain before) (map plain es) ≡ entries_text settings finds before es
+unfolding entries_text
+text_plain settings finds before [] = refl
+text_plain settings finds before (e ∷ es) =
+    ap (λ z. (line_text (entry_words e.moment e.conn e.event) ++ outcomes_text e.conn (happens settings finds e.moment e.event z).1) ++ entries_text settings finds (map plain before ++ plain e ∷ []) (map plain es))
+    (end_plain settings finds e.conn None before)
+    ∙ ap (λ z. entry_text settings finds before e ++ entries_text settings finds z (map plain es)) (sym (map_last before e))
+    ∙ ap (λ z. entry_text settings finds before e ++ z) (text_plain settings finds (before ++ e ∷ []) es)
