@@ -15,3 +15,4 @@ pub mod Resting
 pub mod Momentwise
 pub mod Taking
 pub mod Replaying
+pub mod Hearing

@@ -124,11 +124,11 @@ module _ (stays : ReleaseStays) (breaks_release : BreaksRelease) (r : Rules) whe
   stays_on m event k None e p = absurd (true≢false (sym p))
   stays_on m event k (Some why) e p = ap is_some (stays m event k why e)
 
-  stays_released : (m : ℕ) (k : KEnd) (g : Given) → is_some k.core.released ≡ true → is_some (end_after r m k g).core.released ≡ true
+  pub stays_released : (m : ℕ) (k : KEnd) (g : Given) → is_some k.core.released ≡ true → is_some (end_after r m k g).core.released ≡ true
   unfolding end_after
   stays_released m k g p = stays_on m (event_of r g) k k.core.released refl p
 
-  breaks_released : (m : ℕ) (k : KEnd) (g : Given) → breaks g ≡ true → is_some (end_after r m k g).core.released ≡ true
+  pub breaks_released : (m : ℕ) (k : KEnd) (g : Given) → breaks g ≡ true → is_some (end_after r m k g).core.released ≡ true
   unfolding end_after
   breaks_released m k (Begins engine rbc rb) p = absurd (true≢false (sym p))
   breaks_released m k (Hears octets) p = absurd (true≢false (sym p))

@@ -6,3 +6,4 @@ pub mod Loops
 pub mod Parts
 pub mod Laws
 pub mod Recordings
+pub mod Points

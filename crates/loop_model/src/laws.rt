@@ -1,5 +1,6 @@
 //! What holds of the loop, whatever the outside answers, as facts that a caller can cite.
 
+ghost use Rattle.loop_model.specs.Points.{OctetsAreHeard};
 ghost use Rattle.loop_model.specs.Recordings.{RecordingsReplay};
 ghost use Rattle.loop_model.specs.Laws.{ConnectionsAreIsolated, JournalIsPrinted, OctetsAreAccounted, CallsAreOnOpen, FaultsHaveFailed, OneReadATurn, TurnsAreCounted, FewAreLive, SessionsRise};
 
@@ -25,6 +26,14 @@ pub fn recordings()
 pub fn octets()
     ensures { OctetsAreAccounted }
 {}
+
+/// The joined octets of a connection's events are a beginning of those taken from it, and all of them where it never stalled.
+pub fn octets_taken()
+    ensures { OctetsAreHeard }
+{
+    er_end::laws::keeping();
+    er_end::laws::used_octets();
+}
 
 /// No call is made on a connection that was closed.
 pub fn open_connections()
