@@ -1,4 +1,6 @@
-use crate::{Act, Clock, Conn, Happening, MemoryClock, MemoryWires, ReadAnswer, Wires, WriteAnswer};
+use crate::{
+    Act, Clock, Conn, Happening, MemoryClock, MemoryWires, ReadAnswer, Wires, WriteAnswer,
+};
 use er_base::Octets;
 use std::test::Fail;
 
