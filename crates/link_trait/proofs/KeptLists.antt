@@ -93,9 +93,9 @@ untouched_more acts r now call xs before places conn sound keeps none no_taking 
     told_keep acts r now call xs before places sound keeps in
     record {
       taken = ap (taken_of conn) calls ∙ taken_of-more conn (told acts r.kept.items r.octets.items) (call_of acts xs call)
-      ∙ ap (λ os. os ++ taken_by conn (call_of acts xs call)) none.taken ∙ no_taking;
+          ∙ ap (λ os. os ++ taken_by conn (call_of acts xs call)) none.taken ∙ no_taking;
       given = ap (given_of conn) calls ∙ given_of-more conn (told acts r.kept.items r.octets.items) (call_of acts xs call)
-      ∙ ap (λ os. os ++ given_by conn (call_of acts xs call)) none.given ∙ no_giving;
+          ∙ ap (λ os. os ++ given_by conn (call_of acts xs call)) none.given ∙ no_giving;
     }
 
 -- a call that takes one place was kept

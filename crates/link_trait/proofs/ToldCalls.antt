@@ -216,16 +216,15 @@ stays_by : (s : WiresState) (conn size waits : ℕ) (answer : ReadAnswer)
     → Told (told_lines s) (told_lines (read_by s conn size waits answer)) (λ before now. StaysAtRead answer (length s.lines) conn before now)
 unfolding line_told
 stays_by s conn size waits (read_answer.Some n) =
-    told_still s _ (λ before now. StaysAtRead (read_answer.Some n) (length s.lines) conn before now) (λ is. is)
-    (
+    told_still s _ (λ before now. StaysAtRead (read_answer.Some n) (length s.lines) conn before now) (λ is. is) (
       λ other within differs.
-        line_stays s (read_by s conn size waits (read_answer.Some n)) (Reads conn size waits (Gave (take n (waits_at s conn)))) other refl refl refl
-        (line_at-changed_other s.lines conn other (λ line. record line { taken = line.taken + n }) differs) (took_else conn other (take n (waits_at s conn)) differs) refl,
+          line_stays s (read_by s conn size waits (read_answer.Some n)) (Reads conn size waits (Gave (take n (waits_at s conn)))) other refl refl refl
+          (line_at-changed_other s.lines conn other (λ line. record line { taken = line.taken + n }) differs) (took_else conn other (take n (waits_at s conn)) differs) refl,
       record {
         given = given_stays s (read_by s conn size waits (read_answer.Some n)) (Reads conn size waits (Gave (take n (waits_at s conn)))) conn refl refl;
         room = changed_here (λ before now. room_of now ≡ room_of before) s.lines conn (λ line. record line { taken = line.taken + n }) (λ line. refl) (λ line is_open. refl);
         shut = changed_here (λ before now. shut_of now ≡ shut_of before) s.lines conn (λ line. record line { taken = line.taken + n }) (λ line. refl) (λ line is_open. refl);
-      }
+      },
     )
 stays_by s conn size waits read_answer.NotNow = stay s _ (Reads conn size waits NotNow) refl refl refl refl (λ at within. refl) (λ at. refl) (λ at. refl)
 stays_by s conn size waits read_answer.End = stay s _ (Reads conn size waits End) refl refl refl refl (λ at within. refl) (λ at. refl) (λ at. refl)
@@ -253,10 +252,10 @@ takes_by s conn size waits into (read_answer.Some n) some gave =
       waited = found.waited;
       put = same_octets (take n into) (take n (waits_at s conn)) gave;
       taken = taken_of-more conn s.calls (Reads conn size waits (Gave (take n (waits_at s conn))))
-      ∙ ap (λ os. taken_of conn s.calls ++ os) (took_here conn (take n (waits_at s conn)));
+          ∙ ap (λ os. taken_of conn s.calls ++ os) (took_here conn (take n (waits_at s conn)));
       waits = ap (waits_of s.acts s.done conn) (line_at-changed s.lines conn (λ line. record line { taken = line.taken + n }) found.line found.there)
-      ∙ drop_twice found.line.taken n (brought s.acts s.done conn found.line)
-      ∙ sym (ap (λ line. drop n (waits_of s.acts s.done conn line)) (line_at-open s.lines conn found.line found.there));
+          ∙ drop_twice found.line.taken n (brought s.acts s.done conn found.line)
+          ∙ sym (ap (λ line. drop n (waits_of s.acts s.done conn line)) (line_at-open s.lines conn found.line found.there));
     })
 takes_by s conn size waits into read_answer.NotNow some gave = told_still s _ (λ before now. Unit {0}) (λ is. is) tt
 takes_by s conn size waits into read_answer.End some gave = told_still s _ (λ before now. Unit {0}) (λ is. is) tt
@@ -370,17 +369,16 @@ stays_at : (s : WiresState) (conn : ℕ) (piece : List ℕ) (answer : WriteAnswe
     → Told (told_lines s) (told_lines (write_by s conn piece answer)) (λ before now. StaysAtWrite answer (length s.lines) conn before now)
 unfolding line_told
 stays_at s conn piece (write_answer.Some n) =
-    told_still s _ (λ before now. StaysAtWrite (write_answer.Some n) (length s.lines) conn before now) (λ is. is)
-    (
+    told_still s _ (λ before now. StaysAtWrite (write_answer.Some n) (length s.lines) conn before now) (λ is. is) (
       λ other within differs.
-        line_stays s (write_by s conn piece (write_answer.Some n)) (Writes conn piece (write_answer.Some n)) other refl refl refl
-        (line_at-changed_other s.lines conn other (λ line. record line { room = line.room - n }) differs) refl (took_else conn other (take n piece) differs),
+          line_stays s (write_by s conn piece (write_answer.Some n)) (Writes conn piece (write_answer.Some n)) other refl refl refl
+          (line_at-changed_other s.lines conn other (λ line. record line { room = line.room - n }) differs) refl (took_else conn other (take n piece) differs),
       record {
         taken = taken_stays s (write_by s conn piece (write_answer.Some n)) (Writes conn piece (write_answer.Some n)) conn refl refl;
         waits = changed_here (λ before now. waits_of s.acts s.done conn now ≡ waits_of s.acts s.done conn before) s.lines conn (λ line. record line { room = line.room - n })
             (λ line. refl) (λ line is_open. refl);
         shut = changed_here (λ before now. shut_of now ≡ shut_of before) s.lines conn (λ line. record line { room = line.room - n }) (λ line. refl) (λ line is_open. refl);
-      }
+      },
     )
 stays_at s conn piece write_answer.NotNow = stay s _ (Writes conn piece write_answer.NotNow) refl refl refl refl (λ at within. refl) (λ at. refl) (λ at. refl)
 stays_at s conn piece write_answer.Failed = stay s _ (Writes conn piece write_answer.Failed) refl refl refl refl (λ at within. refl) (λ at. refl) (λ at. refl)
@@ -434,15 +432,15 @@ pub close_stays : (s : WiresState) (conn : ℕ) → Told (told_lines s) (told_li
 close_stays s conn =
     told_if (is_some (open_at s.lines conn)) s _ _ (λ before now. AllStay (length s.lines) before now)
     (told_still s _ (λ before now. AllStay (length s.lines) before now) (λ is. is) (λ at within.
-      let same : SameLine s.acts s.done at (line_at s.lines at) (line_at (changed s.lines conn (λ line. record line { closed = Some s.done })) at) =
-      changed_any (SameLine s.acts s.done at) s.lines conn at (λ line. record line { closed = Some s.done })
-      (λ line. record { waits = refl; room = refl; shut = refl })
-      (λ line is_open. record {
-        waits = ap (λ n. drop line.taken (octets_to at (between line.from n s.acts))) (not_closed line.closed s.done is_open);
-        room = refl;
-        shut = refl;
-      }) in
-      line_kept s _ (Closes conn) at refl same.waits same.room same.shut refl refl))
+    let same : SameLine s.acts s.done at (line_at s.lines at) (line_at (changed s.lines conn (λ line. record line { closed = Some s.done })) at) =
+    changed_any (SameLine s.acts s.done at) s.lines conn at (λ line. record line { closed = Some s.done })
+    (λ line. record { waits = refl; room = refl; shut = refl })
+    (λ line is_open. record {
+      waits = ap (λ n. drop line.taken (octets_to at (between line.from n s.acts))) (not_closed line.closed s.done is_open);
+      room = refl;
+      shut = refl;
+    }) in
+    line_kept s _ (Closes conn) at refl same.waits same.room same.shut refl refl))
     (told_if (fits s 1 0) s _ _ (λ before now. AllStay (length s.lines) before now)
     (stay s _ (Closes conn) refl refl refl refl (λ at within. refl) (λ at. refl) (λ at. refl))
     (told_spent s _ _ refl))

@@ -154,9 +154,9 @@ record Longer (before now : List ℕ) : Type 0 where
 longer_behind : (n : ℕ) (some more : List ℕ) → Longer (drop n some) (drop n (some ++ more))
 longer_behind n some more = elim (cases_lt (length some) n) [
   | inl past ↦ record {
-      more = drop n (some ++ more);
-      is = ap (λ xs. xs ++ drop n (some ++ more)) (sym (drop_all n some (omega (arith, past))));
-    }
+    more = drop n (some ++ more);
+    is = ap (λ xs. xs ++ drop n (some ++ more)) (sym (drop_all n some (omega (arith, past))));
+  }
   | inr within ↦ record { more = more; is = drop-append-le n some more within }
 ]
 
@@ -241,7 +241,7 @@ longer_brought : (acts : List Act) (done count conn from : ℕ) (closed : Option
 longer_brought acts done count conn from None = record {
   more = octets_to conn (take ((done + count - from) - (done - from)) (drop (done - from) (drop from acts)));
   is = ap (octets_to conn) (between-more from done (done + count) acts (omega arith))
-  ∙ octets_to-append conn (between from done acts) (take ((done + count - from) - (done - from)) (drop (done - from) (drop from acts)));
+      ∙ octets_to-append conn (between from done acts) (take ((done + count - from) - (done - from)) (drop (done - from) (drop from acts)));
 }
 longer_brought acts done count conn from (Some place) = record { more = []; is = sym (append-nil (octets_to conn (between from place acts))) }
 
