@@ -1,5 +1,5 @@
 -- Which names were asked for, by how the parts of a run end.
-use Rattle.std.proofs.Common.{◌≡◌, ◌≢◌, ◌⊎◌, inl, inr, ℕ, List, [], ◌∷◌, Option, Some, None, Result, Ok, Err, IfOk, refl, sym, ◌∙◌, ap, arith}
+use Rattle.std.proofs.Common.{◌≡◌, ◌≢◌, ◌⊎◌, inl, inr, ℕ, List, [], ◌∷◌, Option, Result, Ok, Err, IfOk, refl, ap, arith}
 use Rattle.er_base.specs.declared.no_memory.NoMemory.{NoMemory as Want}
 use Rattle.er_base.specs.declared.text_fault.TextFault.{TextFault}
 use Rattle.er_base.specs.declared.text_fault.TextFault.TheVariants as text
@@ -12,7 +12,7 @@ use Rattle.link_trait.specs.Growth.{grew_then, grew_nothing}
 use Rattle.er_program.specs.Asking.{Names, AsksLast, AsksBehindKeys, Asks}
 use Rattle.er_program.specs.Commands.{Command, Misused, Drill, Bits, Migrate, Replay, Bulk, names_of}
 use Rattle.er_program.specs.LastLines.{fetch_line}
-use Rattle.er_program.specs.Answers.{Answer, IsReplayAnswer, AllAreTaken, OneIsRefused, IsTraceAnswer, keys_answer}
+use Rattle.er_program.specs.Answers.{Answer, AllAreTaken, OneIsRefused, IsTraceAnswer, keys_answer}
 use Rattle.er_program.specs.ReplayWriting.{EndsOne}
 use Rattle.er_program.specs.Writing.{Gives}
 use Rattle.er_program.specs.declared.status.Status.{Status}

@@ -1,8 +1,8 @@
 -- How a bulk run ends, from how its parts end.
-use Rattle.std.proofs.Common.{◌≡◌, ℕ, zero, suc, false, ◌+◌, ◌<◌, ◌≤◌, inl, inr, List, [], ◌∷◌, ◌++◌, length, take, slice_get, Option, Some, None, Result, Ok, Err, IfOk, refl, ap, sym, subst, ◌∙◌, arith}
+use Rattle.std.proofs.Common.{◌≡◌, ℕ, zero, suc, false, ◌+◌, ◌≤◌, inl, inr, List, [], ◌∷◌, ◌++◌, length, take, slice_get, Option, Some, None, Result, Ok, Err, IfOk, refl, ap, sym, subst, ◌∙◌, arith}
 use Rattle.std.proofs.lemmas.Bool.{cases_eq}
 use Rattle.std.proofs.lemmas.List.{take_all}
-use Rattle.std.proofs.lemmas.Option.{same_Some, slice_get_within}
+use Rattle.std.proofs.lemmas.Option.{same_Some}
 use Rattle.er_base.specs.declared.no_memory.NoMemory.{NoMemory as Want}
 use Rattle.er_base.specs.declared.side.Side.{Side}
 use Rattle.er_settings.specs.declared.settings.Settings.{Settings}
@@ -19,11 +19,11 @@ use Rattle.drill_model.specs.Headline.{OpensAlways}
 use Rattle.drill_model.specs.Totals.{totals_of}
 use Rattle.bulk_steps.specs.Turns.{bulk_steps}
 use Rattle.er_world.specs.Standing.{KeptWorld, Ran}
-use Rattle.link_trait.specs.Outside.{Grew, GrewPart}
-use Rattle.er_program.specs.Answers.{Answer, Files, IsBulkAnswer, AllAreCounted, TooManyWait}
+use Rattle.link_trait.specs.Outside.{Grew}
+use Rattle.er_program.specs.Answers.{Files, IsBulkAnswer, AllAreCounted, TooManyWait}
 use Rattle.er_program.specs.Commands.{Bulk}
-use Rattle.er_program.specs.BulkTexts.{bulk_plan, steps_of_bulk, totals_of_bulk, totals_line, AllDone, FirstOverfull}
-use Rattle.er_program.specs.BulkRuns.{IsDoable, AreDoable, DidFirst, HaltedAt, DoesAll}
+use Rattle.er_program.specs.BulkTexts.{bulk_plan, steps_of_bulk, totals_of_bulk, totals_line, AllDone}
+use Rattle.er_program.specs.BulkRuns.{IsDoable, AreDoable, DidFirst, HaltedAt}
 use Rattle.er_program.specs.KeyWriting.{GivesOne}
 use Rattle.er_program.specs.LastLines.{overfull_line}
 use Rattle.er_program.specs.Writing.{Gives, TellsFault, Ends}

@@ -1,5 +1,5 @@
 -- No step of a bulk run is refused: the one link was opened by the first step, and moments don't fall.
-use Rattle.std.proofs.Common.{◌≡◌, ℕ, zero, suc, ◌+◌, ◌*◌, ◌≤◌, Bool, true, false, List, [], ◌∷◌, take, slice_get, Option, Some, None, option_map, if◌then◌else◌, refl, ap, sym, subst, ◌∙◌, arith}
+use Rattle.std.proofs.Common.{◌≡◌, ℕ, zero, suc, ◌+◌, ◌*◌, ◌≤◌, Bool, true, false, List, [], ◌∷◌, take, slice_get, Option, Some, None, option_map, if◌then◌else◌, refl, ap, sym, subst, ◌∙◌}
 use Rattle.std.proofs.lemmas.Bool.{le-ltb}
 use Rattle.std.proofs.lemmas.Option.{same_Some}
 use Rattle.er_base.specs.declared.side.Side.{Side}
@@ -8,8 +8,8 @@ use Rattle.er_scenario.specs.declared.step.Step.TheVariants as does
 use Rattle.drill_model.specs.declared.world_fault.WorldFault.{WorldFault}
 use Rattle.drill_model.specs.declared.world_fault.WorldFault.TheVariants.{Overfull}
 use Rattle.drill_model.specs.Links.{Link, LinkOpening, LinkStep}
-use Rattle.drill_model.specs.Worlds.{Plan, World, Came, new_world, is_link, link_at, overfull_side, at_link, open_link, went_on, drain_link, ticks, ticked, world_step, world_run_from, world_run, link_opening}
-use Rattle.drill_model.specs.Faults.{wants, wants_moment, or_else, refusal, overfull_fault, overfull_at, first_overfull, overfull_of, fault_of, fault_behind}
+use Rattle.drill_model.specs.Worlds.{Plan, World, Came, new_world, is_link, link_at, overfull_side, at_link, open_link, drain_link, ticks, ticked, world_step, world_run_from, world_run, link_opening}
+use Rattle.drill_model.specs.Faults.{or_else, refusal, overfull_fault, overfull_at, first_overfull, overfull_of, fault_behind}
 use Rattle.drill_model.specs.Headline.{OpensAlways, opening_by, or_opening, opening_of}
 use Rattle.bulk_steps.specs.Turns.{kmac}
 use Rattle.er_program.specs.BulkTexts.{bulk_plan, steps_of_bulk}

@@ -1,13 +1,13 @@
 -- What a run that reads a key file alone means by its status, from how it ended.
-use Rattle.std.proofs.Common.{◌≡◌, ℕ, inl, inr, List, [], ◌∷◌, Option, Some, None, Result, Ok, Err, refl, sym, subst, ◌∙◌, ap, arith}
+use Rattle.std.proofs.Common.{◌≡◌, ℕ, inl, inr, List, [], ◌∷◌, Option, Some, None, Result, Ok, Err, refl, subst, ◌∙◌, ap, arith}
 use Rattle.safety_automaton.specs.Keys.{Entry}
 use Rattle.key_store.specs.declared.key_file_fault.KeyFileFault.{KeyFileFault}
 use Rattle.key_store.specs.declared.key_file_fault.KeyFileFault.TheVariants as keys
 use Rattle.key_store.specs.KeyFiles.{keys_of}
-use Rattle.link_trait.specs.Outside.{Grew, Rose, HasFile}
+use Rattle.link_trait.specs.Outside.{Grew, HasFile}
 use Rattle.er_program.specs.Commands.{Migrate}
 use Rattle.er_program.specs.KeyLines.{keys_line}
-use Rattle.er_program.specs.LastLines.{fetch_line, memory_line}
+use Rattle.er_program.specs.LastLines.{memory_line}
 use Rattle.er_program.specs.Answers.{Answer, Files, HasFetched, IsKeyText, IsKeysAnswer, IsFetchedKeys, keys_answer}
 use Rattle.er_program.specs.Runs.{Means, HasKeysStatus}
 

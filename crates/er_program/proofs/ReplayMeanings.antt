@@ -1,5 +1,5 @@
 -- What a run of `replay` means by its status, from how it ended.
-use Rattle.std.proofs.Common.{◌≡◌, ◌⊎◌, ℕ, inl, inr, List, [], ◌∷◌, ◌++◌, Option, Some, None, Result, Ok, Err, refl, sym, subst, ◌∙◌, ap, arith}
+use Rattle.std.proofs.Common.{◌≡◌, ℕ, inl, inr, List, [], ◌∷◌, ◌++◌, Option, Some, None, Result, Ok, Err, refl, sym, subst, ◌∙◌, ap, arith}
 use Rattle.std.proofs.lemmas.Option.{none-some}
 use Rattle.er_base.specs.declared.text_fault.TextFault.{TextFault}
 use Rattle.er_base.specs.declared.text_fault.TextFault.TheVariants as text
@@ -17,7 +17,7 @@ use Rattle.link_trait.specs.Outside.{Grew, Rose, HasFile}
 use Rattle.er_program.specs.Asking.{Names, Asks}
 use Rattle.er_program.specs.Commands.{Replay}
 use Rattle.er_program.specs.KeyLines.{keys_line}
-use Rattle.er_program.specs.LastLines.{fetch_line, fault_line, refused_line, memory_line, why_word}
+use Rattle.er_program.specs.LastLines.{fault_line, refused_line, memory_line, why_word}
 use Rattle.er_program.specs.Answers.{Answer, Files, HasFetched, IsReplayAnswer, AllAreTaken, OneIsRefused, IsTraceAnswer, IsFetchedTrace, IsAnswerBehindKeys, IsFetchedReplay, keys_answer}
 use Rattle.er_program.specs.Runs.{Means, IsUnfetched, SpellTrace, HasTraceStatus, HasReplayStatus, IsStatusBehindKeys}
 

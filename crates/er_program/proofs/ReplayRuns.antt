@@ -1,5 +1,5 @@
 -- How the replay of a trace ends, from how its parts end.
-use Rattle.std.proofs.Common.{◌≡◌, ◌⊎◌, inl, inr, ℕ, ◌≤◌, List, [], ◌∷◌, ◌++◌, Option, Some, None, Result, Ok, Err, IfOk, refl, sym, subst, ◌∙◌, ap, append-nil, arith}
+use Rattle.std.proofs.Common.{◌≡◌, ◌⊎◌, inl, inr, ℕ, ◌≤◌, List, [], ◌∷◌, ◌++◌, Option, Some, None, Result, Ok, Err, refl, sym, subst, append-nil, arith}
 use Rattle.er_base.specs.declared.no_memory.NoMemory.{NoMemory as Want}
 use Rattle.er_base.specs.declared.text_fault.TextFault.{TextFault}
 use Rattle.er_base.specs.declared.text_fault.TextFault.TheVariants as text
@@ -24,7 +24,7 @@ use Rattle.er_program.specs.Commands.{Replay}
 use Rattle.er_program.specs.LastLines.{fetch_line, fault_line, refused_line, why_word}
 use Rattle.er_program.specs.Answers.{Answer, Files, IsReplayAnswer, AllAreTaken, OneIsRefused, IsTraceAnswer, IsTraceFileAnswer, IsAnswerBehindKeys, HasFetched, keys_answer}
 use Rattle.er_program.specs.KeyWriting.{GaveOne, BrokeOne}
-use Rattle.er_program.specs.ReplayWriting.{BeganOne, EndsOne, BeginsEvents, BeginsSpelled, BeginsTrace, BeginsFile, BeginsTraceFile, BeginsGood, BeginsBehindKeys, TellsRefusal}
+use Rattle.er_program.specs.ReplayWriting.{BeganOne, EndsOne, BeginsEvents, BeginsSpelled, BeginsTrace, BeginsTraceFile, BeginsGood, BeginsBehindKeys, TellsRefusal}
 use Rattle.er_program.specs.Runs.{FirstEventLines}
 use Rattle.er_program.specs.Writing.{Gives, Ends}
 use Rattle.er_program.specs.declared.status.Status.{Status}

@@ -60,12 +60,7 @@ fn do_all(alloc: Global, steps: &[Step], world: &mut World) -> Result<(), WorldF
 }
 
 // The line of a bulk run.
-fn put_totals(
-    seed: u64,
-    count: u32,
-    totals: &Totals,
-    out: &mut Vec<u8>,
-) -> Result<(), NoMemory>
+fn put_totals(seed: u64, count: u32, totals: &Totals, out: &mut Vec<u8>) -> Result<(), NoMemory>
     ensures { OnOk result (out.new.items ≡ out.old.items ++ totals_line seed count totals.now) }
 {
     put_line(
@@ -116,12 +111,7 @@ fn drawn(alloc: Global, seed: u64, count: u32) -> Result<Vec<Step>, NoMemory>
 }
 
 /// `bulk SEED COUNT`: does the steps of a bulk run, and prints their totals.
-pub fn bulk_run<K: Sink>(
-    alloc: Global,
-    seed: u64,
-    count: u32,
-    sink: &mut K,
-) -> Result<Status, Stop>
+pub fn bulk_run<K: Sink>(alloc: Global, seed: u64, count: u32, sink: &mut K) -> Result<Status, Stop>
     requires { count ≤ 10000 }
     ensures ends { GivesOne (IsBulkAnswer seed count) (K.held sink.old) (K.held sink.new) (K.faults sink.old)
         (K.faults sink.new) result }

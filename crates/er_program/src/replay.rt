@@ -26,12 +26,7 @@ use std::alloc::Global;
 use trace_replay::{ReplayFault, replay};
 
 // The event at this line of the trace is refused.
-fn refused<K: Sink>(
-    alloc: Global,
-    line: usize,
-    word: &[u8],
-    sink: &mut K,
-) -> Result<Status, Stop>
+fn refused<K: Sink>(alloc: Global, line: usize, word: &[u8], sink: &mut K) -> Result<Status, Stop>
     ensures gives { Gives (record { status = 3; text = fault_line line word.now }) (K.held sink.old) (K.held sink.new)
         (K.faults sink.old) (K.faults sink.new) result }
     ensures sink_count { K.faults sink.old ≤ K.faults sink.new }

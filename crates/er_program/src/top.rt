@@ -134,8 +134,8 @@ fn ran<F: Cabinet, K: Sink>(
 /// - 4: the key file is refused; `! keys` is printed with its first fault, as `! keys twice 1 2`.
 /// - 5: a write to the sink failed, in place of any other status; nothing is written after it.
 /// - 7: memory ran out; what was printed stays, and `! memory` is printed. It may come in place of any other.
-/// - 8: a frame would be one more than may wait in one direction; behind the lines of the steps before it,
-///   `! overfull LINK S MOST` is printed.
+/// - 8: a frame would be one more than may wait in one direction; behind the lines of the steps before it, or in a bulk
+///   run alone, `! overfull LINK S MOST` is printed.
 pub fn run<F: Cabinet, K: Sink>(
     alloc: Global,
     words: &[String],

@@ -4,7 +4,7 @@ use Rattle.link_trait.specs.declared.cabinet.FetchFault.{FetchFault}
 use Rattle.link_trait.specs.Growth.{part_then, part_more}
 use Rattle.er_program.proofs.RunEndings.{has_file_kept}
 use Rattle.er_program.proofs.ReplayRuns.{ends_replayed, ends_replay_lost}
-use Rattle.er_program.proofs.Askings.{asks_words, asks_words_lost}
+use Rattle.er_program.proofs.Askings.{asks_words}
 use Rattle.er_program.proofs.replay.replay_run.Goals as goal
 
 pub returns-in-Ok-clause-ends : goal.returns-in-Ok-clause-ends

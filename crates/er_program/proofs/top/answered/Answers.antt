@@ -1,6 +1,5 @@
 -- Words that fit no command, and those of a bulk run, by the lemmas on endings.
-use Rattle.std.proofs.Common.{sym, subst, [], ◌∷◌}
-use Rattle.link_trait.specs.Growth.{grew_nothing}
+use Rattle.std.proofs.Common.{sym}
 use Rattle.er_program.proofs.RunEndings.{ends_unfit}
 use Rattle.er_program.proofs.BulkRuns.{ends_bulk}
 use Rattle.er_program.proofs.top.answered.Goals as goal
