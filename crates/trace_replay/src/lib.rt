@@ -3,7 +3,7 @@
 //! What a trace means is defined in `trace_model`; this is the code that prints it.
 #![tactic(auto)]
 
-mod replay;
+mod run;
 
-pub use replay::replay;
+pub use run::replay;
 pub use trace_model::ReplayFault;

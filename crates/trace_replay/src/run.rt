@@ -20,6 +20,7 @@ fn want() -> Option<NoMemory>
     NoMemory::of_system(&io::Error::from(ErrorKind::OutOfMemory))
 }
 
+#[tactic(auto, using(crate::proofs::Written::wrote_nothing))]
 /// Prints the text of a trace: its header, then each event's line and those of its outcomes, one write for each event.
 ///
 /// KMACs are looked up among the keys, each at the moment of its event. Where an event isn't taken, or a write fails, or memory runs
