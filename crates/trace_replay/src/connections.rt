@@ -1,6 +1,6 @@
 //! The connections of a trace, and each event at its own.
 
-ghost use Rattle.std.specs.Prelude.{◌≡◌, ◌≤◌, ◌^◌, ◌<◌, true, false, [], Some, None, OnOk, MatchResult};
+ghost use Rattle.std.specs.Prelude.{ℕ, List, ◌≡◌, ◌≤◌, ◌^◌, ◌<◌, true, false, [], Some, None, OnOk, MatchResult};
 ghost use Rattle.std.specs.BTreeMap.{get, btree_map_len};
 ghost use Rattle.std.specs.Ordering.{nat_cmp};
 ghost use Rattle.er_settings.specs.Ranges.{AllAllowed};

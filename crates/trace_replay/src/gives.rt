@@ -1,6 +1,6 @@
 //! Events given to the end of a connection, and the lines of what came of them.
 
-ghost use Rattle.std.specs.Prelude.{◌≡◌, ◌≤◌, ◌<◌, ◌++◌, length, drop, take, false, Some, IfOk, OnOk};
+ghost use Rattle.std.specs.Prelude.{ℕ, List, ◌≡◌, ◌≤◌, ◌<◌, ◌++◌, length, drop, take, false, Some, IfOk, OnOk};
 ghost use Rattle.er_settings.specs.declared.settings.Settings.{Settings as TraceSettings};
 ghost use Rattle.safety_automaton.specs.Keys.{key_at};
 ghost use Rattle.end_model.specs.Ends as of;
@@ -195,6 +195,15 @@ pub fn tell_over(entry: &Entry, why: Release, out: &mut Vec<u8>) -> Result<(), N
     match &entry.event {
         Event::Send(_) => tell_refused(entry.conn, &SendRefused::Released(why), out),
         Event::Take => tell_empty(entry.conn, out),
-        _ => Ok(()),
+        Event::Call { .. }
+        | Event::Answer { .. }
+        | Event::Octets(_)
+        | Event::Release(_)
+        | Event::Tick
+        | Event::Ended
+        | Event::Fault
+        | Event::Stalled
+        | Event::Full(_)
+        | Event::Unserved(_) => Ok(()),
     }
 }
