@@ -45,7 +45,7 @@ break_told : (cause : Cause) (x : Core) (o : Option Release) → x.released ≡ 
 break_told cause x None e = rw e refl
 break_told cause x (Some why) e = rw e refl
 
-released_alike : (last : ℕ) (m n : End) → AlikeFrom last m n → m.core.released ≡ n.core.released
+pub released_alike : (last : ℕ) (m n : End) → AlikeFrom last m n → m.core.released ≡ n.core.released
 released_alike last m n a = ap (λ (x : Core). x.released) (a.begun last (let p : last ≤ last = omega arith in p))
 
 pub untaken_alike : (last : ℕ) (m n : End) → AlikeFrom last m n → model.untaken m.core.upper ≡ model.untaken n.core.upper

@@ -1,11 +1,14 @@
 -- An event that was given to an end is one of its connection.
-use Rattle.std.proofs.Common.{◌≡◌, ◌≤◌, ◌∙◌, ℕ, List, [], ◌∷◌, ◌++◌, Option, Some, None, Result, Ok, Err, OnOk, refl, sym, ap, subst, append_assoc, append-nil}
+use Rattle.std.proofs.Common.{◌≡◌, ◌≤◌, ◌∙◌, ◌⊎◌, inl, inr, ℕ, true, false, List, [], ◌∷◌, ◌++◌, Option, Some, None, Result, Ok, Err, OnOk, refl, sym, ap, subst, append_assoc, append-nil}
 use Rattle.er_base.specs.declared.no_memory.NoMemory.{NoMemory}
 use Rattle.er_base.specs.declared.release.Release.{Release}
 use Rattle.er_settings.specs.declared.settings.Settings.{Settings}
 use Rattle.er_trace.specs.declared.entry.Entry.{Entry}
 use Rattle.er_trace.specs.declared.event.Event.{Event}
 use Rattle.er_trace.specs.declared.event.Event.TheVariants.{Octets}
+use Rattle.er_trace.specs.declared.event.Event.TheVariants as event
+use Rattle.er_base.specs.declared.octets.Octets.{Octets as Text}
+use Rattle.trace_model.specs.Checks.{role_of, opens}
 use Rattle.end_model.specs.Outcomes.{Outcome}
 use Rattle.end_model.specs.Steps.{Finds}
 use Rattle.end_model.specs.Ends as of
@@ -33,10 +36,36 @@ pub same_text : (conn : ℕ) (out new : List ℕ) (a os : List Outcome) (r : Res
 same_text conn out new a os (Ok done) q is = q ∙ ap (λ (l : List Outcome). out ++ outcomes_text conn l) (sym is)
 same_text conn out new a os (Err want) q is = tt
 
-pub nothing_told : (conn : ℕ) (why : Release) (e f : Event) (out : List ℕ) → e ≡ f → told_over why f ≡ [] → out ≡ out ++ outcomes_text conn (told_over why e)
+-- the events of which an end that is over shows nothing
+abbrev IsQuiet : Event → Type 0
+IsQuiet e =
+    ((engine : ℕ) × (rbc : ℕ) × (rb : ℕ) × (e ≡ event.Call engine rbc rb))
+    ⊎ (((rbc : ℕ) × (ra : ℕ) × (e ≡ event.Answer rbc ra))
+    ⊎ (((octets : Text) × (e ≡ event.Octets octets))
+    ⊎ (((sub : ℕ) × (e ≡ event.Release sub))
+    ⊎ ((e ≡ event.Tick)
+    ⊎ ((e ≡ event.Ended)
+    ⊎ ((e ≡ event.Fault)
+    ⊎ ((e ≡ event.Stalled)
+    ⊎ (((count : ℕ) × (e ≡ event.Full count))
+    ⊎ ((count : ℕ) × (e ≡ event.Unserved count))))))))))
+
+quiet : (why : Release) (e : Event) → IsQuiet e → told_over why e ≡ []
+quiet why e (inl a) = ap (λ (x : Event). told_over why x) a.3
+quiet why e (inr (inl a)) = ap (λ (x : Event). told_over why x) a.2
+quiet why e (inr (inr (inl a))) = ap (λ (x : Event). told_over why x) a.1
+quiet why e (inr (inr (inr (inl a)))) = ap (λ (x : Event). told_over why x) a.1
+quiet why e (inr (inr (inr (inr (inl a))))) = ap (λ (x : Event). told_over why x) a
+quiet why e (inr (inr (inr (inr (inr (inl a)))))) = ap (λ (x : Event). told_over why x) a
+quiet why e (inr (inr (inr (inr (inr (inr (inl a))))))) = ap (λ (x : Event). told_over why x) a
+quiet why e (inr (inr (inr (inr (inr (inr (inr (inl a)))))))) = ap (λ (x : Event). told_over why x) a
+quiet why e (inr (inr (inr (inr (inr (inr (inr (inr (inl a))))))))) = ap (λ (x : Event). told_over why x) a.1
+quiet why e (inr (inr (inr (inr (inr (inr (inr (inr (inr a))))))))) = ap (λ (x : Event). told_over why x) a.1
+
+pub nothing_told : (conn : ℕ) (why : Release) (e : Event) (out : List ℕ) → IsQuiet e → out ≡ out ++ outcomes_text conn (told_over why e)
 unfolding outcomes_text
-nothing_told conn why e f out is none =
-    sym (append-nil out) ∙ ap (λ (l : List Outcome). out ++ outcomes_text conn l) (sym (ap (λ (x : Event). told_over why x) is ∙ none))
+nothing_told conn why e out is =
+    sym (append-nil out) ∙ ap (λ (l : List Outcome). out ++ outcomes_text conn l) (sym (quiet why e is))
 
 -- an event is this one of its end
 abbrev IsEvent : Settings → Finds → ℕ → Event → of.Event → Type 0
@@ -78,3 +107,17 @@ pub given_none : (settings : Settings) (finds : Finds) (e : Entry) (m : End) (k 
 unfolding outcomes_text
 given_none settings finds e m k out last ev is does f le =
     gives_is settings finds e m k out out ev (Some m, []) is does (follows_later last e.moment k m le f) (sym (append-nil out))
+
+abbrev IsNone : Event → Type 0
+IsNone e =
+    ((engine : ℕ) × (rbc : ℕ) × (rb : ℕ) × (e ≡ event.Call engine rbc rb))
+    ⊎ (((rbc : ℕ) × (ra : ℕ) × (e ≡ event.Answer rbc ra))
+    ⊎ (((count : ℕ) × (e ≡ event.Full count))
+    ⊎ ((count : ℕ) × (e ≡ event.Unserved count))))
+
+pub given_rest : (settings : Settings) (finds : Finds) (e : Entry) (m : End) (k : KEnd) (out : List ℕ) (last : ℕ)
+    → IsNone e.event → opens (role_of e.event) ≡ false → Follows last k m → last ≤ e.moment → Gives settings finds e (Some m) k out out
+given_rest settings finds e m k out last (inl a) belongs f le = absurd (let q : true ≡ false = sym (ap (λ (x : Event). opens (role_of x)) a.3) ∙ belongs in let u : ⊥ = cc in u)
+given_rest settings finds e m k out last (inr (inl a)) belongs f le = absurd (let q : true ≡ false = sym (ap (λ (x : Event). opens (role_of x)) a.2) ∙ belongs in let u : ⊥ = cc in u)
+given_rest settings finds e m k out last (inr (inr (inl a))) belongs f le = given_none settings finds e m k out last (event.Full a.0) a.1 refl f le
+given_rest settings finds e m k out last (inr (inr (inr a))) belongs f le = given_none settings finds e m k out last (event.Unserved a.0) a.1 refl f le

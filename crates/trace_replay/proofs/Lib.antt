@@ -4,3 +4,8 @@ pub mod Cuts
 pub mod Overs
 pub mod Givings
 pub mod Takes
+pub mod Changes
+pub mod Counts
+pub mod Holdings
+pub mod Taking
+pub mod Running

@@ -42,15 +42,15 @@ over_step settings finds now why (event.Answer rbc ra) m b o = absurd (let u : â
 over_step settings finds now why (event.Octets octets) m b o =
     let r = each_rests finds now why (news m.stream octets) (begins_at model now m.core) (record { released = o.0; untaken = o.1 }) in
     ((r.0.released, r.0.untaken), r.1)
-over_step settings finds now why (event.Send text) m b o = rw o.0 ((o.0, o.1), refl)
+over_step settings finds now why (event.Send text) m b o = rw o.0 ((refl, o.1), refl)
 over_step settings finds now why event.Take m b o =
     let is = uses_is now m.core o.1 in
     let none = none_left m.core o.1 in
     rw (is, none) ((o.0, o.1), refl)
-over_step settings finds now why (event.Release sub) m b o = rw o.0 ((o.0, o.1), refl)
-over_step settings finds now why event.Tick m b o = rw o.0 ((o.0, o.1), refl)
-over_step settings finds now why event.Ended m b o = rw o.0 ((o.0, o.1), refl)
-over_step settings finds now why event.Fault m b o = rw o.0 ((o.0, o.1), refl)
-over_step settings finds now why event.Stalled m b o = rw o.0 ((o.0, o.1), refl)
+over_step settings finds now why (event.Release sub) m b o = rw o.0 ((refl, o.1), refl)
+over_step settings finds now why event.Tick m b o = rw o.0 ((refl, o.1), refl)
+over_step settings finds now why event.Ended m b o = rw o.0 ((refl, o.1), refl)
+over_step settings finds now why event.Fault m b o = rw o.0 ((refl, o.1), refl)
+over_step settings finds now why event.Stalled m b o = rw o.0 ((refl, o.1), refl)
 over_step settings finds now why (event.Full count) m b o = (o, refl)
 over_step settings finds now why (event.Unserved count) m b o = (o, refl)

@@ -48,6 +48,11 @@ unless_live None = Absent
 unless_live (Some None) = Declined
 unless_live (Some (Some why)) = Over why
 
+-- why an end that is over was released
+abbrev pub why_in : Option (Option Release) → Option Release
+why_in None = None
+why_in (Some why) = why
+
 abbrev pub place_of : Option KEnd → Option (Option Release) → Place
 place_of None over = unless_live over
 place_of (Some k) over = Live k
@@ -68,7 +73,7 @@ is_there (Live k) = true
 is_there (Over why) = false
 
 -- why an end is over
-abbrev pub over_of : KEnd → Option Release
+unfoldable pub over_of : KEnd → Option Release
 over_of k = if length (waiting_in k) == 0 then k.core.released else None
 
 abbrev pub place_by : Option Release → KEnd → Place
@@ -116,7 +121,11 @@ count_of p [] = 0
 count_of p (x ∷ xs) = one_if (p x) + count_of p xs
 
 -- what is kept stands for the ends of all connections behind events
-pub record Holds (settings : Settings) (finds : Finds) (before : List Entry) (c : Connections) : Type 0 where
+pub record AllHold (settings : Settings) (finds : Finds) (before : List Entry) (c : Connections) : Type 0 where
   pub keeps : (conn : ℕ) → Keeps (last_moment before) (place c conn) (end_at settings finds conn before) (is_named conn before) (is_opened conn before)
   pub apart : AreApart (opened_in before)
   pub count : btree_map_len c.live ≡ count_of (λ conn. is_there (place c conn)) (opened_in before)
+
+-- the same, as a word that no search opens
+unfoldable pub Holds : Settings → Finds → List Entry → Connections → Type 0
+Holds settings finds before c = AllHold settings finds before c

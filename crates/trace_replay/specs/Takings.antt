@@ -1,5 +1,5 @@
 -- Representation: how the parts of a replay end; no claim rests on it.
-use Rattle.std.specs.Prelude.{ℕ, ◌≡◌, ◌≤◌, Bool, true, false, List, [], ◌∷◌, ◌++◌, Option, Some, None, Result, Ok, Err, OnOk}
+use Rattle.std.specs.Prelude.{ℕ, ◌≡◌, ◌≤◌, ◌==◌, Bool, true, false, List, [], ◌∷◌, ◌++◌, Option, Some, None, Result, Ok, Err, OnOk}
 use Rattle.std.specs.BTreeMap.{get, btree_map_len}
 use Rattle.std.specs.Ordering.{nat_cmp}
 use Rattle.er_base.specs.declared.no_memory.NoMemory.{NoMemory as Want}
@@ -54,7 +54,7 @@ pub record GivesLive (finds : Finds) (e : Entry) (old new : Connections) (out no
   pub behind : KEnd
   pub was : get nat_cmp old.live e.conn ≡ Some before
   pub here : get nat_cmp new.live e.conn ≡ Some behind
-  pub others : (c : ℕ) → (e.conn ≡ c → ⊥) → get nat_cmp new.live c ≡ get nat_cmp old.live c
+  pub others : (c : ℕ) → (e.conn == c) ≡ false → get nat_cmp new.live c ≡ get nat_cmp old.live c
   pub over : new.over ≡ old.over
   pub count : btree_map_len new.live ≡ btree_map_len old.live
   pub gives : (settings : Settings) (last : ℕ) (m : End) → Follows last before m → last ≤ e.moment

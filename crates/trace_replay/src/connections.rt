@@ -1,6 +1,6 @@
 //! The connections of a trace, and each event at its own.
 
-ghost use Rattle.std.specs.Prelude.{ℕ, List, ◌≡◌, ◌≤◌, ◌^◌, ◌<◌, true, false, [], Some, None, OnOk, MatchResult};
+ghost use Rattle.std.specs.Prelude.{ℕ, List, ◌≡◌, ◌≤◌, true, false, [], Some, None, OnOk, MatchResult};
 ghost use Rattle.std.specs.BTreeMap.{get, btree_map_len};
 ghost use Rattle.std.specs.Ordering.{nat_cmp};
 ghost use Rattle.er_settings.specs.Ranges.{AllAllowed};
@@ -13,7 +13,7 @@ ghost use Rattle.end_model.specs.Steps.{Finds};
 ghost use Rattle.er_end.specs.KeptEnds.{KEnd};
 ghost use Rattle.trace_model.specs.declared.replay_fault.ReplayFault.TheVariants as fault;
 ghost use Rattle.trace_model.specs.Checks.{role_of, Declines, Belongs, many_check, last_moment};
-ghost use Rattle.trace_replay.specs.Places.{Places, place, place_for, Absent, is_absent, over_of, Holds};
+ghost use Rattle.trace_replay.specs.Places.{Places, place, place_for, Declined, is_absent, over_of, why_in, Holds};
 ghost use Rattle.trace_replay.specs.Takings.{GivesIfLive, Takes};
 
 use crate::gives::{give, give_start, tell_over};
@@ -46,6 +46,7 @@ pub struct Connections {
 }
 
 // Why an end is over: it is released, and no message waits. None where it is live.
+#[tactic(auto, unfolding(crate::specs::Places::over_of))]
 fn over_by(end: &End) -> Option<Release>
     ensures { result ≡ over_of end.now }
 {
@@ -70,6 +71,7 @@ impl Connections {
     }
 
     // Nothing named the number of the entry yet.
+    #[tactic(auto, using(crate::proofs::Changes::absent_if, crate::proofs::Changes::there_live, crate::proofs::Changes::there_over))]
     fn check_new(&self, entry: &Entry) -> Result<(), ReplayFault>
         ensures { MatchResult result
             (λ _. is_absent (place self.now entry.now.conn) ≡ true)
@@ -127,6 +129,24 @@ impl Connections {
     {
         self.live.insert(conn, end)?;
         self.settle(conn)
+    }
+
+    // Keeps that no end is opened for a connection that nothing named before.
+    fn shut(&mut self, conn: u64) -> Result<(), NoMemory>
+        ensures { is_absent (place self.old conn) ≡ true → OnOk result (Places self.old self.new conn Declined) }
+    {
+        self.over.insert(conn, None)?;
+        Ok(())
+    }
+
+    // Why the end of a connection was released that is over; None where none is.
+    fn why_over(&self, conn: u64) -> Option<Release>
+        ensures { result ≡ why_in (get nat_cmp self.now.over conn) }
+    {
+        match self.over.get(&conn) {
+            Some(why) => *why,
+            None => None,
+        }
     }
 
     // A call: the end of an engine is made and started.
@@ -201,9 +221,7 @@ impl Connections {
     {
         self.check_new(entry)?;
         print_entry(entry, out)?;
-        self.over
-            .insert(entry.conn, None)
-            .map_err(NoMemory::from)?;
+        self.shut(entry.conn)?;
         Ok(())
     }
 
@@ -243,14 +261,14 @@ impl Connections {
             self.settle(entry.conn)?;
             return Ok(());
         }
-        let Some(Some(why)) = self.over.get(&entry.conn) else {
+        let Some(why) = self.why_over(entry.conn) else {
             return Err(ReplayFault::NoConn {
                 line: entry.line,
                 conn: entry.conn,
             });
         };
         print_entry(entry, out)?;
-        tell_over(entry, *why, out)?;
+        tell_over(entry, why, out)?;
         Ok(())
     }
 

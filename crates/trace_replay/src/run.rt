@@ -21,6 +21,7 @@ use std::alloc::Global;
 use trace_model::ReplayFault;
 
 // Writes lines, where there are any.
+#[tactic(auto, using(crate::proofs::Written::nothing_written))]
 fn write_lines<S: Sink>(lines: &[u8], sink: &mut S) -> Result<(), Failed>
     ensures ok { OnOk result (Grew (S.held sink.old) (S.held sink.new) lines.now) }
     ensures err { OnErr result (GrewPart (S.held sink.old) (S.held sink.new) lines.now) }
@@ -57,7 +58,10 @@ fn replay_entry<K: KeyFinder, S: Sink>(
         });
     }
     line.clear();
-    connections.take(settings, keys, entry, line)?;
+    match connections.take(settings, keys, entry, line) {
+        Ok(()) => {}
+        Err(fault) => return Err(fault),
+    }
     match write_lines(line.as_slice(), sink) {
         Ok(()) => Ok(()),
         Err(_failed) => Err(ReplayFault::Sink),
@@ -65,6 +69,7 @@ fn replay_entry<K: KeyFinder, S: Sink>(
 }
 
 // Replays all events, behind the header.
+#[tactic(auto, using(crate::proofs::Running::went_none))]
 fn replay_entries<K: KeyFinder, S: Sink>(
     alloc: Global,
     keys: &K,

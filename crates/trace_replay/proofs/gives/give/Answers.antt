@@ -2,7 +2,7 @@
 use Rattle.std.proofs.Common.{◌∙◌, sym, ap, refl, List, ℕ}
 use Rattle.er_trace.specs.declared.event.Event.TheVariants as event
 use Rattle.end_model.specs.Ends as of
-use Rattle.trace_replay.proofs.Givings.{given, given_octets, given_none}
+use Rattle.trace_replay.proofs.Givings.{given, given_octets, given_rest}
 use Rattle.trace_replay.proofs.gives.give.Goals as goal
 
 pub returns-in-Octets : goal.returns-in-Octets
@@ -44,7 +44,7 @@ returns-in-Stalled g c = λ settings last m f le.
     (c.give_stalled.ensures.end c.args.entry.now.moment) (c.give_stalled.ensures.text c.args.entry.now.moment) f le
 
 pub returns-in-Call-3 : goal.returns-in-Call-3
-returns-in-Call-3 g c = λ settings last m f le. given_none settings _ c.args.entry.now m _ _ last _ c.in-Call.is refl f le
+returns-in-Call-3 g c = λ settings last m f le. given_rest settings _ c.args.entry.now m _ _ last c.in-Call.is c.requires.belongs f le
 
 pub returns-in-Call-4 : goal.returns-in-Call-4
-returns-in-Call-4 g c = λ settings last m f le. given_none settings _ c.args.entry.now m _ _ last _ c.in-Call.is refl f le
+returns-in-Call-4 g c = λ settings last m f le. given_rest settings _ c.args.entry.now m _ _ last c.in-Call.is c.requires.belongs f le
