@@ -45,11 +45,12 @@ opened_in_more [] e = one (opens (role_of e.event))
     one : (b : Bool) → (if b then e.conn ∷ [] else []) ≡ conns b e.conn
     one true = refl
     one false = refl
-opened_in_more (x ∷ xs) e = more (opens (role_of x.event))
+opened_in_more (x ∷ xs) e = more (opens (role_of x.event)) (opened_in_more xs e)
   where
-    more : (b : Bool) → (if b then x.conn ∷ opened_in (xs ++ e ∷ []) else opened_in (xs ++ e ∷ [])) ≡ (if b then x.conn ∷ opened_in xs else opened_in xs) ++ conns (opens (role_of e.event)) e.conn
-    more true = ap (λ (l : List ℕ). x.conn ∷ l) (opened_in_more xs e)
-    more false = opened_in_more xs e
+    more : (b : Bool) → opened_in (xs ++ e ∷ []) ≡ opened_in xs ++ conns (opens (role_of e.event)) e.conn
+        → (if b then x.conn ∷ opened_in (xs ++ e ∷ []) else opened_in (xs ++ e ∷ [])) ≡ (if b then x.conn ∷ opened_in xs else opened_in xs) ++ conns (opens (role_of e.event)) e.conn
+    more true rest = ap (λ (l : List ℕ). x.conn ∷ l) rest
+    more false rest = rest
 
 pub last_more : (before : List Entry) (e : Entry) → last_moment (before ++ e ∷ []) ≡ max (last_moment before) e.moment
 unfolding last_moment
@@ -65,11 +66,11 @@ end_more settings finds c m (x ∷ xs) e = end_more settings finds c (happens_at
 pub has_opened : (c : ℕ) (before : List Entry) → has c (opened_in before) ≡ is_opened c before
 unfolding opened_in is_opened has
 has_opened c [] = refl
-has_opened c (x ∷ xs) = more (opens (role_of x.event))
+has_opened c (x ∷ xs) = more (opens (role_of x.event)) (has_opened c xs)
   where
-    more : (b : Bool) → has c (if b then x.conn ∷ opened_in xs else opened_in xs) ≡ ((b && (x.conn == c)) || is_opened c xs)
-    more true = ap (λ (d : Bool). (x.conn == c) || d) (has_opened c xs)
-    more false = has_opened c xs
+    more : (b : Bool) → has c (opened_in xs) ≡ is_opened c xs → has c (if b then x.conn ∷ opened_in xs else opened_in xs) ≡ ((b && (x.conn == c)) || is_opened c xs)
+    more true rest = ap (λ (d : Bool). (x.conn == c) || d) rest
+    more false rest = rest
 
 -- ---- what is kept of one connection
 
@@ -184,19 +185,17 @@ holds_next settings finds before e old new p h le s fresh keeps = record {
   count = counted (opens (role_of e.event)) refl;
 }
   where
-    all = before ++ e ∷ []
-
-    last : last_moment all ≡ e.moment
+    last : last_moment (before ++ e ∷ []) ≡ e.moment
     last = let more = last_more before e in omega (arith, more, le)
 
     self : (e.conn == e.conn) ≡ true
     self = eq-eqb e.conn e.conn refl
 
-    here : Keeps (last_moment all) (place new e.conn) (end_at settings finds e.conn all) (is_named e.conn all) (is_opened e.conn all)
+    here : Keeps (last_moment (before ++ e ∷ [])) (place new e.conn) (end_at settings finds e.conn (before ++ e ∷ [])) (is_named e.conn (before ++ e ∷ [])) (is_opened e.conn (before ++ e ∷ []))
     here =
-        subst (λ (l : ℕ). Keeps l (place new e.conn) (end_at settings finds e.conn all) (is_named e.conn all) (is_opened e.conn all)) (sym last)
-        (keeps_as e.moment (place new e.conn) p (end_at settings finds e.conn all) (happens settings finds e.moment e.event (end_at settings finds e.conn before)).0
-        (is_named e.conn all) (is_named e.conn before || names (role_of e.event)) (is_opened e.conn all) (is_opened e.conn before || opens (role_of e.event))
+        subst (λ (l : ℕ). Keeps l (place new e.conn) (end_at settings finds e.conn (before ++ e ∷ [])) (is_named e.conn (before ++ e ∷ [])) (is_opened e.conn (before ++ e ∷ []))) (sym last)
+        (keeps_as e.moment (place new e.conn) p (end_at settings finds e.conn (before ++ e ∷ [])) (happens settings finds e.moment e.event (end_at settings finds e.conn before)).0
+        (is_named e.conn (before ++ e ∷ [])) (is_named e.conn before || names (role_of e.event)) (is_opened e.conn (before ++ e ∷ [])) (is_opened e.conn before || opens (role_of e.event))
         s.here
         (end_more settings finds e.conn None before e
         ∙ ap (λ (b : Bool). if b then (happens settings finds e.moment e.event (end_at settings finds e.conn before)).0 else end_at settings finds e.conn before) self)
@@ -204,11 +203,11 @@ holds_next settings finds before e old new p h le s fresh keeps = record {
         (opened_more e.conn before e ∙ ap (λ (b : Bool). is_opened e.conn before || (opens (role_of e.event) && b)) self ∙ ap (λ (b : Bool). is_opened e.conn before || b) (and_true (opens (role_of e.event))))
         keeps)
 
-    other : (c : ℕ) → (e.conn == c) ≡ false → Keeps (last_moment all) (place new c) (end_at settings finds c all) (is_named c all) (is_opened c all)
+    other : (c : ℕ) → (e.conn == c) ≡ false → Keeps (last_moment (before ++ e ∷ [])) (place new c) (end_at settings finds c (before ++ e ∷ [])) (is_named c (before ++ e ∷ [])) (is_opened c (before ++ e ∷ []))
     other c apart =
-        subst (λ (l : ℕ). Keeps l (place new c) (end_at settings finds c all) (is_named c all) (is_opened c all)) (sym last)
-        (keeps_as e.moment (place new c) (place old c) (end_at settings finds c all) (end_at settings finds c before)
-        (is_named c all) (is_named c before) (is_opened c all) (is_opened c before)
+        subst (λ (l : ℕ). Keeps l (place new c) (end_at settings finds c (before ++ e ∷ [])) (is_named c (before ++ e ∷ [])) (is_opened c (before ++ e ∷ []))) (sym last)
+        (keeps_as e.moment (place new c) (place old c) (end_at settings finds c (before ++ e ∷ [])) (end_at settings finds c before)
+        (is_named c (before ++ e ∷ [])) (is_named c before) (is_opened c (before ++ e ∷ [])) (is_opened c before)
         (s.others c apart)
         (end_more settings finds c None before e
         ∙ ap (λ (b : Bool). if b then (happens settings finds e.moment e.event (end_at settings finds c before)).0 else end_at settings finds c before) apart)
@@ -216,13 +215,13 @@ holds_next settings finds before e old new p h le s fresh keeps = record {
         (opened_more c before e ∙ ap (λ (b : Bool). is_opened c before || (opens (role_of e.event) && b)) apart ∙ ap (λ (b : Bool). is_opened c before || b) (and_false (opens (role_of e.event))) ∙ or_false (is_opened c before))
         (keeps_later (last_moment before) e.moment (place old c) (end_at settings finds c before) (is_named c before) (is_opened c before) le (h.keeps c)))
 
-    each : (c : ℕ) → Keeps (last_moment all) (place new c) (end_at settings finds c all) (is_named c all) (is_opened c all)
+    each : (c : ℕ) → Keeps (last_moment (before ++ e ∷ [])) (place new c) (end_at settings finds c (before ++ e ∷ [])) (is_named c (before ++ e ∷ [])) (is_opened c (before ++ e ∷ []))
     each c = elim (cases_Bool (e.conn == c)) [
-      | inl y ↦ subst (λ (x : ℕ). Keeps (last_moment all) (place new x) (end_at settings finds x all) (is_named x all) (is_opened x all)) (eqb-true e.conn c y) here
+      | inl y ↦ subst (λ (x : ℕ). Keeps (last_moment (before ++ e ∷ [])) (place new x) (end_at settings finds x (before ++ e ∷ [])) (is_named x (before ++ e ∷ [])) (is_opened x (before ++ e ∷ []))) (eqb-true e.conn c y) here
       | inr y ↦ other c y
     ]
 
-    listed : (b : Bool) → opens (role_of e.event) ≡ b → opened_in all ≡ opened_in before ++ conns b e.conn
+    listed : (b : Bool) → opens (role_of e.event) ≡ b → opened_in (before ++ e ∷ []) ≡ opened_in before ++ conns b e.conn
     listed b is = opened_in_more before e ∙ ap (λ (x : Bool). opened_in before ++ conns x e.conn) is
 
     unlisted : opens (role_of e.event) ≡ true → has e.conn (opened_in before) ≡ false
@@ -230,28 +229,22 @@ holds_next settings finds before e old new p h le s fresh keeps = record {
         has_opened e.conn before
         ∙ unnamed (last_moment before) (place old e.conn) (end_at settings finds e.conn before) (is_named e.conn before) (is_opened e.conn before) (h.keeps e.conn) (fresh is)
 
-    apart : (b : Bool) → opens (role_of e.event) ≡ b → AreApart (opened_in all)
+    apart : (b : Bool) → opens (role_of e.event) ≡ b → AreApart (opened_in (before ++ e ∷ []))
     apart true is = subst (λ (l : List ℕ). AreApart l) (sym (listed true is)) (apart_more e.conn (opened_in before) h.apart (unlisted is))
     apart false is = subst (λ (l : List ℕ). AreApart l) (sym (listed false is ∙ append-nil (opened_in before))) h.apart
 
-    was : ℕ → Bool
-    was c = is_there (place old c)
-
-    now : ℕ → Bool
-    now c = is_there (place new c)
-
-    same : (c : ℕ) → (e.conn == c) ≡ false → now c ≡ was c
+    same : (c : ℕ) → (e.conn == c) ≡ false → is_there (place new c) ≡ is_there (place old c)
     same c y = ap (λ (x : Place). is_there x) (s.others c y)
 
-    at_new : one_if (now e.conn) ≡ one_if (is_there p)
+    at_new : one_if (is_there (place new e.conn)) ≡ one_if (is_there p)
     at_new = ap (λ (x : Place). one_if (is_there x)) s.here
 
-    counted : (b : Bool) → opens (role_of e.event) ≡ b → btree_map_len new.live ≡ count_of now (opened_in all)
+    counted : (b : Bool) → opens (role_of e.event) ≡ b → btree_map_len new.live ≡ count_of (λ c. is_there (place new c)) (opened_in (before ++ e ∷ []))
     counted true is =
-        let list = ap (λ (l : List ℕ). count_of now l) (listed true is) in
-        let more = count_more now (opened_in before) e.conn in
-        let kept = count_same e.conn was now (opened_in before) same (unlisted is) in
-        let none : one_if (was e.conn) ≡ 0 =
+        let list = ap (λ (l : List ℕ). count_of (λ c. is_there (place new c)) l) (listed true is) in
+        let more = count_more (λ c. is_there (place new c)) (opened_in before) e.conn in
+        let kept = count_same e.conn (λ c. is_there (place old c)) (λ c. is_there (place new c)) (opened_in before) same (unlisted is) in
+        let none : one_if (is_there (place old e.conn)) ≡ 0 =
         unopened (last_moment before) (place old e.conn) (end_at settings finds e.conn before) (is_named e.conn before) (is_opened e.conn before) (h.keeps e.conn)
         (sym (has_opened e.conn before) ∙ unlisted is) in
         let step = s.count in
@@ -259,18 +252,18 @@ holds_next settings finds before e old new p h le s fresh keeps = record {
         let at = at_new in
         omega (arith, list, more, kept, none, step, held, at)
     counted false is =
-        let list = ap (λ (l : List ℕ). count_of now l) (listed false is ∙ append-nil (opened_in before)) in
+        let list = ap (λ (l : List ℕ). count_of (λ c. is_there (place new c)) l) (listed false is ∙ append-nil (opened_in before)) in
         let step = s.count in
         let held = h.count in
         let at = at_new in
         elim (cases_Bool (has e.conn (opened_in before))) [
           | inl y ↦
-            let swap = count_swap e.conn was now (opened_in before) h.apart same y in
+            let swap = count_swap e.conn (λ c. is_there (place old c)) (λ c. is_there (place new c)) (opened_in before) h.apart same y in
             omega (arith, list, swap, step, held, at)
           | inr y ↦
-            let kept = count_same e.conn was now (opened_in before) same y in
+            let kept = count_same e.conn (λ c. is_there (place old c)) (λ c. is_there (place new c)) (opened_in before) same y in
             let shut : is_opened e.conn before ≡ false = sym (has_opened e.conn before) ∙ y in
-            let none : one_if (was e.conn) ≡ 0 =
+            let none : one_if (is_there (place old e.conn)) ≡ 0 =
             unopened (last_moment before) (place old e.conn) (end_at settings finds e.conn before) (is_named e.conn before) (is_opened e.conn before) (h.keeps e.conn) shut in
             let after : one_if (is_there p) ≡ 0 =
             unopened e.moment p (happens settings finds e.moment e.event (end_at settings finds e.conn before)).0 (is_named e.conn before || names (role_of e.event)) (is_opened e.conn before || opens (role_of e.event)) keeps

@@ -1,7 +1,7 @@
 -- The events one after the other.
 use Rattle.std.proofs.Common.{◌≡◌, ◌≤◌, ◌<◌, ◌∙◌, ◌+◌, inl, inr, ℕ, zero, suc, Bool, true, false, if◌then◌else◌, List, [], ◌∷◌, ◌++◌, length, take, drop, max, slice_get, Option, Some, None, Result, Ok, Err, refl, sym, ap, ap₂, subst, arith, append-nil, append_assoc, length-append, eqb-true, nat_lt}
 use Rattle.std.specs.Prelude.{◌==◌}
-use Rattle.std.proofs.lemmas.Bool.{cases_Bool, ltb-false}
+use Rattle.std.proofs.lemmas.Bool.{cases_Bool, ltb-false, ltb-true}
 use Rattle.std.proofs.lemmas.List.{take_at, take_all, take-append-drop}
 use Rattle.std.specs.BTreeMap.{get, btree_map_len, BTreeMap}
 use Rattle.std.specs.Ordering.{nat_cmp}
@@ -39,42 +39,52 @@ module _ (s : Settings) (f : Finds) (before : List Entry) (e : Entry) where
   unfolding fault_of
   on_fault p = ap (λ (b : Bool). if b then Some (MomentBack e.line (last_moment before) e.moment) else role_check s f before e (role_of e.event)) p
 
-  pub back_refuses : (last : ℕ) (new : Connections) (a : Option (List ℕ)) (c : ℕ) → last ≡ last_moment before → nat_lt e.moment last ≡ true
+  below : (a b : ℕ) → a < b → nat_lt a b ≡ true
+  below a b p = elim (cases_Bool (nat_lt a b)) [
+    | inl y ↦ y
+    | inr y ↦ absurd (let q = ltb-false a b y in let u : ⊥ = omega (arith, p, q) in u)
+  ]
+
+  above : (a b : ℕ) → b ≤ a → nat_lt a b ≡ false
+  above a b p = elim (cases_Bool (nat_lt a b)) [
+    | inl y ↦ absurd (let q = ltb-true a b y in let u : ⊥ = omega (arith, p, q) in u)
+    | inr y ↦ y
+  ]
+
+  pub back_refuses : (last : ℕ) (new : Connections) (a : Option (List ℕ)) (c : ℕ) → last ≡ last_moment before → e.moment < last
       → ReplaysOne s f before e new a a c c (Err (MomentBack e.line last e.moment))
   back_refuses last new a c is p =
       subst (λ (l : ℕ). ReplaysOne s f before e new a a c c (Err (MomentBack e.line l e.moment))) (sym is)
-      (record { refused = back_fault (ap (λ (l : ℕ). nat_lt e.moment l) (sym is) ∙ p); written = grew_nothing a })
+      (record { refused = back_fault (below e.moment (last_moment before) (subst (λ (l : ℕ). e.moment < l) is p)); written = grew_nothing a })
 
-  pub not_back : (last : ℕ) → last ≡ last_moment before → nat_lt e.moment last ≡ false → last_moment before ≤ e.moment
-  not_back last is p = ltb-false e.moment (last_moment before) (ap (λ (l : ℕ). nat_lt e.moment l) (sym is) ∙ p)
+  pub not_back : (last : ℕ) → last ≡ last_moment before → last ≤ e.moment → last_moment before ≤ e.moment
+  not_back last is p = subst (λ (l : ℕ). l ≤ e.moment) is p
 
-  pub refuses : (last : ℕ) (new : Connections) (out now : List ℕ) (a : Option (List ℕ)) (c : ℕ) (fault : ReplayFault) → last ≡ last_moment before → nat_lt e.moment last ≡ false
-      → (r : Result (Unit {0}) ReplayFault) → r ≡ Err fault → Takes s f before e new out now r → ReplaysOne s f before e new a a c c (Err fault)
-  refuses last new out now a c fault is p r err t = by fault (subst (λ (x : Result (Unit {0}) ReplayFault). Takes s f before e new out now x) err t)
-    where
-      on = on_fault (ap (λ (l : ℕ). nat_lt e.moment l) (sym is) ∙ p)
+  on_time : (last : ℕ) → last ≡ last_moment before → last ≤ e.moment → fault_of s f before e ≡ role_check s f before e (role_of e.event)
+  on_time last is p = on_fault (above e.moment (last_moment before) (not_back last is p))
 
-      by : (fault : ReplayFault) → Takes s f before e new out now (Err fault) → ReplaysOne s f before e new a a c c (Err fault)
-      by (NoConn line conn) t = record { refused = on ∙ t; written = grew_nothing a }
-      by (ConnTwice line conn) t = record { refused = on ∙ t; written = grew_nothing a }
-      by (MomentBack line was moment) t = absurd t
-      by (NoKey line engine rbc) t = record { refused = on ∙ t; written = grew_nothing a }
-      by (Many line live) t = record { refused = on ∙ t; written = grew_nothing a }
-      by Sink t = absurd t
-      by (NoMemory want) t = grew_nothing a
+  pub refuses : (last : ℕ) (new : Connections) (out now : List ℕ) (a : Option (List ℕ)) (c : ℕ) (fault : ReplayFault) → last ≡ last_moment before → last ≤ e.moment
+      → Takes {T = Unit {0}} s f before e new out now (Err fault) → ReplaysOne s f before e new a a c c (Err fault)
+  refuses last new out now a c (NoConn line conn) is p t = record { refused = on_time last is p ∙ t; written = grew_nothing a }
+  refuses last new out now a c (ConnTwice line conn) is p t = record { refused = on_time last is p ∙ t; written = grew_nothing a }
+  refuses last new out now a c (MomentBack line was moment) is p t = absurd t
+  refuses last new out now a c (NoKey line engine rbc) is p t = record { refused = on_time last is p ∙ t; written = grew_nothing a }
+  refuses last new out now a c (Many line live) is p t = record { refused = on_time last is p ∙ t; written = grew_nothing a }
+  refuses last new out now a c Sink is p t = absurd t
+  refuses last new out now a c (NoMemory want) is p t = grew_nothing a
 
-  pub replayed : (last : ℕ) (new : Connections) (out now lines : List ℕ) (a b : Option (List ℕ)) → last ≡ last_moment before → nat_lt e.moment last ≡ false
+  pub replayed : (last : ℕ) (new : Connections) (out now lines : List ℕ) (a b : Option (List ℕ)) → last ≡ last_moment before → last ≤ e.moment
       → Taken s f before e new out now → out ≡ [] → lines ≡ now → Grew a b lines → Replayed s f before e new a b
   replayed last new out now lines a b is p t none all grew = record {
-    taken = on_fault (ap (λ (l : ℕ). nat_lt e.moment l) (sym is) ∙ p) ∙ t.allowed;
+    taken = on_time last is p ∙ t.allowed;
     written = subst (λ (l : List ℕ). Grew a b l) (all ∙ t.text ∙ ap (λ (l : List ℕ). l ++ entry_text s f before e) none) grew;
     holds = t.holds;
   }
 
-  pub fails : (last : ℕ) (new : Connections) (out now lines : List ℕ) (a b : Option (List ℕ)) (c d : ℕ) → last ≡ last_moment before → nat_lt e.moment last ≡ false
+  pub fails : (last : ℕ) (new : Connections) (out now lines : List ℕ) (a b : Option (List ℕ)) (c d : ℕ) → last ≡ last_moment before → last ≤ e.moment
       → Taken s f before e new out now → out ≡ [] → lines ≡ now → GrewPart a b lines → Rose c d → Fails s f before e a b c d
   fails last new out now lines a b c d is p t none all grew rose = record {
-    taken = on_fault (ap (λ (l : ℕ). nat_lt e.moment l) (sym is) ∙ p) ∙ t.allowed;
+    taken = on_time last is p ∙ t.allowed;
     written = subst (λ (l : List ℕ). GrewPart a b l) (all ∙ t.text ∙ ap (λ (l : List ℕ). l ++ entry_text s f before e) none) grew;
     rose = rose;
   }
@@ -206,7 +216,7 @@ module _ (s : Settings) (f : Finds) (entries : List Entry) where
       let plus : suc n ≡ n + 1 = omega arith in
       subst (λ (k : ℕ). Went s f entries k d e.moment a x g i) plus (went_more n e c d last a b x g h i w here later r)
 
-  header : List ℕ
+  abbrev pub header : List ℕ
   header = line_text (header_words s)
 
   -- the end
@@ -237,23 +247,17 @@ module _ (s : Settings) (f : Finds) (entries : List Entry) where
       → Grew start a header → count ≤ g → Replays s f entries start x count i (Err fault)
   went_err n e c d last start a b x g h i count fault w here r head before = by fault r
     where
-      texts : List ℕ
-      texts = entries_text s f [] (take n entries)
+      so_far : Grew start b (header ++ (entries_text s f [] (take n entries)))
+      so_far = grew_then start a b header (entries_text s f [] (take n entries)) head w.written
 
-      so_far : Grew start b (header ++ texts)
-      so_far = grew_then start a b header texts head w.written
-
-      still : Grew b x [] → Grew start x (header ++ texts)
-      still p = subst (λ (t : List ℕ). Grew start x t) (append-nil (header ++ texts)) (grew_then start b x (header ++ texts) [] so_far p)
+      still : Grew b x [] → Grew start x (header ++ (entries_text s f [] (take n entries)))
+      still p = subst (λ (t : List ℕ). Grew start x t) (append-nil (header ++ (entries_text s f [] (take n entries)))) (grew_then start b x (header ++ (entries_text s f [] (take n entries))) [] so_far p)
 
       refuse : (fault : ReplayFault) → Refuses s f (take n entries) e fault b x → WroteBefore s f entries fault start x
       refuse fault r = record { first = refused_at n e fault here w.taken r.refused; written = still r.written }
 
-      one : List Entry
-      one = take (suc n) entries
-
-      one_text : printed s f one ≡ (header ++ texts) ++ entry_text s f (take n entries) e
-      one_text = ap (λ (t : List ℕ). header ++ t) (texts_more n e here) ∙ sym (append_assoc header texts (entry_text s f (take n entries) e))
+      one_text : printed s f (take (suc n) entries) ≡ (header ++ (entries_text s f [] (take n entries))) ++ entry_text s f (take n entries) e
+      one_text = ap (λ (t : List ℕ). header ++ t) (texts_more n e here) ∙ sym (append_assoc header (entries_text s f [] (take n entries)) (entry_text s f (take n entries) e))
 
       by : (fault : ReplayFault) → ReplaysOne s f (take n entries) e d b x h i (Err fault) → Replays s f entries start x count i (Err fault)
       by (NoConn line conn) r = refuse (NoConn line conn) r
@@ -263,11 +267,11 @@ module _ (s : Settings) (f : Finds) (entries : List Entry) where
       by (Many line live) r = refuse (Many line live) r
       by Sink r = (
         record {
-          first = one;
+          first = take (suc n) entries;
           rest = drop (suc n) entries;
           is = sym (take-append-drop (suc n) entries);
           taken = are_taken (suc n) (taken_more n e here r.taken w.taken);
-          written = subst (λ (t : List ℕ). GrewPart start x t) (sym one_text) (part_then start b x (header ++ texts) (entry_text s f (take n entries) e) so_far r.written);
+          written = subst (λ (t : List ℕ). GrewPart start x t) (sym one_text) (part_then start b x (header ++ (entries_text s f [] (take n entries))) (entry_text s f (take n entries) e) so_far r.written);
         },
         rose_later count h i (let p : g ≤ h = w.later in omega (arith, p, before)) r.rose,
       )
@@ -276,7 +280,7 @@ module _ (s : Settings) (f : Finds) (entries : List Entry) where
         rest = drop n entries;
         is = sym (take-append-drop n entries);
         taken = are_taken n w.taken;
-        written = part_whole start x (header ++ texts) (still r);
+        written = part_whole start x (header ++ (entries_text s f [] (take n entries))) (still r);
       }
 
   none_taken : AreTaken s f []

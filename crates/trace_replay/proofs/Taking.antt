@@ -37,7 +37,7 @@ use Rattle.trace_replay.proofs.Holdings.{named_is, keeps_end, live_is, holds_nex
 -- ---- the checks
 
 module _ (s : Settings) (f : Finds) (before : List Entry) (e : Entry) where
-  allowed : Type 0
+  abbrev pub allowed : Type 0
   allowed = role_check s f before e (role_of e.event) ≡ None
 
   pub opens_twice : role_of e.event ≡ Opens → is_named e.conn before ≡ true → role_check s f before e (role_of e.event) ≡ Some (ConnTwice e.line e.conn)

@@ -8,7 +8,7 @@ use Rattle.trace_replay.proofs.connections.Connections.decline.Goals as goal
 pub returns-in_err-check_new : goal.returns-in_err-check_new
 returns-in_err-check_new c = λ settings finds before h le.
     let p = err_from_is_err_and c.from_residual.result c.from_residual.ensures.1 in
-    rw (p.1, p.2) (twice_err settings finds before c.args.entry.now c.args.self.now _ _ _ _ h (ap names c.requires.event) (inr c.requires.event) c.in_err-check_new.ensures)
+    rw (p.1, p.2) (twice_err settings finds before c.args.entry.now c.args.self.now c.args.self.now c.args.out.now.items c.args.out.now.items _ h (ap names c.requires.event) (inr c.requires.event) c.in_err-check_new.ensures)
 
 pub returns : goal.returns
 returns c = λ settings finds before h le.
