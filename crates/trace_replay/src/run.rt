@@ -69,7 +69,6 @@ fn replay_entry<K: KeyFinder, S: Sink>(
 }
 
 // Replays all events, behind the header.
-#[tactic(auto, using(crate::proofs::Running::went_none))]
 fn replay_entries<K: KeyFinder, S: Sink>(
     alloc: Global,
     keys: &K,
