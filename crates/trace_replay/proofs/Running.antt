@@ -136,12 +136,12 @@ module _ (s : Settings) (f : Finds) (entries : List Entry) where
   taken_more : (n : ℕ) (e : Entry) → slice_get entries n ≡ Some e → fault_of s f (take n entries) e ≡ None → TakenTo s f entries n → TakenTo s f entries (suc n)
   taken_more n e here none so first x rest is less = elim (cases_Bool (length first == n)) [
     | inl y ↦
-      let same : length first ≡ n = eqb-true (length first) n y in
-      let front : take n entries ≡ first = ap (λ (l : List Entry). take n l) is ∙ take_at first (x ∷ rest) n same in
-      let at : slice_get entries n ≡ Some x =
-      ap₂ (λ (l : List Entry) (i : ℕ). slice_get l i) is (sym same) ∙ slice_get_here first x rest in
-      let one : e ≡ x = some_is e x (sym here ∙ at) in
-      subst (λ (l : List Entry). fault_of s f l x ≡ None) front (subst (λ (z : Entry). fault_of s f (take n entries) z ≡ None) one none)
+        let same : length first ≡ n = eqb-true (length first) n y in
+        let front : take n entries ≡ first = ap (λ (l : List Entry). take n l) is ∙ take_at first (x ∷ rest) n same in
+        let at : slice_get entries n ≡ Some x =
+        ap₂ (λ (l : List Entry) (i : ℕ). slice_get l i) is (sym same) ∙ slice_get_here first x rest in
+        let one : e ≡ x = some_is e x (sym here ∙ at) in
+        subst (λ (l : List Entry). fault_of s f l x ≡ None) front (subst (λ (z : Entry). fault_of s f (take n entries) z ≡ None) one none)
     | inr y ↦ so first x rest is (let apart = eqb-apart (length first) n y in omega (arith, less, apart))
   ]
     where

@@ -85,15 +85,7 @@ fn replay_entries<K: KeyFinder, S: Sink>(
     let mut connections = Connections::new(alloc);
     let mut last = 0;
     for entry in trace.entries.as_slice() {
-        match replay_entry(
-            &mut connections,
-            settings,
-            keys,
-            last,
-            entry,
-            line,
-            sink,
-        ) {
+        match replay_entry(&mut connections, settings, keys, last, entry, line, sink) {
             Ok(()) => last = entry.moment,
             Err(fault) => return Err(fault),
         }
