@@ -63,8 +63,8 @@ breaks_alike last now cause m n a le = (
         ∙ sym (break_begun cause at n.core n.core.released refl);
   },
   break_told cause m.core m.core.released refl
-  ∙ ap (λ (o : Option Release). told_broken cause o) (released_alike last m n a)
-  ∙ sym (break_told cause n.core n.core.released refl),
+      ∙ ap (λ (o : Option Release). told_broken cause o) (released_alike last m n a)
+      ∙ sym (break_told cause n.core n.core.released refl),
 )
 
 -- a send, by why it is refused, where it is
@@ -95,7 +95,7 @@ alike_step last now (Come finds octets) m n a le =
     let p = a.begun now le in
     let q : news m.stream octets ≡ news n.stream octets = ap (λ (s : List ℕ). news s octets) a.stream in (
       alike_same now (step now (Come finds octets) m).0 (step now (Come finds octets) n).0
-      (ap₂ (λ (s : List ℕ) (x : Core). let e : End = record { stream = s ++ octets; core = hears_each finds now (news s octets) x } in e) a.stream p),
+          (ap₂ (λ (s : List ℕ) (x : Core). let e : End = record { stream = s ++ octets; core = hears_each finds now (news s octets) x } in e) a.stream p),
       ap₂ (λ (s : List ℕ) (x : Core). told_of_each finds now (news s octets) x) a.stream p,
     )
 alike_step last now (Send user) m n a le =

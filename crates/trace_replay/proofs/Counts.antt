@@ -56,18 +56,18 @@ unfolding has count_of
 count_swap c p q [] a same some = absurd (let u : ⊥ = cc in u)
 count_swap c p q (y ∷ ys) a same some = elim (cases_Bool (y == c)) [
   | inl met ↦
-    let is : y ≡ c = eqb-true y c met in
-    let none : has c ys ≡ false = subst (λ (z : ℕ). has z ys ≡ false) is a.0 in
-    let rest = count_same c p q ys same none in
-    let at_p : one_if (p y) ≡ one_if (p c) = ap (λ (z : ℕ). one_if (p z)) is in
-    let at_q : one_if (q y) ≡ one_if (q c) = ap (λ (z : ℕ). one_if (q z)) is in
-    omega (arith, rest, at_p, at_q)
+      let is : y ≡ c = eqb-true y c met in
+      let none : has c ys ≡ false = subst (λ (z : ℕ). has z ys ≡ false) is a.0 in
+      let rest = count_same c p q ys same none in
+      let at_p : one_if (p y) ≡ one_if (p c) = ap (λ (z : ℕ). one_if (p z)) is in
+      let at_q : one_if (q y) ≡ one_if (q c) = ap (λ (z : ℕ). one_if (q z)) is in
+      omega (arith, rest, at_p, at_q)
   | inr apart ↦
-    let there : has c ys ≡ true = sym (ap (λ (b : Bool). b || has c ys) apart) ∙ some in
-    let rest = count_swap c p q ys a.1 same there in
-    let flipped : (c == y) ≡ false = nat_eq_equiv.symm c y ∙ apart in
-    let head : one_if (q y) ≡ one_if (p y) = ap (λ (b : Bool). one_if b) (same y flipped) in
-    omega (arith, rest, head)
+      let there : has c ys ≡ true = sym (ap (λ (b : Bool). b || has c ys) apart) ∙ some in
+      let rest = count_swap c p q ys a.1 same there in
+      let flipped : (c == y) ≡ false = nat_eq_equiv.symm c y ∙ apart in
+      let head : one_if (q y) ≡ one_if (p y) = ap (λ (b : Bool). one_if b) (same y flipped) in
+      omega (arith, rest, head)
 ]
 
 -- the same as by a list

@@ -93,7 +93,7 @@ module _ (stands : KeptStandsForStream) where
               ∙ ap (λ (z : Core). begins_at model at z) (sym (heard_parts finds now vs us x) ∙ ap (λ (fs : List Verdict). hears_each finds now fs x) (sym parts));
         },
         ap (λ (fs : List Verdict). told_of_each finds now fs x) parts ∙ told_parts finds now vs us x
-        ∙ ap (λ (os : List Outcome). told_of_each finds now vs x ++ os) (sym (told_begun finds now us y)),
+            ∙ ap (λ (os : List Outcome). told_of_each finds now vs x ++ os) (sym (told_begun finds now us y)),
       )
 
   -- nothing was given yet

@@ -258,15 +258,15 @@ holds_next settings finds before e old new p h le s fresh keeps = record {
         let at = at_new in
         elim (cases_Bool (has e.conn (opened_in before))) [
           | inl y ↦
-            let swap = count_swap e.conn (λ c. is_there (place old c)) (λ c. is_there (place new c)) (opened_in before) h.apart same y in
-            omega (arith, list, swap, step, held, at)
+              let swap = count_swap e.conn (λ c. is_there (place old c)) (λ c. is_there (place new c)) (opened_in before) h.apart same y in
+              omega (arith, list, swap, step, held, at)
           | inr y ↦
-            let kept = count_same e.conn (λ c. is_there (place old c)) (λ c. is_there (place new c)) (opened_in before) same y in
-            let shut : is_opened e.conn before ≡ false = sym (has_opened e.conn before) ∙ y in
-            let none : one_if (is_there (place old e.conn)) ≡ 0 =
-            unopened (last_moment before) (place old e.conn) (end_at settings finds e.conn before) (is_named e.conn before) (is_opened e.conn before) (h.keeps e.conn) shut in
-            let after : one_if (is_there p) ≡ 0 =
-            unopened e.moment p (happens settings finds e.moment e.event (end_at settings finds e.conn before)).0 (is_named e.conn before || names (role_of e.event)) (is_opened e.conn before || opens (role_of e.event)) keeps
-            (ap₂ (λ (x y : Bool). x || y) shut is) in
-            omega (arith, list, kept, none, after, step, held, at)
+              let kept = count_same e.conn (λ c. is_there (place old c)) (λ c. is_there (place new c)) (opened_in before) same y in
+              let shut : is_opened e.conn before ≡ false = sym (has_opened e.conn before) ∙ y in
+              let none : one_if (is_there (place old e.conn)) ≡ 0 =
+              unopened (last_moment before) (place old e.conn) (end_at settings finds e.conn before) (is_named e.conn before) (is_opened e.conn before) (h.keeps e.conn) shut in
+              let after : one_if (is_there p) ≡ 0 =
+              unopened e.moment p (happens settings finds e.moment e.event (end_at settings finds e.conn before)).0 (is_named e.conn before || names (role_of e.event)) (is_opened e.conn before || opens (role_of e.event)) keeps
+              (ap₂ (λ (x y : Bool). x || y) shut is) in
+              omega (arith, list, kept, none, after, step, held, at)
         ]

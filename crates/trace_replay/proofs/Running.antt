@@ -136,12 +136,12 @@ module _ (s : Settings) (f : Finds) (entries : List Entry) where
   taken_more : (n : ℕ) (e : Entry) → slice_get entries n ≡ Some e → fault_of s f (take n entries) e ≡ None → TakenTo s f entries n → TakenTo s f entries (suc n)
   taken_more n e here none so first x rest is less = elim (cases_Bool (length first == n)) [
     | inl y ↦
-      let same : length first ≡ n = eqb-true (length first) n y in
-      let front : take n entries ≡ first = ap (λ (l : List Entry). take n l) is ∙ take_at first (x ∷ rest) n same in
-      let at : slice_get entries n ≡ Some x =
-      ap₂ (λ (l : List Entry) (i : ℕ). slice_get l i) is (sym same) ∙ slice_get_here first x rest in
-      let one : e ≡ x = some_is e x (sym here ∙ at) in
-      subst (λ (l : List Entry). fault_of s f l x ≡ None) front (subst (λ (z : Entry). fault_of s f (take n entries) z ≡ None) one none)
+        let same : length first ≡ n = eqb-true (length first) n y in
+        let front : take n entries ≡ first = ap (λ (l : List Entry). take n l) is ∙ take_at first (x ∷ rest) n same in
+        let at : slice_get entries n ≡ Some x =
+        ap₂ (λ (l : List Entry) (i : ℕ). slice_get l i) is (sym same) ∙ slice_get_here first x rest in
+        let one : e ≡ x = some_is e x (sym here ∙ at) in
+        subst (λ (l : List Entry). fault_of s f l x ≡ None) front (subst (λ (z : Entry). fault_of s f (take n entries) z ≡ None) one none)
     | inr y ↦ so first x rest is (let apart = eqb-apart (length first) n y in omega (arith, less, apart))
   ]
     where
@@ -231,16 +231,6 @@ module _ (s : Settings) (f : Finds) (entries : List Entry) where
             (grew_then start a b header (entries_text s f [] (take n entries)) head w.written);
       }
 
-  refused_at : (n : ℕ) (e : Entry) (fault : ReplayFault) → slice_get entries n ≡ Some e → TakenTo s f entries n → fault_of s f (take n entries) e ≡ Some fault → FirstRefused s f entries fault
-  refused_at n e fault here so refused = record {
-    first = take n entries;
-    entry = e;
-    rest = drop (suc n) entries;
-    is = split_at entries n e here;
-    taken = are_taken n so;
-    refused = refused;
-  }
-
   -- an event that isn't taken, or a write that fails
   pub went_err : (n : ℕ) (e : Entry) (c d : Connections) (last : ℕ) (start a b x : Option (List ℕ)) (g h i count : ℕ) (fault : ReplayFault) → Went s f entries n c last a b g h
       → slice_get entries n ≡ Some e → ReplaysOne s f (take n entries) e d b x h i (Err fault)
@@ -254,7 +244,17 @@ module _ (s : Settings) (f : Finds) (entries : List Entry) where
       still p = subst (λ (t : List ℕ). Grew start x t) (append-nil (header ++ (entries_text s f [] (take n entries)))) (grew_then start b x (header ++ (entries_text s f [] (take n entries))) [] so_far p)
 
       refuse : (fault : ReplayFault) → Refuses s f (take n entries) e fault b x → WroteBefore s f entries fault start x
-      refuse fault r = record { first = refused_at n e fault here w.taken r.refused; written = still r.written }
+      refuse fault r = record {
+        first = record {
+          first = take n entries;
+          entry = e;
+          rest = drop (suc n) entries;
+          is = split_at entries n e here;
+          taken = are_taken n w.taken;
+          refused = r.refused;
+        };
+        written = still r.written;
+      }
 
       one_text : printed s f (take (suc n) entries) ≡ (header ++ (entries_text s f [] (take n entries))) ++ entry_text s f (take n entries) e
       one_text = ap (λ (t : List ℕ). header ++ t) (texts_more n e here) ∙ sym (append_assoc header (entries_text s f [] (take n entries)) (entry_text s f (take n entries) e))

@@ -69,7 +69,6 @@ fn replay_entry<K: KeyFinder, S: Sink>(
 }
 
 // Replays all events, behind the header.
-#[tactic(auto, using(crate::proofs::Running::went_none))]
 fn replay_entries<K: KeyFinder, S: Sink>(
     alloc: Global,
     keys: &K,
@@ -86,15 +85,7 @@ fn replay_entries<K: KeyFinder, S: Sink>(
     let mut connections = Connections::new(alloc);
     let mut last = 0;
     for entry in trace.entries.as_slice() {
-        match replay_entry(
-            &mut connections,
-            settings,
-            keys,
-            last,
-            entry,
-            line,
-            sink,
-        ) {
+        match replay_entry(&mut connections, settings, keys, last, entry, line, sink) {
             Ok(()) => last = entry.moment,
             Err(fault) => return Err(fault),
         }

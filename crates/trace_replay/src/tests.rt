@@ -107,11 +107,43 @@ const HEADER: &[u8] = b"trace 1 7 15 128 1000 5 40000\n";
 fn each_check_refuses(rt: HostRuntime) -> Result<(), Fail> {
     let table: [(&[u8], &[u8], ReplayFault); 6] = [
         (b"> 0 9 tick", b"", ReplayFault::NoConn { line: 2, conn: 9 }),
-        (b"> 0 9 full 1\n> 0 9 tick", b"> 0 9 full 1\n", ReplayFault::NoConn { line: 3, conn: 9 }),
-        (b"> 5 9 full 1\n> 4 8 full 1", b"> 5 9 full 1\n", ReplayFault::MomentBack { line: 3, was: 5, now: 4 }),
-        (b"> 5 9 full 1\n> 5 9 answer 9 0000000000000001", b"> 5 9 full 1\n", ReplayFault::ConnTwice { line: 3, conn: 9 }),
-        (b"> 999 1 call 5 8 0000000000000001", b"", ReplayFault::NoKey { line: 2, engine: 5, rbc: 8 }),
-        (b"> 1000 1 call 5 9 0000000000000001", b"", ReplayFault::NoKey { line: 2, engine: 5, rbc: 9 }),
+        (
+            b"> 0 9 full 1\n> 0 9 tick",
+            b"> 0 9 full 1\n",
+            ReplayFault::NoConn { line: 3, conn: 9 },
+        ),
+        (
+            b"> 5 9 full 1\n> 4 8 full 1",
+            b"> 5 9 full 1\n",
+            ReplayFault::MomentBack {
+                line: 3,
+                was: 5,
+                now: 4,
+            },
+        ),
+        (
+            b"> 5 9 full 1\n> 5 9 answer 9 0000000000000001",
+            b"> 5 9 full 1\n",
+            ReplayFault::ConnTwice { line: 3, conn: 9 },
+        ),
+        (
+            b"> 999 1 call 5 8 0000000000000001",
+            b"",
+            ReplayFault::NoKey {
+                line: 2,
+                engine: 5,
+                rbc: 8,
+            },
+        ),
+        (
+            b"> 1000 1 call 5 9 0000000000000001",
+            b"",
+            ReplayFault::NoKey {
+                line: 2,
+                engine: 5,
+                rbc: 9,
+            },
+        ),
     ];
     for (events, printed, fault) in table {
         assert!(rt; refuses(rt.alloc(), events, printed, fault)?);

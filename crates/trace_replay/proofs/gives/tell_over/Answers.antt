@@ -31,4 +31,3 @@ returns-in-Call-9 c = nothing_told c.args.entry.now.conn c.args.why c.args.entry
 
 pub returns-in-Call-10 : goal.returns-in-Call-10
 returns-in-Call-10 c = nothing_told c.args.entry.now.conn c.args.why c.args.entry.now.event c.args.out.now.items c.in-Call.is
-

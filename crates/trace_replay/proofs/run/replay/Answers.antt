@@ -23,7 +23,7 @@ returns-in-Ok-clause-replays g c =
 pub returns-clause-replays : goal.returns-clause-replays
 returns-clause-replays g c = (
   header_failed c.args.trace.now.settings _ c.args.trace.now.entries (g.S.Sink.held c.args.sink.now) (g.S.Sink.held c.write_lines.new.sink) c.as_slice.result.now
-  (c.as_slice.ensures.value ∙ c.in_ok-print_header.ensures.ok ∙ ap (λ (l : List ℕ). l ++ line_text (header_words c.args.trace.now.settings)) c.new-line.ensures.items)
-  c.in-Err.ensures.err,
+      (c.as_slice.ensures.value ∙ c.in_ok-print_header.ensures.ok ∙ ap (λ (l : List ℕ). l ++ line_text (header_words c.args.trace.now.settings)) c.new-line.ensures.items)
+      c.in-Err.ensures.err,
   c.in-Err.ensures.cause,
 )

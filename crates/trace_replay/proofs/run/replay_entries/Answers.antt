@@ -2,12 +2,17 @@
 use Rattle.std.proofs.Common.{◌≡◌, ◌<◌, ◌≤◌, List, ℕ, length, take, get_or, slice_get, Some, refl, subst}
 use Rattle.std.proofs.lemmas.Option.{slice_get_read}
 use Rattle.er_trace.specs.declared.entry.Entry.{Entry}
-use Rattle.trace_replay.proofs.Running.{readable_at, went_next, went_err, went_end}
+use Rattle.trace_replay.proofs.Running.{readable_at, went_none, went_next, went_err, went_end}
 use Rattle.trace_replay.proofs.run.replay_entries.Goals as goal
 
 -- the event at an index
 item_at : (xs ys : List Entry) (i : ℕ) (x : Entry) → xs ≡ ys → i < length xs → x ≡ get_or xs i x → slice_get ys i ≡ Some x
 item_at xs ys i x same inside is = subst (λ (zs : List Entry). slice_get zs i ≡ Some x) same (slice_get_read xs (length xs) i x refl inside is)
+
+pub loop-entry-init : goal.loop-entry-init
+loop-entry-init g c =
+    went_none c.args.trace.now.settings _ c.args.trace.now.entries c.new-connections.result (g.S.Sink.held c.args.sink.now) (g.S.Sink.faults c.args.sink.now)
+    c.new-connections.ensures.live c.new-connections.ensures.over
 
 pub replay_entry-requires-clause-entry : goal.replay_entry-requires-clause-entry
 replay_entry-requires-clause-entry g c =
