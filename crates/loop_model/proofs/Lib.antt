@@ -22,3 +22,4 @@ pub mod Endings
 pub mod Ticking
 pub mod Words
 pub mod Keepers
+pub mod Progressing

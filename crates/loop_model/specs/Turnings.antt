@@ -1,16 +1,18 @@
 -- What holds of the events of each turn: ticks, ends of lines, random words, and what is closed.
-use Rattle.std.specs.Prelude.{ℕ, ◌≡◌, ◌==◌, max, Bool, true, false, ◌&&◌, ◌||◌, if◌then◌else◌, List, [], ◌∷◌, ◌++◌, length, Option, Some, None}
+use Rattle.std.specs.Prelude.{ℕ, ◌≡◌, ◌≤◌, ◌==◌, max, Bool, true, false, ◌&&◌, ◌||◌, if◌then◌else◌, List, [], ◌∷◌, ◌++◌, length, Option, Some, None}
 use Rattle.rand_core.specs.Stream.{Stream, next_u64}
 use Rattle.er_end.specs.KeptEnds.{deadline_of}
 use Rattle.er_trace.specs.declared.event.Event.{Event}
 use Rattle.er_trace.specs.declared.event.Event.TheVariants.{Call, Answer, Octets, Send, Take, Release, Tick, Ended, Fault, Stalled, Full, Unserved}
 use Rattle.link_trait.specs.Wires as wires
 use Rattle.link_trait.specs.Wires.{Listens, Dials, Turns, Reads, Writes, Closes, Reading, Gave, NotNow, End, Failed}
+use Rattle.link_trait.specs.declared.wires.Conn.{Conn}
+use Rattle.link_trait.specs.declared.wires.Happening.TheVariants as happening
 use Rattle.loop_model.specs.Journals.{Entry}
 use Rattle.loop_model.specs.Sessions.{Session, is_released}
-use Rattle.loop_model.specs.Visits.{is_due}
+use Rattle.loop_model.specs.Visits.{most_read, is_due}
 use Rattle.loop_model.specs.Loops.{Plan, numbers, Course, Caller, Turn, readied, went, run, Dialled, dials}
-use Rattle.loop_model.specs.Parts.{Rises}
+use Rattle.loop_model.specs.Parts.{session_of, Rises}
 
 -- ---- ticks
 
@@ -132,3 +134,47 @@ AreKept (s ∷ ss) = IsKept s × AreKept ss
 -- one that broke off is closed at once, and a released one as soon as nothing waits: none such is left behind a turn
 abbrev pub OthersAreClosed : Type 0
 OthersAreClosed = (plan : Plan) (c : Course) (turns : List Turn) → AreKept c.loop.sessions → AreKept (run plan c turns).state.loop.sessions
+
+-- ---- progress
+
+-- what wires promise of a read: it gives an octet at least; and it gives none only where none waits, or where it fails
+abbrev pub IsRead : ℕ → Reading → Type 0
+IsRead waits (Gave octets) = 1 ≤ length octets
+IsRead waits NotNow = waits ≡ 0
+IsRead waits End = waits ≡ 0
+IsRead waits Failed = Unit {0}
+
+abbrev pub IsReadBy : wires.Call → Type 0
+IsReadBy (Listens address listens) = Unit {0}
+IsReadBy (Dials address conn) = Unit {0}
+IsReadBy (Turns until happening) = Unit {0}
+IsReadBy (Reads conn size waits reading) = IsRead waits reading
+IsReadBy (Writes conn piece answer) = Unit {0}
+IsReadBy (Closes conn) = Unit {0}
+
+abbrev pub AreRead : List wires.Call → Type 0
+AreRead [] = Unit {0}
+AreRead (call ∷ calls) = IsReadBy call × AreRead calls
+
+-- an octet at least was taken, or the read failed
+abbrev pub HasTaken : Reading → Type 0
+HasTaken (Gave octets) = 1 ≤ length octets
+HasTaken NotNow = ⊥
+HasTaken End = ⊥
+HasTaken Failed = Unit {0}
+
+-- among calls is a read of this connection, which takes an octet at least where one waits, or fails
+pub record IsProgress (conn : ℕ) (calls : List wires.Call) : Type 0 where
+  pub first : List wires.Call
+  pub waits : ℕ
+  pub reading : Reading
+  pub rest : List wires.Call
+  pub is : calls ≡ first ++ Reads conn most_read waits reading ∷ rest
+  pub taken : 1 ≤ waits → HasTaken reading
+
+-- a turn in which a live connection is readable that isn't released takes an octet from it where one waits, or the read fails
+abbrev pub ReadableProgress : Type 0
+ReadableProgress =
+    (plan : Plan) (c : Course) (a : Turn) (conn : Conn) (s : Session) → c.halt ≡ None → (readied plan c a).state.halt ≡ None
+    → a.happening ≡ happening.Readable conn → session_of conn.0 (readied plan c a).state.loop.sessions ≡ Some s → is_released s ≡ false
+    → AreRead (went plan c a).calls → IsProgress conn.0 (went plan c a).calls

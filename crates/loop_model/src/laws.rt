@@ -2,7 +2,7 @@
 
 ghost use Rattle.loop_model.specs.Points.{OctetsAreHeard, UsersReply};
 ghost use Rattle.loop_model.specs.Recordings.{RecordingsReplay};
-ghost use Rattle.loop_model.specs.Turnings.{EndsAreTold, OthersAreClosed, TicksAreDue, WordsAreNext};
+ghost use Rattle.loop_model.specs.Turnings.{EndsAreTold, OthersAreClosed, ReadableProgress, TicksAreDue, WordsAreNext};
 ghost use Rattle.loop_model.specs.Laws.{ConnectionsAreIsolated, JournalIsPrinted, OctetsAreAccounted, CallsAreOnOpen, FaultsHaveFailed, OneReadATurn, TurnsAreCounted, FewAreLive, SessionsRise};
 
 /// The outcomes of each connection are those that the end model gives to its own events, whichever session answered for it; and what is
@@ -90,4 +90,10 @@ pub fn words()
 /// Behind a turn no session is left that broke off, and none that is released with nothing that waits to be written.
 pub fn closings()
     ensures { OthersAreClosed }
+{}
+
+/// Where each read gives an octet at least, and gives none only where none waits or where it fails, as wires promise: a turn in which a
+/// live connection is readable that isn't released takes an octet from it where one waits, or the read fails.
+pub fn progress()
+    ensures { ReadableProgress }
 {}
