@@ -78,9 +78,9 @@ plainly r m = record {
   then_ = λ s t u xs ys cs ds p q. (q.0 ∙ p.0, plain-append m s.number xs ys p.1 (subst (λ z. ArePlain m z ys) p.0 q.1));
   given = λ s g allowed fits. (refl, (record { moment = refl; conn = refl; role = of_end s.end g allowed }, tt));
   stalls = λ s g allowed fits. (
-      refl,
-      (record { moment = refl; conn = refl; role = of_end s.end g allowed }, (record { moment = refl; conn = refl; role = refl }, tt)),
-    );
+    refl,
+    (record { moment = refl; conn = refl; role = of_end s.end g allowed }, (record { moment = refl; conn = refl; role = refl }, tt)),
+  );
   heard = λ s mind. (refl, tt);
   parts = λ s at gone. (refl, tt);
 }
@@ -250,7 +250,6 @@ module _ (plan : Plan) where
         plain = plain-append m conn h.calls.rest o.entries h.calls.plain (subst (λ z. ArePlain m z o.entries) h.number p);
       }
 
-
 module _ (steps : StepsAlike) (made : MadeStands) (shows : ShowsAlike) (waits : WaitsMove) (bring : OctetsBring) (stays : ReleaseStays) (breaks_release : BreaksRelease)
     (plan : Plan) (allowed : AllAllowed plan.settings)
   where
@@ -406,12 +405,12 @@ module _ (steps : StepsAlike) (made : MadeStands) (shows : ShowsAlike) (waits : 
           known = knows_away plan Q q_calls own K E keeps js bs l.sessions l.moment why until conn above (over l.moment) known;
           up_to = up_to-append l.moment js (x ∷ []) up (at_moment l.moment conn.0 why []);
           pass = (
-              record {
-                moment = not_before l.moment js up;
-                role = subst (λ z. PassesAs z plan.settings (key_at plan.keys) (lines_of js) (line_of x)) (sym role) (unnamed conn.0 js (known.low conn.0 above).0);
-              },
-              tt,
-            );
+            record {
+              moment = not_before l.moment js up;
+              role = subst (λ z. PassesAs z plan.settings (key_at plan.keys) (lines_of js) (line_of x)) (sym role) (unnamed conn.0 js (known.low conn.0 above).0);
+            },
+            tt,
+          );
         }
 
     wise : Momentwise plan Goes
@@ -451,12 +450,12 @@ module _ (steps : StepsAlike) (made : MadeStands) (shows : ShowsAlike) (waits : 
             known = knows_opened plan Q q_calls own K E keeps js bs l until conn mind above known;
             up_to = up_to-append l.moment js (x ∷ []) up (at_moment l.moment conn.0 x.event []);
             pass = (
-                record {
-                  moment = not_before l.moment js up;
-                  role = (unnamed conn.0 js (known.low conn.0 above).0, tt, not_many _ (length l.sessions) (few js bs l.sessions known) fits);
-                },
-                tt,
-              );
+              record {
+                moment = not_before l.moment js up;
+                role = (unnamed conn.0 js (known.low conn.0 above).0, tt, not_many _ (length l.sessions) (few js bs l.sessions known) fits);
+              },
+              tt,
+            );
           };
       full = λ l until conn fits. goes_away l (event.Full most_live) until conn refl (λ m. keeps.full m conn.0);
       unserved = λ l until conn fits is. goes_away l (event.Unserved plan.handed) until conn refl (λ m. keeps.unserved m conn.0 plan.handed);
@@ -518,9 +517,9 @@ module _ (steps : StepsAlike) (made : MadeStands) (shows : ShowsAlike) (waits : 
         subst (λ z. OpensSo m z) (sym c.is) (record {
           up_to = up_to-append m (x ∷ []) c.rest up (up_to_plain m conn c.rest c.plain);
           pass = (
-              record { moment = not_before m [] tt; role = (refl, ap is_some key, refl) },
-              plain_pass plan m conn (x ∷ []) c.rest c.plain up (first_opened conn (conn == conn) false (same conn)),
-            );
+            record { moment = not_before m [] tt; role = (refl, ap is_some key, refl) },
+            plain_pass plan m conn (x ∷ []) c.rest c.plain up (first_opened conn (conn == conn) false (same conn)),
+          );
         })
 
     called_pass : (user : Option Mind) (caller : Caller) (l : Loop) (conn : ℕ) (a : Met) → key_at plan.keys l.moment caller.engine plan.rbc ≡ Some caller.kmac

@@ -386,9 +386,9 @@ module _ (waits : WaitsMove) (bring : OctetsBring) (stays : ReleaseStays) (break
         let o = served r m s g a in
         let c = served_so plan caller l conn mind a in
         let q : Q s (handled r m s g says).0 (handled r m s g says).1 [] = (
-            steady_handled r (λ g. Unit {0}) Own (own_steady r) (any_usual plan) m s g says tt,
-            λ ready. called_speaks waits bring stays breaks_release wants_none tells_none r m s caller.engine plan.rbc (next_u64 l.words).0 says mind refl,
-          ) in
+          steady_handled r (λ g. Unit {0}) Own (own_steady r) (any_usual plan) m s g says tt,
+          λ ready. called_speaks waits bring stays breaks_release wants_none tells_none r m s caller.engine plan.rbc (next_u64 l.words).0 says mind refl,
+        ) in
         record {
           left = first_left caller l conn mind o.entries c ∙ ap other_users (sym e);
           said = first_left_by caller l conn mind o.state o.entries o.calls c (ap next_user (sym e) ∙ is) (left_served r Q q_calls.quiet m s g a q);
