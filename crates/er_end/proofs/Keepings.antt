@@ -26,7 +26,7 @@ use Rattle.end_model.specs.Ends.{Event, Start, Come, Send, Take, Leave, Tick, En
 use Rattle.er_end.specs.Inboxes.{KInbox, kept_more, kept_fewer, newest_of}
 use Rattle.er_end.specs.KeptLayers.{KCore, kept}
 use Rattle.er_end.specs.KeptEnds.{KEnd, found_comes, used_of, after_start, after_octets, refusal, after_send, after_take, after_release, after_tick, after_break, waiting_in, deadline_of, happens, tells}
-use Rattle.er_end.specs.Keeping.{accepted_in, left_by, WaitsMove, is_octets, OctetsBring, ReleaseStays, BreaksRelease, ReleasedWantNone, Uses}
+use Rattle.er_end.specs.Keeping.{accepted_in, left_by, WaitsMove, is_octets, OctetsBring, ReleaseStays, BreaksRelease, ReleasedWantNone, ReleasedTellNone, Uses}
 
 -- ---- the inbox, call by call
 
@@ -354,6 +354,10 @@ breaks_release = record {
 pub released_want_none : ReleasedWantNone
 unfolding deadline_of
 released_want_none k e = rw e refl
+
+pub released_tell_none : ReleasedTellNone
+unfolding after_octets
+released_tell_none now finds octets k why e = rw e refl
 
 -- ---- octets that are used
 

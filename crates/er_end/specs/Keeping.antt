@@ -2,6 +2,7 @@
 use Rattle.std.specs.Prelude.{ℕ, ◌≡◌, ◌≤◌, Bool, true, false, List, [], ◌∷◌, ◌++◌, length, drop, Option, Some, None, is_some}
 use Rattle.er_base.specs.declared.release.Release.{Release}
 use Rattle.end_model.specs.Outcomes.{Outcome, ConnectedTo, Accepted, Taken, NothingToTake, Refused, WasReleased, Octets}
+use Rattle.end_model.specs.Steps.{Finds}
 use Rattle.end_model.specs.Ends.{Event, Start, Come, Send, Take, Leave, Tick, Ended, Fault, Stalled}
 use Rattle.er_end.specs.KeptEnds.{KEnd, happens, tells, used_of, waiting_in, deadline_of}
 
@@ -64,6 +65,10 @@ pub record BreaksRelease : Type 0 where
 -- a released end wants no tick
 abbrev pub ReleasedWantNone : Type 0
 ReleasedWantNone = (k : KEnd) → is_some k.core.released ≡ true → deadline_of k ≡ None
+
+-- octets that come to a released end tell nothing
+abbrev pub ReleasedTellNone : Type 0
+ReleasedTellNone = (now : ℕ) (finds : Finds) (octets : List ℕ) (k : KEnd) (why : Release) → k.core.released ≡ Some why → tells now (Come finds octets) k ≡ []
 
 -- ---- octets that are used
 

@@ -303,9 +303,9 @@ module _ (stays : ReleaseStays) (breaks_release : BreaksRelease) (uses : Uses) (
           whole = λ q. a.whole (first_calm xs ys q);
           gone = λ e. let d = b.gone e in let c = a.gone d.0 in (c.0, both_calm xs ys c.1 d.1);
           silent = λ q. (
-              heard_of-append xs ys ∙ two_nil (heard_of xs) (heard_of ys) (a.silent q).0 (b.silent p).0,
-              taken_in-append cs ds ∙ two_nil (taken_in cs) (taken_in ds) (a.silent q).1 (b.silent p).1,
-            );
+            heard_of-append xs ys ∙ two_nil (heard_of xs) (heard_of ys) (a.silent q).0 (b.silent p).0,
+            taken_in-append cs ds ∙ two_nil (taken_in cs) (taken_in ds) (a.silent q).1 (b.silent p).1,
+          );
         }
         | inr p ↦
             let c = a.gone p in

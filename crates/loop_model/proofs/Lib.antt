@@ -16,3 +16,10 @@ pub mod Momentwise
 pub mod Taking
 pub mod Replaying
 pub mod Hearing
+pub mod Speaking
+pub mod Replying
+pub mod Endings
+pub mod Ticking
+pub mod Words
+pub mod Keepers
+pub mod Progressing

@@ -18,8 +18,8 @@ use Rattle.loop_model.proofs.Owns.{AllGiven, own_steady, own_bare, own_reads, us
 all_given : AllGiven (λ g. Unit {0})
 all_given = record { usual = record { sends = λ text. tt; leaves = λ sub. tt; takes = tt }; hears = λ octets. tt; ticks = tt; ends = tt; faults = tt }
 
-calls : (r : Rules) → Calls r Own
-calls r = usual_calls r (λ g. Unit {0}) Own (own_steady r) all_given own_bare own_reads
+pub own_calls : (r : Rules) → Calls r Own
+own_calls r = usual_calls r (λ g. Unit {0}) Own (own_steady r) all_given own_bare own_reads
 
 -- ---- how many
 
@@ -36,7 +36,7 @@ visit_few r m visit n [] a = omega arith
 visit_few r m visit n (s ∷ ss) a =
     let o = visited r m visit s a in
     elim (cases_Bool (s.number == n)) [
-      | inl p ↦ rw p (one_at_most (length o.state) (length ss) _ (length-append o.state ss) (left_few s _ _ _ (left_visited r Own (calls r) visit m s a)))
+      | inl p ↦ rw p (one_at_most (length o.state) (length ss) _ (length-append o.state ss) (left_few s _ _ _ (left_visited r Own (own_calls r) visit m s a)))
       | inr p ↦ rw p (let h : length (visit_at (visited r m visit) n ss a).state ≤ length ss = visit_few r m visit n ss a in omega arith)
     ]
 
@@ -64,7 +64,7 @@ few_are_live plan c turns f = wise_run plan Few (few plan) c turns f
 -- ---- their order
 
 -- numbers up to this one
-UpTo : ℕ → List ℕ → Type 0
+unfoldable pub UpTo : ℕ → List ℕ → Type 0
 UpTo top [] = Unit {0}
 UpTo top (n ∷ ns) = (n ≤ top) × UpTo top ns
 
@@ -72,7 +72,7 @@ rises_down : (a b : ℕ) (ns : List ℕ) → a ≤ b → Rises b ns → Rises a 
 rises_down a b [] p q = tt
 rises_down a b (n ∷ ns) p q = (let h : b < n = q.0 in omega arith, q.1)
 
-up_to_more : (a b : ℕ) (ns : List ℕ) → a ≤ b → UpTo a ns → UpTo b ns
+pub up_to_more : (a b : ℕ) (ns : List ℕ) → a ≤ b → UpTo a ns → UpTo b ns
 unfolding UpTo
 up_to_more a b [] p q = tt
 up_to_more a b (n ∷ ns) p q = (let h : n ≤ a = q.0 in omega arith, up_to_more a b ns p q.1)
@@ -95,7 +95,7 @@ unfolding visit_at
 visit_rises r m visit n from [] a h = tt
 visit_rises r m visit n from (s ∷ ss) a h =
     elim (cases_Bool (s.number == n)) [
-      | inl p ↦ rw p (rises_left from s ss _ _ _ (left_visited r Own (calls r) visit m s a) h)
+      | inl p ↦ rw p (rises_left from s ss _ _ _ (left_visited r Own (own_calls r) visit m s a) h)
       | inr p ↦ rw p (h.0, visit_rises r m visit n s.number ss a h.1)
     ]
 
@@ -105,7 +105,7 @@ unfolding visit_at UpTo
 visit_up_to r m visit n top [] a h = tt
 visit_up_to r m visit n top (s ∷ ss) a h =
     elim (cases_Bool (s.number == n)) [
-      | inl p ↦ rw p (up_to_left top s ss _ _ _ (left_visited r Own (calls r) visit m s a) h)
+      | inl p ↦ rw p (up_to_left top s ss _ _ _ (left_visited r Own (own_calls r) visit m s a) h)
       | inr p ↦ rw p (h.0, visit_up_to r m visit n top ss a h.1)
     ]
 
@@ -114,7 +114,7 @@ unfolding visit_at opened_in
 visit_opens r m visit n [] a = refl
 visit_opens r m visit n (s ∷ ss) a =
     elim (cases_Bool (s.number == n)) [
-      | inl p ↦ rw p (left_opens s _ _ _ (left_visited r Own (calls r) visit m s a))
+      | inl p ↦ rw p (left_opens s _ _ _ (left_visited r Own (own_calls r) visit m s a))
       | inr p ↦ rw p (visit_opens r m visit n ss a)
     ]
   where

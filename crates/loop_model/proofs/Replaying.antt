@@ -78,9 +78,9 @@ plainly r m = record {
   then_ = λ s t u xs ys cs ds p q. (q.0 ∙ p.0, plain-append m s.number xs ys p.1 (subst (λ z. ArePlain m z ys) p.0 q.1));
   given = λ s g allowed fits. (refl, (record { moment = refl; conn = refl; role = of_end s.end g allowed }, tt));
   stalls = λ s g allowed fits. (
-      refl,
-      (record { moment = refl; conn = refl; role = of_end s.end g allowed }, (record { moment = refl; conn = refl; role = refl }, tt)),
-    );
+    refl,
+    (record { moment = refl; conn = refl; role = of_end s.end g allowed }, (record { moment = refl; conn = refl; role = refl }, tt)),
+  );
   heard = λ s mind. (refl, tt);
   parts = λ s at gone. (refl, tt);
 }
@@ -102,7 +102,7 @@ plain_left m s ts xs cs (Stays t p q) = q.1
 plain_left m s ts xs cs (Closed t ds over p e q) = q.1
 
 -- a visit of a number
-plain_visit : (r : Rules) (m : ℕ) (visit : Visit) (n : ℕ) (ss : List Session) (a : Met) → ArePlain m n (visit_at (visited r m visit) n ss a).entries
+pub plain_visit : (r : Rules) (m : ℕ) (visit : Visit) (n : ℕ) (ss : List Session) (a : Met) → ArePlain m n (visit_at (visited r m visit) n ss a).entries
 unfolding visit_at
 plain_visit r m visit n [] a = tt
 plain_visit r m visit n (s ∷ ss) a =
@@ -187,6 +187,68 @@ dead_of shows k m stands gone none =
 made_none : (plan : Plan) (l : Loop) → waiting_in (answering plan l) ≡ []
 unfolding kept_opened
 made_none plan l = refl
+
+-- ---- the session that a dial opens
+
+module _ (plan : Plan) where
+  pub any_usual : Usual (λ g. Unit {0})
+  any_usual = record { sends = λ text. tt; leaves = λ sub. tt; takes = tt }
+
+  abbrev pub begins : Caller → Loop → Given
+  begins caller l = Begins caller.engine plan.rbc (next_u64 l.words).0
+
+  pub joined_so : (m : ℕ) (s : Session) (octets : List ℕ) → ((joined (rules_of plan) m s octets).0.number ≡ s.number) × ArePlain m s.number (joined (rules_of plan) m s octets).1
+  unfolding joined
+  joined_so m s octets =
+      elim (cases_Bool (nat_lt most_output (length s.output + length octets))) [
+        | inl p ↦ rw p (refl, (record { moment = refl; conn = refl; role = refl }, tt))
+        | inr p ↦ rw p (refl, tt)
+      ]
+
+  -- a call, and events of its end
+  pub record CallsSo (caller : Caller) (l : Loop) (conn : ℕ) (mind : Mind) (xs : List Entry) : Type 0 where
+    pub rest : List Entry
+    pub is : xs ≡ entry_of (rules_of plan) l.moment (begun conn (calling plan caller l) mind) (begins caller l) ∷ rest
+    pub plain : ArePlain l.moment conn rest
+
+  pub record Handled (caller : Caller) (l : Loop) (conn : ℕ) (mind : Mind) (says : Says) : Type 0 where
+    pub calls : CallsSo caller l conn mind (handled (rules_of plan) l.moment (begun conn (calling plan caller l) mind) (begins caller l) says).1
+    pub number : (handled (rules_of plan) l.moment (begun conn (calling plan caller l) mind) (begins caller l) says).0.number ≡ conn
+
+  pub handled_so : (caller : Caller) (l : Loop) (conn : ℕ) (mind : Mind) (says : Says) → Handled caller l conn mind says
+  unfolding Plainly fed
+  handled_so caller l conn mind says =
+      let m = l.moment in
+      let s = begun conn (calling plan caller l) mind in
+      let g = begins caller l in
+      let f = follows_handled_at (rules_of plan) m IsOfEnd (Plainly m) (plainly (rules_of plan) m) all_of_end.usual s g says in
+      let j = joined_so m (record s { end = end_after (rules_of plan) m s.end g; broken = s.broken || breaks g }) (octets_in (outcomes_of (rules_of plan) m s.end g)) in
+      record {
+        calls = record {
+          rest = (joined (rules_of plan) m (record s { end = end_after (rules_of plan) m s.end g; broken = s.broken || breaks g }) (octets_in (outcomes_of (rules_of plan) m s.end g))).1 ++ f.rest;
+          is = f.is;
+          plain = plain-append m conn _ f.rest j.1 (subst (λ z. ArePlain m z f.rest) j.0 f.holds.1);
+        };
+        number = f.holds.0 ∙ j.0;
+      }
+
+  pub served_so : (caller : Caller) (l : Loop) (conn : ℕ) (mind : Mind) (a : Met) → CallsSo caller l conn mind (served (rules_of plan) l.moment (begun conn (calling plan caller l) mind) (begins caller l) a).entries
+  unfolding served Plainly
+  served_so caller l conn mind a =
+      let m = l.moment in
+      let s = begun conn (calling plan caller l) mind in
+      let g = begins caller l in
+      let says = first_of nothing_said a.says in
+      let h = handled_so caller l conn mind says in
+      let t = (handled (rules_of plan) m s g says).0 in
+      let o = rests (rules_of plan) m t a.wrote in
+      let p : ArePlain m t.number o.entries =
+      plain_left m t o.state o.entries o.calls (left_rests_at (rules_of plan) m (Plainly m) (plain_calls (rules_of plan) m).quiet t t a.wrote [] [] (refl, tt)) in
+      record {
+        rest = h.calls.rest ++ o.entries;
+        is = ap (λ z. z ++ o.entries) h.calls.is;
+        plain = plain-append m conn h.calls.rest o.entries h.calls.plain (subst (λ z. ArePlain m z o.entries) h.number p);
+      }
 
 module _ (steps : StepsAlike) (made : MadeStands) (shows : ShowsAlike) (waits : WaitsMove) (bring : OctetsBring) (stays : ReleaseStays) (breaks_release : BreaksRelease)
     (plan : Plan) (allowed : AllAllowed plan.settings)
@@ -343,12 +405,12 @@ module _ (steps : StepsAlike) (made : MadeStands) (shows : ShowsAlike) (waits : 
           known = knows_away plan Q q_calls own K E keeps js bs l.sessions l.moment why until conn above (over l.moment) known;
           up_to = up_to-append l.moment js (x ∷ []) up (at_moment l.moment conn.0 why []);
           pass = (
-              record {
-                moment = not_before l.moment js up;
-                role = subst (λ z. PassesAs z plan.settings (key_at plan.keys) (lines_of js) (line_of x)) (sym role) (unnamed conn.0 js (known.low conn.0 above).0);
-              },
-              tt,
-            );
+            record {
+              moment = not_before l.moment js up;
+              role = subst (λ z. PassesAs z plan.settings (key_at plan.keys) (lines_of js) (line_of x)) (sym role) (unnamed conn.0 js (known.low conn.0 above).0);
+            },
+            tt,
+          );
         }
 
     wise : Momentwise plan Goes
@@ -388,12 +450,12 @@ module _ (steps : StepsAlike) (made : MadeStands) (shows : ShowsAlike) (waits : 
             known = knows_opened plan Q q_calls own K E keeps js bs l until conn mind above known;
             up_to = up_to-append l.moment js (x ∷ []) up (at_moment l.moment conn.0 x.event []);
             pass = (
-                record {
-                  moment = not_before l.moment js up;
-                  role = (unnamed conn.0 js (known.low conn.0 above).0, tt, not_many _ (length l.sessions) (few js bs l.sessions known) fits);
-                },
-                tt,
-              );
+              record {
+                moment = not_before l.moment js up;
+                role = (unnamed conn.0 js (known.low conn.0 above).0, tt, not_many _ (length l.sessions) (few js bs l.sessions known) fits);
+              },
+              tt,
+            );
           };
       full = λ l until conn fits. goes_away l (event.Full most_live) until conn refl (λ m. keeps.full m conn.0);
       unserved = λ l until conn fits is. goes_away l (event.Unserved plan.handed) until conn refl (λ m. keeps.unserved m conn.0 plan.handed);
@@ -406,68 +468,27 @@ module _ (steps : StepsAlike) (made : MadeStands) (shows : ShowsAlike) (waits : 
 
     -- ---- a dial
 
-    any_usual : Usual (λ g. Unit {0})
-    any_usual = record { sends = λ text. tt; leaves = λ sub. tt; takes = tt }
-
-    abbrev begins : Caller → Loop → Given
-    begins caller l = Begins caller.engine plan.rbc (next_u64 l.words).0
-
-    joined_so : (m : ℕ) (s : Session) (octets : List ℕ) → ((joined r m s octets).0.number ≡ s.number) × ArePlain m s.number (joined r m s octets).1
-    unfolding joined
-    joined_so m s octets =
-        elim (cases_Bool (nat_lt most_output (length s.output + length octets))) [
-          | inl p ↦ rw p (refl, (record { moment = refl; conn = refl; role = refl }, tt))
-          | inr p ↦ rw p (refl, tt)
-        ]
-
-    -- a call, and events of its end
-    record CallsSo (caller : Caller) (l : Loop) (conn : ℕ) (mind : Mind) (xs : List Entry) : Type 0 where
-      rest : List Entry
-      is : xs ≡ entry_of r l.moment (begun conn (calling plan caller l) mind) (begins caller l) ∷ rest
-      plain : ArePlain l.moment conn rest
-
-    record Handled (caller : Caller) (l : Loop) (conn : ℕ) (mind : Mind) (says : Says) : Type 0 where
-      calls : CallsSo caller l conn mind (handled r l.moment (begun conn (calling plan caller l) mind) (begins caller l) says).1
-      number : (handled r l.moment (begun conn (calling plan caller l) mind) (begins caller l) says).0.number ≡ conn
-
-    handled_so : (caller : Caller) (l : Loop) (conn : ℕ) (mind : Mind) (says : Says) → Handled caller l conn mind says
-    unfolding Plainly fed
-    handled_so caller l conn mind says =
-        let m = l.moment in
-        let s = begun conn (calling plan caller l) mind in
-        let g = begins caller l in
-        let f = follows_handled_at r m IsOfEnd (Plainly m) (plainly r m) all_of_end.usual s g says in
-        let j = joined_so m (record s { end = end_after r m s.end g; broken = s.broken || breaks g }) (octets_in (outcomes_of r m s.end g)) in
-        record {
-          calls = record {
-            rest = (joined r m (record s { end = end_after r m s.end g; broken = s.broken || breaks g }) (octets_in (outcomes_of r m s.end g))).1 ++ f.rest;
-            is = f.is;
-            plain = plain-append m conn _ f.rest j.1 (subst (λ z. ArePlain m z f.rest) j.0 f.holds.1);
-          };
-          number = f.holds.0 ∙ j.0;
-        }
-
-    names_call : (caller : Caller) (l : Loop) (conn : ℕ) (mind : Mind) (xs : List Entry) → CallsSo caller l conn mind xs → length (named_in (lines_of xs)) ≤ 1
+    names_call : (caller : Caller) (l : Loop) (conn : ℕ) (mind : Mind) (xs : List Entry) → CallsSo plan caller l conn mind xs → length (named_in (lines_of xs)) ≤ 1
     unfolding named_in
     names_call caller l conn mind xs c =
         subst (λ z. length (named_in (lines_of z)) ≤ 1) (sym c.is)
         (subst (λ z. length (conn ∷ z) ≤ 1) (sym (names_none l.moment conn c.rest c.plain)) (omega arith))
 
-    opens_call : (caller : Caller) (l : Loop) (conn : ℕ) (mind : Mind) (xs : List Entry) → CallsSo caller l conn mind xs → is_opened conn (lines_of xs) ≡ true
+    opens_call : (caller : Caller) (l : Loop) (conn : ℕ) (mind : Mind) (xs : List Entry) → CallsSo plan caller l conn mind xs → is_opened conn (lines_of xs) ≡ true
     unfolding is_opened
     opens_call caller l conn mind xs c =
         subst (λ z. is_opened conn (lines_of z) ≡ true) (sym c.is) (first_opened conn (conn == conn) (is_opened conn (lines_of c.rest)) (same conn))
 
     first : (caller : Caller) (at : ℕ) → key_at plan.keys at caller.engine plan.rbc ≡ Some caller.kmac
         → (l : Loop) (conn : ℕ) (mind : Mind) (says : Says) → l.moment ≡ at
-        → Lives (handled r l.moment (begun conn (calling plan caller l) mind) (begins caller l) says).0
-        (handled r l.moment (begun conn (calling plan caller l) mind) (begins caller l) says).1
+        → Lives (handled r l.moment (begun conn (calling plan caller l) mind) (begins plan caller l) says).0
+        (handled r l.moment (begun conn (calling plan caller l) mind) (begins plan caller l) says).1
     unfolding Sounds
     first caller at key l conn mind says now =
         let m = l.moment in
         let s = begun conn (calling plan caller l) mind in
-        let g = begins caller l in
-        let h = handled_so caller l conn mind says in
+        let g = begins plan caller l in
+        let h = handled_so plan caller l conn mind says in
         record {
           told =
               first_handled plan caller IsOfEnd Told (printings.q_steady steps made plan allowed) all_of_end.usual (printings.q_calls steps made plan allowed) (λ s t xs cs p. p.0)
@@ -476,7 +497,7 @@ module _ (steps : StepsAlike) (made : MadeStands) (shows : ShowsAlike) (waits : 
           opened = subst (λ z. is_opened z (lines_of (handled r m s g says).1) ≡ true) (sym h.number) (opens_call caller l conn mind _ h.calls);
           once = names_call caller l conn mind _ h.calls;
           sound =
-              steady_handled r (λ g. Unit {0}) Sounds (sounds_steadily stays breaks_release r) any_usual m s g says tt
+              steady_handled r (λ g. Unit {0}) Sounds (sounds_steadily stays breaks_release r) (any_usual plan) m s g says tt
               (record { broken = λ p. absurd (true≢false (sym p)); closing = λ p. absurd (true≢false (sym p)) });
           none = handled_none waits bring r m s g says;
         }
@@ -487,37 +508,19 @@ module _ (steps : StepsAlike) (made : MadeStands) (shows : ShowsAlike) (waits : 
       pass : AllPass plan.settings (key_at plan.keys) [] (lines_of xs)
 
     calls_pass : (caller : Caller) (l : Loop) (conn : ℕ) (mind : Mind) (xs : List Entry) → key_at plan.keys l.moment caller.engine plan.rbc ≡ Some caller.kmac
-        → CallsSo caller l conn mind xs → OpensSo l.moment xs
+        → CallsSo plan caller l conn mind xs → OpensSo l.moment xs
     unfolding is_named live_count named_in is_opened
     calls_pass caller l conn mind xs key c =
         let m = l.moment in
-        let x = entry_of r m (begun conn (calling plan caller l) mind) (begins caller l) in
+        let x = entry_of r m (begun conn (calling plan caller l) mind) (begins plan caller l) in
         let up : UpTo m (x ∷ []) = (omega arith, tt) in
         subst (λ z. OpensSo m z) (sym c.is) (record {
           up_to = up_to-append m (x ∷ []) c.rest up (up_to_plain m conn c.rest c.plain);
           pass = (
-              record { moment = not_before m [] tt; role = (refl, ap is_some key, refl) },
-              plain_pass plan m conn (x ∷ []) c.rest c.plain up (first_opened conn (conn == conn) false (same conn)),
-            );
+            record { moment = not_before m [] tt; role = (refl, ap is_some key, refl) },
+            plain_pass plan m conn (x ∷ []) c.rest c.plain up (first_opened conn (conn == conn) false (same conn)),
+          );
         })
-
-    served_so : (caller : Caller) (l : Loop) (conn : ℕ) (mind : Mind) (a : Met) → CallsSo caller l conn mind (served r l.moment (begun conn (calling plan caller l) mind) (begins caller l) a).entries
-    unfolding served Plainly
-    served_so caller l conn mind a =
-        let m = l.moment in
-        let s = begun conn (calling plan caller l) mind in
-        let g = begins caller l in
-        let says = first_of nothing_said a.says in
-        let h = handled_so caller l conn mind says in
-        let t = (handled r m s g says).0 in
-        let o = rests r m t a.wrote in
-        let p : ArePlain m t.number o.entries =
-        plain_left m t o.state o.entries o.calls (left_rests_at r m (Plainly m) (plain_calls r m).quiet t t a.wrote [] [] (refl, tt)) in
-        record {
-          rest = h.calls.rest ++ o.entries;
-          is = ap (λ z. z ++ o.entries) h.calls.is;
-          plain = plain-append m conn h.calls.rest o.entries h.calls.plain (subst (λ z. ArePlain m z o.entries) h.number p);
-        }
 
     called_pass : (user : Option Mind) (caller : Caller) (l : Loop) (conn : ℕ) (a : Met) → key_at plan.keys l.moment caller.engine plan.rbc ≡ Some caller.kmac
         → OpensSo l.moment (called_by user plan caller l conn a).entries
@@ -527,7 +530,7 @@ module _ (steps : StepsAlike) (made : MadeStands) (shows : ShowsAlike) (waits : 
       pass = (record { moment = not_before l.moment [] tt; role = refl }, tt);
     }
     called_pass (Some mind) caller l conn a key =
-        calls_pass caller l conn mind (served r l.moment (begun conn (calling plan caller l) mind) (begins caller l) a).entries key (served_so caller l conn mind a)
+        calls_pass caller l conn mind (served r l.moment (begun conn (calling plan caller l) mind) (begins plan caller l) a).entries key (served_so plan caller l conn mind a)
 
     called_moment : (user : Option Mind) (caller : Caller) (l : Loop) (conn : ℕ) (a : Met) → (called_by user plan caller l conn a).state.moment ≡ l.moment
     called_moment None caller l conn a = refl

@@ -23,6 +23,10 @@ one_less : (ms : List (List ℕ)) (n : ℕ) → length ms ≡ suc n → length (
 one_less [] n e = absurd (omega arith)
 one_less (m ∷ ms) n e = omega arith
 
+-- a released session stays released
+unfoldable pub StaysGone : Session → Session → List Entry → List Call → Type 0
+StaysGone s t xs cs = is_released s ≡ true → is_released t ≡ true
+
 pub record Sound (s : Session) : Type 0 where
   pub broken : s.broken ≡ true → is_released s ≡ true
   pub closing : is_some s.closing ≡ true → is_released s ≡ true
@@ -33,13 +37,13 @@ Sounds s t xs cs = Sound s → Sound t
 unfoldable pub Rests : Session → Session → List Entry → List Call → Type 0
 Rests s t xs cs = waiting_in s.end ≡ [] → waiting_in t.end ≡ []
 
-parts_end : (release : Option Release) (mind : Option Mind) (at : ℕ) (s : Session) → (parts release mind at s).end ≡ s.end
+pub parts_end : (release : Option Release) (mind : Option Mind) (at : ℕ) (s : Session) → (parts release mind at s).end ≡ s.end
 parts_end None mind at s = refl
 parts_end (Some release) None at s = refl
 parts_end (Some release) (Some mind) at s = refl
 
 module _ (waits : WaitsMove) (bring : OctetsBring) (r : Rules) where
-  ended_waits : (m : ℕ) (k : KEnd) (g : Given) → is_octets (event_of r g) ≡ false → waiting_in (end_after r m k g) ≡ left_by (event_of r g) (waiting_in k)
+  pub ended_waits : (m : ℕ) (k : KEnd) (g : Given) → is_octets (event_of r g) ≡ false → waiting_in (end_after r m k g) ≡ left_by (event_of r g) (waiting_in k)
   unfolding end_after
   ended_waits m k g p =
       waits m (event_of r g) k ∙ ap (λ z. left_by (event_of r g) (waiting_in k) ++ z) (bring m (event_of r g) k p) ∙ append-nil (left_by (event_of r g) (waiting_in k))
@@ -182,3 +186,14 @@ module _ (stays : ReleaseStays) (breaks_release : BreaksRelease) (r : Rules) whe
 
   pub sounds_steadily : Steady r (λ g. Unit {0}) Sounds
   sounds_steadily = sounds_steady
+
+  pub stays_gone : Steady r (λ g. Unit {0}) StaysGone
+  unfolding StaysGone
+  stays_gone = record {
+    none = λ s p. p;
+    then_ = λ s t u xs ys cs ds p q e. q (p e);
+    given = λ m s g allowed fits p. stays_released m s.end g p;
+    stalls = λ m s g allowed fits p. breaks_released m (end_after r m s.end g) Stalls refl;
+    heard = λ s mind p. p;
+    parts = λ s at gone p. gone;
+  }

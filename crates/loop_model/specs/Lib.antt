@@ -7,3 +7,4 @@ pub mod Parts
 pub mod Laws
 pub mod Recordings
 pub mod Points
+pub mod Turnings

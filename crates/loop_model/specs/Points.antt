@@ -1,13 +1,16 @@
 -- More of what holds of the loop, whatever the outside answers: of what is read, of the events of a session, of ticks and of closings.
-use Rattle.std.specs.Prelude.{ℕ, ◌≡◌, Bool, true, false, ◌||◌, List, [], ◌∷◌, ◌++◌}
+use Rattle.std.specs.Prelude.{ℕ, ◌≡◌, ◌==◌, Bool, true, false, ◌||◌, if◌then◌else◌, List, [], ◌∷◌, ◌++◌, Option, Some, None}
 use Rattle.er_trace.specs.declared.event.Event.{Event}
 use Rattle.er_trace.specs.declared.event.Event.TheVariants.{Call, Answer, Octets, Send, Take, Release, Tick, Ended, Fault, Stalled, Full, Unserved}
+use Rattle.trace_model.specs.Checks.{opens, role_of}
+use Rattle.er_users.specs.Users.{Mind, Heard, Said, said}
 use Rattle.link_trait.specs.Wires.{taken_of}
 use Rattle.loop_model.specs.Journals.{Entry}
 use Rattle.loop_model.specs.Outs.{Out}
-use Rattle.loop_model.specs.Loops.{Course}
+use Rattle.loop_model.specs.Sessions.{heard_in}
+use Rattle.loop_model.specs.Loops.{Plan, next_user, other_users, Course, Caller, Turn, run, Dialled, dials}
 use Rattle.loop_model.specs.Parts.{of}
-use Rattle.loop_model.specs.Laws.{IsBeginning, Holds}
+use Rattle.loop_model.specs.Laws.{IsServing, IsDialling, IsBeginning, Holds}
 
 -- ---- octets taken
 
@@ -60,3 +63,76 @@ AreHeard o = (conn : ℕ) → IsHeard conn o
 
 abbrev pub OctetsAreHeard : Type 0
 OctetsAreHeard = Holds (λ plan o. AreHeard o)
+
+-- ---- what users say
+
+-- a user's mind, and those of its replies that are still due, as events
+pub record Speech : Type 0 where
+  pub mind : Mind
+  pub due : List Event
+
+-- nothing is due
+abbrev pub speech_of : Mind → Speech
+speech_of mind = record { mind = mind; due = [] }
+
+-- the replies as events: the texts in their order, then the release by the user who leaves
+abbrev pub texts_said : List (List ℕ) → List Event
+texts_said [] = []
+texts_said (text ∷ texts) = Send text ∷ texts_said texts
+
+abbrev pub leave_said : Option ℕ → List Event
+leave_said None = []
+leave_said (Some sub) = Release sub ∷ []
+
+abbrev pub speech_by : Said → Speech
+speech_by a = record { mind = a.mind; due = texts_said a.texts ++ leave_said a.leave }
+
+-- where the user hears something, it says by its kind what it says; a kind of a caller's own says anything
+abbrev pub IsAnswer : Option Heard → Speech → Speech → Type 0
+IsAnswer None a b = b ≡ a
+IsAnswer (Some heard) a b = (free : Said) × (b ≡ speech_by (said a.mind.kind a.mind heard free))
+
+-- from one event on: a send or a release is the next reply that is due; a stall may stand between them; at any other event nothing is
+-- due any more, and what the user says to it is due then
+abbrev pub Step : Event → Option Heard → Speech → Speech → Type 0
+Step (Call engine rbc rb) heard a b = (a.due ≡ []) × IsAnswer heard a b
+Step (Answer rbc ra) heard a b = (a.due ≡ []) × IsAnswer heard a b
+Step (Octets octets) heard a b = (a.due ≡ []) × IsAnswer heard a b
+Step (Send text) heard a b = a ≡ record b { due = Send text ∷ b.due }
+Step Take heard a b = (a.due ≡ []) × IsAnswer heard a b
+Step (Release sub) heard a b = a ≡ record b { due = Release sub ∷ b.due }
+Step Tick heard a b = (a.due ≡ []) × IsAnswer heard a b
+Step Ended heard a b = (a.due ≡ []) × IsAnswer heard a b
+Step Fault heard a b = (a.due ≡ []) × IsAnswer heard a b
+Step Stalled heard a b = b ≡ a
+Step (Full count) heard a b = (a.due ≡ []) × IsAnswer heard a b
+Step (Unserved count) heard a b = (a.due ≡ []) × IsAnswer heard a b
+
+-- event by event. What the user hears of an event stands among its outcomes
+abbrev pub Leads : Speech → List Entry → Speech → Type 0
+Leads a [] b = b ≡ a
+Leads a (x ∷ xs) c = (b : Speech) × Step x.event (heard_in x.outcomes) a b × Leads b xs c
+
+-- the user of a connection: each end that is opened takes the last of those that are left
+unfoldable pub user_of : ℕ → List Entry → List Mind → Option Mind
+user_of conn [] users = None
+user_of conn (x ∷ xs) users =
+    if opens (role_of x.event) then if x.conn == conn then next_user users else user_of conn xs (other_users users)
+    else user_of conn xs users
+
+-- no end was opened
+abbrev pub AreDeclined : List Entry → Type 0
+AreDeclined [] = Unit {0}
+AreDeclined (x ∷ xs) = (opens (role_of x.event) ≡ false) × AreDeclined xs
+
+-- the events of a connection, from the mind of its user on, in the end with nothing due; one that took no user has no end
+abbrev pub IsSpoken : Option Mind → List Entry → Type 0
+IsSpoken None xs = AreDeclined xs
+IsSpoken (Some mind) xs = (last : Mind) × Leads (speech_of mind) xs (speech_of last)
+
+-- the sends and the release of each connection are the replies of its user, in order, each behind the event that it answers
+pub record UsersReply : Type 0 where
+  pub serving : (plan : Plan) (c : Course) (turns : List Turn) → IsServing plan c turns
+      → (conn : ℕ) → IsSpoken (user_of conn (run plan c turns).entries c.loop.users) (of conn (run plan c turns).entries)
+  pub dialling : (plan : Plan) (caller : Caller) (c : Course) (address : List ℕ) (a : Dialled) → IsDialling plan caller c address a
+      → (conn : ℕ) → IsSpoken (user_of conn (dials plan caller c address a).entries c.loop.users) (of conn (dials plan caller c address a).entries)

@@ -1,7 +1,8 @@
 //! What holds of the loop, whatever the outside answers, as facts that a caller can cite.
 
-ghost use Rattle.loop_model.specs.Points.{OctetsAreHeard};
+ghost use Rattle.loop_model.specs.Points.{OctetsAreHeard, UsersReply};
 ghost use Rattle.loop_model.specs.Recordings.{RecordingsReplay};
+ghost use Rattle.loop_model.specs.Turnings.{EndsAreTold, OthersAreClosed, ReadableProgress, TicksAreDue, WordsAreNext};
 ghost use Rattle.loop_model.specs.Laws.{ConnectionsAreIsolated, JournalIsPrinted, OctetsAreAccounted, CallsAreOnOpen, FaultsHaveFailed, OneReadATurn, TurnsAreCounted, FewAreLive, SessionsRise};
 
 /// The outcomes of each connection are those that the end model gives to its own events, whichever session answered for it; and what is
@@ -35,6 +36,14 @@ pub fn octets_taken()
     er_end::laws::used_octets();
 }
 
+/// The sends and the release of each connection are, in order, the replies that the relation of its user's kind gives to what the user
+/// hears, each behind the event that it answers, from the mind of the user that the connection took; in the end no reply is due.
+pub fn replies()
+    ensures { UsersReply }
+{
+    er_end::laws::keeping();
+}
+
 /// No call is made on a connection that was closed.
 pub fn open_connections()
     ensures { CallsAreOnOpen }
@@ -61,4 +70,30 @@ pub fn turns()
 pub fn sessions()
     ensures few { FewAreLive }
     ensures rise { SessionsRise }
+{}
+
+/// In each turn those connections are ticked, each once, in rising number, whose deadline is at or below the moment before the turn.
+pub fn ticks()
+    ensures { TicksAreDue }
+{}
+
+/// An event `ended` comes exactly where a read answered that the line ended.
+pub fn endings()
+    ensures { EndsAreTold }
+{}
+
+/// Each end that is opened has the next random word.
+pub fn words()
+    ensures { WordsAreNext }
+{}
+
+/// Behind a turn no session is left that broke off, and none that is released with nothing that waits to be written.
+pub fn closings()
+    ensures { OthersAreClosed }
+{}
+
+/// Where each read gives an octet at least, and gives none only where none waits or where it fails, as wires promise: a turn in which a
+/// live connection is readable that isn't released takes an octet from it where one waits, or the read fails.
+pub fn progress()
+    ensures { ReadableProgress }
 {}

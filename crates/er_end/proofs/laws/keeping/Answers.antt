@@ -1,5 +1,5 @@
 use Rattle.er_end.proofs.laws.keeping.Goals as goal
-use Rattle.er_end.proofs.Keepings.{waits_move, octets_bring, release_stays, breaks_release, released_want_none}
+use Rattle.er_end.proofs.Keepings.{waits_move, octets_bring, release_stays, breaks_release, released_want_none, released_tell_none}
 
 pub returns : goal.returns
 returns c = record {
@@ -8,4 +8,5 @@ returns c = record {
   stays = release_stays;
   breaks = breaks_release;
   wants_none = released_want_none;
+  tells_none = released_tell_none;
 }

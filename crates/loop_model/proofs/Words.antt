@@ -1,0 +1,120 @@
+-- Each end that is opened has the next random word.
+use Rattle.std.proofs.Common.{◌≡◌, ℕ, max, inl, inr, List, [], ◌∷◌, ◌++◌, Option, Some, None, refl, sym, ◌∙◌, ap, subst, append_assoc, append-nil}
+use Rattle.er_trace.specs.declared.event.Event.{Event}
+use Rattle.er_trace.specs.declared.event.Event.TheVariants as event
+use Rattle.er_users.specs.Users.{Mind}
+use Rattle.rand_core.specs.Stream.{Stream, next_u64}
+use Rattle.trace_model.specs.Checks.{Opens, Declines, Belongs, role_of}
+use Rattle.link_trait.specs.Wires.{Call}
+use Rattle.loop_model.specs.Journals.{Entry}
+use Rattle.loop_model.specs.Visits.{Met, Visit, visited, served}
+use Rattle.loop_model.specs.Loops.{Plan, rules_of, Loop, visit_at, next_user, begun, Caller, calling, called_by, called, Course, asks, Turn, run, Dialled, opens, dials_to, dials}
+use Rattle.loop_model.specs.Turnings.{word_of, words_of, AreNext, WordsAreNext}
+use Rattle.loop_model.proofs.Momentwise.{Momentwise, moment_run}
+use Rattle.loop_model.proofs.Replaying.{ArePlain, plain_visit, begins, CallsSo, served_so}
+
+words_of-append : (xs ys : List Entry) → words_of (xs ++ ys) ≡ words_of xs ++ words_of ys
+unfolding words_of
+words_of-append [] ys = refl
+words_of-append (x ∷ xs) ys = ap (λ z. word_of x.event ++ z) (words_of-append xs ys) ∙ sym (append_assoc (word_of x.event) (words_of xs) (words_of ys))
+
+no_word : (e : Event) → role_of e ≡ Belongs → word_of e ≡ []
+no_word (event.Call engine rbc rb) p = absurd (let x : ⊥ = cc in x)
+no_word (event.Answer rbc ra) p = absurd (let x : ⊥ = cc in x)
+no_word (event.Octets octets) p = refl
+no_word (event.Send text) p = refl
+no_word event.Take p = refl
+no_word (event.Release sub) p = refl
+no_word event.Tick p = refl
+no_word event.Ended p = refl
+no_word event.Fault p = refl
+no_word event.Stalled p = refl
+no_word (event.Full count) p = refl
+no_word (event.Unserved count) p = refl
+
+no_words : (m n : ℕ) (xs : List Entry) → ArePlain m n xs → words_of xs ≡ []
+unfolding words_of
+no_words m n [] p = refl
+no_words m n (x ∷ xs) p = ap (λ z. z ++ words_of xs) (no_word x.event p.0.role) ∙ no_words m n xs p.1
+
+-- the stream behind so many words
+after : List ℕ → Stream → Stream
+after [] stream = stream
+after (word ∷ words) stream = after words (next_u64 stream).1
+
+next-append : (ws vs : List ℕ) (stream : Stream) → AreNext ws stream → AreNext vs (after ws stream) → AreNext (ws ++ vs) stream
+unfolding after
+next-append [] vs stream p q = q
+next-append (w ∷ ws) vs stream p q = (p.0, next-append ws vs (next_u64 stream).1 p.1 q)
+
+after-append : (ws vs : List ℕ) (stream : Stream) → after (ws ++ vs) stream ≡ after vs (after ws stream)
+unfolding after
+after-append [] vs stream = refl
+after-append (w ∷ ws) vs stream = after-append ws vs (next_u64 stream).1
+
+record Draws (from to : Stream) (xs : List Entry) : Type 0 where
+  next : AreNext (words_of xs) from
+  left : to ≡ after (words_of xs) from
+
+draws_none : (stream : Stream) (xs : List Entry) → words_of xs ≡ [] → Draws stream stream xs
+unfolding after
+draws_none stream xs e = record {
+  next = subst (λ z. AreNext z stream) (sym e) tt;
+  left = ap (λ z. after z stream) (sym e);
+}
+
+draws_then : (a b c : Stream) (xs ys : List Entry) → Draws a b xs → Draws b c ys → Draws a c (xs ++ ys)
+draws_then a b c xs ys p q = record {
+  next = subst (λ z. AreNext z a) (sym (words_of-append xs ys)) (next-append (words_of xs) (words_of ys) a p.next (subst (λ z. AreNext (words_of ys) z) p.left q.next));
+  left = q.left ∙ ap (λ z. after (words_of ys) z) p.left ∙ sym (after-append (words_of xs) (words_of ys) a) ∙ ap (λ z. after z a) (sym (words_of-append xs ys));
+}
+
+Goes : Loop → Loop → List Entry → List Call → Type 0
+Goes l k xs cs = Draws l.words k.words xs
+
+wise : (plan : Plan) → Momentwise plan Goes
+unfolding Goes words_of after
+wise plan = record {
+  none = λ l. draws_none l.words [] refl;
+  then_ = λ l k n xs ys cs ds p q. draws_then l.words k.words n.words xs ys p q;
+  asked = λ l at. draws_none l.words [] refl;
+  visit = λ l visit n a.
+      let o = visit_at (visited (rules_of plan) l.moment visit) n l.sessions a in
+      draws_none l.words o.entries (no_words l.moment n o.entries (plain_visit (rules_of plan) l.moment visit n l.sessions a));
+  turned = λ l until happening none. draws_none l.words [] refl;
+  opened = λ l until conn mind fits is. record { next = (refl, tt); left = refl };
+  full = λ l until conn fits. record { next = tt; left = refl };
+  unserved = λ l until conn fits is. record { next = tt; left = refl };
+}
+
+called_draws : (user : Option Mind) (plan : Plan) (caller : Caller) (l : Loop) (conn : ℕ) (a : Met)
+    → Draws l.words (called_by user plan caller l conn a).state.words (called_by user plan caller l conn a).entries
+unfolding words_of after
+called_draws None plan caller l conn a = record { next = tt; left = refl }
+called_draws (Some mind) plan caller l conn a =
+    let o = served (rules_of plan) l.moment (begun conn (calling plan caller l) mind) (begins plan caller l) a in
+    let c = served_so plan caller l conn mind a in
+    let e : words_of o.entries ≡ (next_u64 l.words).0 ∷ [] =
+    ap words_of c.is ∙ ap (λ z. (next_u64 l.words).0 ∷ z) (no_words l.moment conn c.rest c.plain) in
+    record {
+      next = subst (λ z. AreNext z l.words) (sym e) (refl, tt);
+      left = ap (λ z. after z l.words) (sym e);
+    }
+
+dial_draws : (conn : Option ℕ) (plan : Plan) (caller : Caller) (c : Course) (address : List ℕ) (a : Dialled)
+    → AreNext (words_of (dials_to conn plan caller c address a).entries) c.loop.words
+unfolding called words_of Goes
+dial_draws None plan caller c address a = tt
+dial_draws (Some conn) plan caller c address a =
+    let d = asks a.first c in
+    let o = opens plan caller d conn a.met in
+    let e = run plan o.state a.turns in
+    (draws_then d.loop.words o.state.loop.words e.state.loop.words o.entries e.entries
+    (called_draws (next_user d.loop.users) plan caller d.loop conn a.met) (moment_run plan Goes (wise plan) o.state a.turns)).next
+
+pub words_are_next : WordsAreNext
+unfolding Goes dials
+words_are_next = record {
+  serving = λ plan c turns. (moment_run plan Goes (wise plan) c turns).next;
+  dialling = λ plan caller c address a. dial_draws a.conn plan caller c address a;
+}
