@@ -20,7 +20,7 @@ use Rattle.drill_model.specs.Outcomes.{Occurrence}
 use Rattle.drill_model.specs.Links.{Link, LinkOpening, OfPair, waiting_of, Pass, pass, link_step}
 use Rattle.drill_model.specs.Worlds.{link_at, history_on, next_of, next_side, overfull_side, Drain, drain, drain_on, world_run}
 use Rattle.drill_model.specs.Kinds.{sent_by, accepted_by, deliveries, IsLossFree, EndsAgree, bound}
-use Rattle.drill_model.specs.Headline.{FitsSettings, IsConnectedEnd, HasAll, IsEmpty, IsDelivered, IsUnforged, DeliversAlways}
+use Rattle.drill_model.specs.Headline.{FitsSettings, IsConnectedEnd, HasAll, IsEmpty, IsDelivered, DeliversAlways}
 use Rattle.drill_model.specs.Headline as claim
 use Rattle.drill_model.specs.Growth.{FactsGrow, HistoryGrows, HistoryOfOwn, HistoryOfOther}
 use Rattle.er_settings.specs.Ranges.{AllAllowed}
@@ -34,6 +34,7 @@ use Rattle.drill_laws.proofs.Fitting.{steps_fit}
 use Rattle.drill_laws.proofs.StackWiring.{Numbers}
 use Rattle.drill_laws.proofs.StackWired.{IsStacked}
 use Rattle.drill_laws.proofs.StackLaws.{StackLaws, stacked_delivers, stacked_at}
+use Rattle.drill_laws.proofs.StackUnforged.{unforged_at}
 use Rattle.drill_laws.proofs.Worlds.{AtPlace, world_lives}
 use Rattle.drill_laws.proofs.Viewing.{IsView, IsFlow, pass_view, FitsLinkStep, FitsLinkOpening, MayFlow, Flowing, flow_keeps, sent_by_facts, accepted_by_facts}
 
@@ -219,8 +220,7 @@ module _ (only : StepsOnly) where
         at_e = accepted E ∙ complete.at_e ∙ sym (sent R);
       } in
       record {
-        unforged = subst (λ (p : LinkOpening). IsUnforged p history) (sym v.opening_is)
-            (ap (λ (fs : List SideFact). list_any (λ (m : MarkedFact). m.forged) (marked fs)) v.facts_are ∙ has.unforged);
+        unforged = ap (λ (fs : List SideFact). list_any (λ (m : MarkedFact). m.forged) (marked fs)) v.facts_are ∙ has.unforged;
         bounded = omega arith;
         done = subst D (sym v.opening_is) done;
         drains = λ none most enough.
@@ -246,7 +246,9 @@ module _ (laws : StationLaws) (stacks : StackLaws) (delivery : Delivery) (delive
               | inr t ↦
                   let k : Numbers = record { engine = t.engine; rbc = t.rbc; ke = t.ke; kr = t.kr; ra = t.ra; rb = t.rb } in
                   let stacked : IsStacked settings l history = stacked_at stacks facts grow own other plan steps fit n l is k t.opening_is in
-                  stacked_delivers settings l history stacked (subst (FitsSettings settings) t.opening_is settings_fit) stacks free
+                  let allowed : AllAllowed settings = subst (FitsSettings settings) t.opening_is settings_fit in
+                  stacked_delivers settings l history stacked allowed stacks free
+                  (unforged_at stacks facts grow own other plan steps fit n l is k t.opening_is allowed free)
             ]
         | inr w ↦
             let allowed : AllAllowed settings = allowed_of settings l w.sees.opening_is settings_fit in

@@ -27,7 +27,7 @@ use Rattle.drill_model.specs.Ends as event
 use Rattle.drill_model.specs.Links.{Link, LinkOpening, OfStations, end_of, waiting_of, with_waiting, answered, give, key_on, Pass, pass, link_step}
 use Rattle.drill_model.specs.Worlds.{next_of, next_side, overfull_side, Drain, drain, drain_on}
 use Rattle.drill_model.specs.Kinds.{sent_by, deliveries, is_disturbed, IsLossFree, bound}
-use Rattle.drill_model.specs.Headline.{FitsSettings, IsConnectedEnd, HasAllPayloads, IsEmpty, IsDelivered, IsUnforged}
+use Rattle.drill_model.specs.Headline.{FitsSettings, IsConnectedEnd, HasAllPayloads, IsEmpty, IsDelivered}
 use Rattle.drill_model.specs.Headline as claim
 use Rattle.drill_laws.proofs.Tellings.{Says, says_nothing, says_more, says_append, says_told, StationLaws}
 use Rattle.drill_laws.proofs.Wiring.{grows_of, deliveries_grow, passes_of, Sees}
@@ -234,8 +234,7 @@ module _ (laws : StationLaws) (delivers : Delivery) (deliveries_bound : Deliveri
       let D : LinkOpening → Type 0 = λ o. IsEmpty o l → IsDelivered o history l in
       let done : D OfStations = λ empty. all_payloads l history w free.undisturbed empty in
       record {
-        unforged = subst (λ (o : LinkOpening). IsUnforged o history) (sym is)
-            (ap (λ (fs : List SideFact). list_any (λ (m : MarkedFact). m.forged) (marked fs)) w.sees.facts);
+        unforged = ap (λ (fs : List SideFact). list_any (λ (m : MarkedFact). m.forged) (marked fs)) w.sees.facts;
         bounded = omega arith;
         done = subst D (sym is) done;
         drains = λ roomy most enough. drain_empties most l history w free.undisturbed (omega arith);

@@ -19,3 +19,8 @@ mod StackWired
 mod Fitting
 mod StackLaws
 mod OrderKeeping
+mod Sealing
+mod Trusting
+mod StackCalls
+mod StackTrusting
+mod StackUnforged

@@ -40,7 +40,7 @@ Speaks key_of before (Some s) after = (s.outcome ≡ (step key_of before s.event
 
 module _ (key_of : ℕ → ℕ → Option TripleKey) (before : Safety) where
   -- in the event that led to this core
-  abbrev Spoke : Core → Type 0
+  abbrev pub Spoke : Core → Type 0
   Spoke x = Speaks key_of before x.upper.spoke x.safe.safety
 
   -- the side took no step yet
@@ -149,7 +149,7 @@ module _ (key_of : ℕ → ℕ → Option TripleKey) (before : Safety) where
       if_core Spoke (is_some y.released) y (concludes model (record y { line = model.starts y.moment y.line })) same
       (concludes_spoke (record y { line = model.starts y.moment y.line }) same)
 
-  comes_spoke : (now : ℕ) (verdict : Verdict) (x : Core) → x.safe.safety ≡ before → Spoke (comes model finds now verdict x)
+  pub comes_spoke : (now : ℕ) (verdict : Verdict) (x : Core) → x.safe.safety ≡ before → Spoke (comes model finds now verdict x)
   comes_spoke now verdict x same =
       let y : Core = begins_at model now x in
       let z : Core = record y { line = model.receives y.moment verdict y.line } in
@@ -157,14 +157,14 @@ module _ (key_of : ℕ → ℕ → Option TripleKey) (before : Safety) where
       if_core Spoke (is_some y.released) y (concludes model (link_comes model finds deed z)) same
       (concludes_spoke (link_comes model finds deed z) (link_spoke deed.payload deed.up deed.released z (refl, same)))
 
-  sends_spoke : (now : ℕ) (user : List ℕ) (x : Core) → x.safe.safety ≡ before → Spoke (sends_unless model None now user x)
+  pub sends_spoke : (now : ℕ) (user : List ℕ) (x : Core) → x.safe.safety ≡ before → Spoke (sends_unless model None now user x)
   sends_spoke now user x same =
       let y : Core = begins_at model now x in
       let a : Safety × SafetyOutcome = step key_of y.safe.safety (DataRequest user) in
       let z : Core = spoken model (DataRequest user) a y in
       concludes_spoke _ (says_spoke (sent_by a.1) (record z { upper = model.sends z.upper user }) (steps_spoke (DataRequest user) y (refl, same)))
 
-  uses_silent : (now : ℕ) (x : Core) → x.safe.safety ≡ before → Spoke (uses model now x)
+  pub uses_silent : (now : ℕ) (x : Core) → x.safe.safety ≡ before → Spoke (uses model now x)
   uses_silent now x same =
       let y : Core = begins_at model now x in
       if_core Spoke (model.untaken y.upper == 0) y (concludes model (record y { upper = model.uses y.upper })) same
@@ -214,7 +214,7 @@ of_with pair E s = refl
 of_with pair R s = refl
 
 module _ (grow : FactsGrow) (opening : PairOpening) (side : Side) where
-  facts_append : (xs ys : List Outcome) → facts_in (map (at_end side) (xs ++ ys)) ≡ facts_in (map (at_end side) xs) ++ facts_in (map (at_end side) ys)
+  pub facts_append : (xs ys : List Outcome) → facts_in (map (at_end side) (xs ++ ys)) ≡ facts_in (map (at_end side) xs) ++ facts_in (map (at_end side) ys)
   facts_append xs ys = ap facts_in (map-append (at_end side) xs ys) ∙ grow (map (at_end side) xs) (map (at_end side) ys)
 
   pub tells_silent : (s : Safety) (os : List Outcome) → facts_in (map (at_end side) os) ≡ [] → Tells opening side s os s
@@ -233,7 +233,7 @@ module _ (grow : FactsGrow) (opening : PairOpening) (side : Side) where
       subst (λ (p : Pair). Talks opening (facts ++ facts_in (map (at_end side) (os ++ ps))) p) (with_twice pair side t u)
       (subst (λ (hs : List SideFact). Talks opening hs (with_safety (with_safety pair side t) side u)) all now)
 
-  facts_of_facts : (fs : List Fact) → facts_in (map (at_end side) (map OfSafety fs)) ≡ map (at_side side) fs
+  pub facts_of_facts : (fs : List Fact) → facts_in (map (at_end side) (map OfSafety fs)) ≡ map (at_side side) fs
   facts_of_facts [] = refl
   facts_of_facts (f ∷ fs) = ap (λ (gs : List SideFact). at_side side f ∷ gs) (facts_of_facts fs)
 
@@ -241,7 +241,7 @@ module _ (grow : FactsGrow) (opening : PairOpening) (side : Side) where
   frames_silent [] = refl
   frames_silent (f ∷ fs) = frames_silent fs
 
-  rest_silent : (released : Option Release) (frames : List (List ℕ)) → facts_in (map (at_end side) (if_released released ++ map Frame frames)) ≡ []
+  pub rest_silent : (released : Option Release) (frames : List (List ℕ)) → facts_in (map (at_end side) (if_released released ++ map Frame frames)) ≡ []
   rest_silent None frames = frames_silent frames
   rest_silent (Some release) frames = frames_silent frames
 
@@ -297,7 +297,7 @@ module _ (grow : FactsGrow) (opening : PairOpening) (side : Side) where
   pub sends_tells : (moment : ℕ) (user : List ℕ) (m : Stack) → StackTells m (stack_sends moment user m)
   sends_tells moment user m = sends_tells_at moment user m (refusal_of model user m.core)
 
-  took_silent : (message : Option (List ℕ)) → facts_in (map (at_end side) (took message)) ≡ []
+  pub took_silent : (message : Option (List ℕ)) → facts_in (map (at_end side) (took message)) ≡ []
   took_silent None = refl
   took_silent (Some message) = refl
 
@@ -313,7 +313,7 @@ module _ (grow : FactsGrow) (opening : PairOpening) (side : Side) where
   releases_tells moment sub m =
       told_tell m.core.safe.safety (leaves model moment sub m.core) (leaves_spoke (key_for opening) m.core.safe.safety moment sub m.core refl)
 
-  expired_silent : (b : Bool) → facts_in (map (at_end side) (if_expired b)) ≡ []
+  pub expired_silent : (b : Bool) → facts_in (map (at_end side) (if_expired b)) ≡ []
   expired_silent true = refl
   expired_silent false = refl
 

@@ -9,6 +9,7 @@ use Rattle.er_settings.specs.Ranges.{AllAllowed}
 use Rattle.er_scenario.specs.declared.step.Step.{Step}
 use Rattle.safety_automaton.specs.Rules.{StepsOnly}
 use Rattle.safety_automaton.specs.Safety.{Phase, Ready, WaitAu1, WaitAu2, WaitAu3, WaitAr, Connected, Released}
+use Rattle.safe_pair.specs.Marks.{MarksGrow}
 use Rattle.safe_pair.specs.Openings.{PairOpening, OfFixed, OfKeys}
 use Rattle.safe_pair.specs.Deliveries.{IsConnectedPhase}
 use Rattle.end_model.specs.Steps.{is_connected}
@@ -16,7 +17,7 @@ use Rattle.end_model.specs.Ends.{End as Stack}
 use Rattle.end_pair.specs.Openings.{Opening, Agree}
 use Rattle.end_pair.specs.Links.{Link as Pair}
 use Rattle.end_pair.specs.Steps.{run}
-use Rattle.end_pair.specs.Laws.{Prefix, LosingLineReasons, Delivery, DeliveryBound, DrainEmpties}
+use Rattle.end_pair.specs.Laws.{Prefix, OneFrame, LosingLineReasons, InStep, Delivery, DeliveryBound, DrainEmpties}
 use Rattle.end_pair.specs.Laws as of_pair
 use Rattle.end_pair.specs.Reasons as of_pair_reasons
 use Rattle.drill_model.specs.Outcomes.{Occurrence}
@@ -39,17 +40,20 @@ use Rattle.drill_laws.proofs.StackWired.{FitsStackStep, paired, IsStacked, stack
 -- the laws of two ends of the whole stack, of the safety side, and of a stack's reports
 pub record StackLaws : Type 0 where
   pub prefix : Prefix
+  pub one_frame : OneFrame
   pub reasons : LosingLineReasons
+  pub in_step : InStep
   pub delivery : Delivery
   pub deliveries_bound : DeliveryBound
   pub drain_empties : DrainEmpties
   pub only : StepsOnly
   pub opens : OpensOrderly
   pub calls : CallsReport
+  pub marks : MarksGrow
 
 -- ---- the pair's opening
 
-abbrev pair_opening : (settings : Settings) (l : Link) (history : List Occurrence) → IsStacked settings l history → AllAllowed settings → Opening
+abbrev pub pair_opening : (settings : Settings) (l : Link) (history : List Occurrence) → IsStacked settings l history → AllAllowed settings → Opening
 pair_opening settings l history t allowed = record {
   settings = settings;
   engine = t.k.engine;
@@ -67,11 +71,11 @@ pair_opening settings l history t allowed = record {
 }
 
 -- the pair behind the steps
-abbrev pair_of : (settings : Settings) (l : Link) (history : List Occurrence) → IsStacked settings l history → Pair
+abbrev pub pair_of : (settings : Settings) (l : Link) (history : List Occurrence) → IsStacked settings l history → Pair
 pair_of settings l history t = run (finds_of t.k) (paired settings t.k t.moment) t.steps
 
 -- the radio block centre finds the engine's KMAC
-agrees : (k : Numbers) → k.kr ≡ Some k.ke → (now : ℕ) → finds_of k now k.engine k.rbc ≡ Some k.ke
+pub agrees : (k : Numbers) → k.kr ≡ Some k.ke → (now : ℕ) → finds_of k now k.engine k.rbc ≡ Some k.ke
 agrees k same now =
     let engine : (k.engine == k.engine) ≡ true = eq-eqb k.engine k.engine refl in
     let rbc : (k.rbc == k.rbc) ≡ true = eq-eqb k.rbc k.rbc refl in
@@ -142,8 +146,8 @@ module _ (settings : Settings) (l : Link) (history : List Occurrence) (t : IsSta
   taken_of : (end : End) (m : Stack) → end ≡ OfStack m → HasTakenAll end → m.core.upper.used ≡ length m.core.upper.accepted
   taken_of end m is taken = subst HasTakenAll is taken
 
-  pub stacked_delivers : StackLaws → IsLossFree l.opening history → claim.Delivers settings history l
-  stacked_delivers laws free =
+  pub stacked_delivers : StackLaws → IsLossFree l.opening history → IsUnforged history → claim.Delivers settings history l
+  stacked_delivers laws free unforged =
       let v = t.sees in
       let is_free : p.loss_free ≡ true = free_of free.undisturbed in
       let agree : Agree s = agree_of free in
@@ -162,7 +166,7 @@ module _ (settings : Settings) (l : Link) (history : List Occurrence) (t : IsSta
         at_e = v.accepted_e ∙ has.at_e ∙ sym v.sent_r;
       } in
       record {
-        unforged = subst (λ (x : LinkOpening). IsUnforged x history) (sym v.opening_is) tt;
+        unforged = unforged;
         bounded = subst (λ (n : ℕ). deliveries history ≤ n) (sym same) (subst (λ (n : ℕ). n ≤ of_pair.bound settings p) (sym count) most);
         done = subst D (sym v.opening_is) done;
         drains = λ roomy passes enough.
@@ -175,7 +179,7 @@ module _ (settings : Settings) (l : Link) (history : List Occurrence) (t : IsSta
 -- ---- worlds
 
 -- an opening of level safe or link
-abbrev IsLower : LinkOpening → Type 0
+abbrev pub IsLower : LinkOpening → Type 0
 IsLower (OfPair opening) = Unit {0}
 IsLower OfStations = Unit {0}
 IsLower (OfStacks engine rbc ke kr ra rb) = ⊥
@@ -184,7 +188,7 @@ abbrev Stacked : Settings → Link → List Occurrence → Type 0
 Stacked settings l history = IsStacked settings l history ⊎ IsLower l.opening
 
 module _ (laws : StackLaws) (facts : FactsGrow) where
-  fits_stack : (s : LinkStep) → FitsLinkStep facts s → FitsStackStep s
+  pub fits_stack : (s : LinkStep) → FitsLinkStep facts s → FitsStackStep s
   fits_stack (Send side octets) fit = fit
   fits_stack (Pass side) fit = tt
   fits_stack (Change side change) fit = tt

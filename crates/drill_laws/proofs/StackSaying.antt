@@ -37,7 +37,7 @@ use Rattle.drill_model.specs.Kinds.{sent_in, accepted_in, released_in, passed_in
 
 -- ---- a step of the safety side that sends no message
 
-abbrev sent_by_step : SafetyOutcome → List (List ℕ)
+abbrev pub sent_by_step : SafetyOutcome → List (List ℕ)
 sent_by_step (SentAu1 octets) = []
 sent_by_step (SentAu2 session sealed octets) = []
 sent_by_step (SentAu3 session verified sealed octets) = []
@@ -50,7 +50,7 @@ sent_by_step (ReleasedLocally release octets) = []
 sent_by_step (ReleasedByPeer release) = []
 sent_by_step NothingDone = []
 
-abbrev sent_in_step : Option Spoken → List (List ℕ)
+abbrev pub sent_in_step : Option Spoken → List (List ℕ)
 sent_in_step None = []
 sent_in_step (Some s) = sent_by_step s.outcome
 
@@ -445,11 +445,11 @@ all_left : (left released : Option Release) → left ≡ released → AllByRecur
 all_left None released is = tt
 all_left (Some r) released is = (sym is, tt)
 
-call_sent : (x : Core) → flat_map sent_in (told_at x) ≡ sent_in_step x.upper.spoke
+pub call_sent : (x : Core) → flat_map sent_in (told_at x) ≡ sent_in_step x.upper.spoke
 call_sent x =
     told_says sent_in (λ octets. refl) x ∙ ap₂ (λ (a b : List (List ℕ)). a ++ b) (sent_told x.upper.spoke) (no_release_sent x.leaves) ∙ append-nil (sent_in_step x.upper.spoke)
 
-call_accepted : (x : Core) → flat_map accepted_in (told_at x) ≡ option_to_list (user_in x.upper.spoke)
+pub call_accepted : (x : Core) → flat_map accepted_in (told_at x) ≡ option_to_list (user_in x.upper.spoke)
 call_accepted x =
     told_says accepted_in (λ octets. refl) x ∙ ap₂ (λ (a b : List (List ℕ)). a ++ b) (accepted_told x.upper.spoke) (no_release_accepted x.leaves)
     ∙ append-nil (option_to_list (user_in x.upper.spoke))

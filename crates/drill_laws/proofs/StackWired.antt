@@ -331,6 +331,12 @@ module _ (only : StepsOnly) (reports : CallsReport) where
         sees = subst (λ (p : Pair). SeesAt t.k history p (link_step l s)) (sym (run_append finds w t.steps g.steps)) g.sees;
       }
 
+  -- its numbers stay
+  pub stacked_numbers : (settings : Settings) (l : Link) (history : List Occurrence) (s : LinkStep) (fit : FitsStackStep s) (t : IsStacked settings l history)
+      → (stacked_steps settings l history s fit t).k ≡ t.k
+  unfolding stacked_steps
+  stacked_numbers settings l history s fit t = refl
+
   pub stacked_opens : OpensOrderly → (settings : Settings) (moment : ℕ) (k : Numbers) → FitsOpening (OfKeys k.engine k.rbc k.ke k.kr k.ra k.rb)
       → let a = opened_stacks settings moment k.engine k.rbc k.ke k.kr k.ra k.rb in IsStacked settings a.0 a.1
   stacked_opens orderly settings moment k fit =
@@ -366,6 +372,11 @@ module _ (only : StepsOnly) (reports : CallsReport) where
         releases = tt;
       } in
       record { k = k; moment = moment; steps = []; numbers_fit = fit; fit = tt; sees = given_sees only reports k l [] p E event.Start true v refl }
+
+  pub opened_numbers : (orderly : OpensOrderly) (settings : Settings) (moment : ℕ) (k : Numbers) (fit : FitsOpening (OfKeys k.engine k.rbc k.ke k.kr k.ra k.rb))
+      → (stacked_opens orderly settings moment k fit).k ≡ k
+  unfolding stacked_opens
+  opened_numbers orderly settings moment k fit = refl
 
   -- ---- drains
 

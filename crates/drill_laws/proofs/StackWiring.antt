@@ -177,7 +177,7 @@ acted_sees k l history p R given os late free v d is =
     }
 
 -- what an end of such a link answers
-gives_stacked : (k : Numbers) (l : Link) (history : List Occurrence) (p : Pair) (side : Side) (given : EndEvent) → Sees k l history p
+pub gives_stacked : (k : Numbers) (l : Link) (history : List Occurrence) (p : Pair) (side : Side) (given : EndEvent) → Sees k l history p
     → drill.give l side given ≡ answered l side (stack_end_step (key_of k) p.moment (end_of p side) given)
 gives_stacked k l history p E given v = rw (v.opening_is, v.e_is, v.moment_is) refl
 gives_stacked k l history p R given v = rw (v.opening_is, v.r_is, v.moment_is) refl

@@ -153,7 +153,7 @@ module _ (grow : FactsGrow) where
   silent_if side true x y hx hy = hx
   silent_if side false x y hx hy = hy
 
-  silent_changes : (side : Side) (change : LineChange) (frames : List (List ℕ)) → facts_in (map (at_end side) (changes change frames).1) ≡ []
+  pub silent_changes : (side : Side) (change : LineChange) (frames : List (List ℕ)) → facts_in (map (at_end side) (changes change frames).1) ≡ []
   silent_changes side Lose [] = refl
   silent_changes side Lose (frame ∷ frames) = refl
   silent_changes side Repeat [] = refl

@@ -3,7 +3,8 @@
 ghost use Rattle.station_model.specs.Laws.{ReceivesGive, TicksGive, HandsKeep, OthersKeep, ReleasedAreInert};
 ghost use Rattle.station_model.specs.Reports.{ReleasesAreTold, FinishKeepsRelease};
 ghost use Rattle.safety_automaton.specs.Rules.{StepsOnly};
-ghost use Rattle.end_pair.specs.Laws.{Prefix, LosingLineReasons, Delivery, DeliveryBound, DrainEmpties};
+ghost use Rattle.safe_pair.specs.Marks.{MarksGrow};
+ghost use Rattle.end_pair.specs.Laws.{Prefix, OneFrame, LosingLineReasons, InStep, Delivery, DeliveryBound, DrainEmpties};
 ghost use Rattle.drill_model.specs.StackReports.{OpensOrderly, CallsReport};
 ghost use Rattle.drill_model.specs.Headline.{LawfulAlways, OpensAlways, RoomAlways, InOrderAlways, LosingLineReasonsAlways, DeliversAlways, PrintedAsMarked, LinesInOrder};
 
@@ -27,20 +28,26 @@ fn station_laws()
 // What holds of two ends of the whole stack, and what each call of a stack reports.
 fn stack_laws()
     ensures prefix { Prefix }
+    ensures one_frame { OneFrame }
     ensures reasons { LosingLineReasons }
+    ensures in_step { InStep }
     ensures delivery { Delivery }
     ensures deliveries_bound { DeliveryBound }
     ensures drain_empties { DrainEmpties }
     ensures only { StepsOnly }
     ensures opens { OpensOrderly }
     ensures calls { CallsReport }
+    ensures marks { MarksGrow }
 {
     end_pair::laws::prefix();
+    end_pair::laws::one_frame();
     end_pair::laws::losing_line_reasons();
+    end_pair::laws::in_step();
     end_pair::laws::delivery();
     end_pair::laws::delivery_bound();
     safety_automaton::laws::steps();
     drill_model::laws::stacks_report();
+    safe_pair::laws::marks_grow();
 }
 
 /// What came at each link is lawful, whatever the steps: at levels safe and full, messages and peers are authentic; at level link nothing of a
@@ -88,8 +95,8 @@ pub fn losing_line_reasons()
 }
 
 /// Delivery: on a link that is loss-free so far no more frames were passed than its bound says; once it is empty, both ends are connected and
-/// each has accepted what the other sent, in order; and a drain of as many passes as the bound leaves nothing waiting. At level safe nothing
-/// is forged there.
+/// each has accepted what the other sent, in order; and a drain of as many passes as the bound leaves nothing waiting. Nothing is forged
+/// there.
 pub fn delivery()
     ensures { DeliversAlways }
 {

@@ -190,17 +190,14 @@ IsDelivered (OfPair opening) history l = HasAll history l
 IsDelivered OfStations history l = HasAllPayloads history l
 IsDelivered (OfStacks engine rbc ke kr ra rb) history l = HasAll history l
 
--- nothing is forged: at level safe; at level link there is no safety layer. Of level full it isn't claimed: what is accepted is what was
--- sent, but that each text was sealed before it is verified isn't proved
-abbrev pub IsUnforged : LinkOpening → List Occurrence → Type 0
-IsUnforged (OfPair opening) history = list_any (λ f. f.forged) (marked (facts_in history)) ≡ false
-IsUnforged OfStations history = list_any (λ f. f.forged) (marked (facts_in history)) ≡ false
-IsUnforged (OfStacks engine rbc ke kr ra rb) history = Unit {0}
+-- nothing is forged: no text of a set-up that was verified, no connection and no accepted message; at level link there is no safety layer
+abbrev pub IsUnforged : List Occurrence → Type 0
+IsUnforged history = list_any (λ f. f.forged) (marked (facts_in history)) ≡ false
 
--- a loss-free link: nothing is forged, at level safe; no more deliveries than the bound, ever; once it is empty, all is delivered; and where
+-- a loss-free link: nothing is forged; no more deliveries than the bound, ever; once it is empty, all is delivered; and where
 -- not too many frames wait, a drain of at least as many passes as the bound leaves none waiting
 pub record Delivers (settings : Settings) (history : List Occurrence) (l : Link) : Type 0 where
-  pub unforged : IsUnforged l.opening history
+  pub unforged : IsUnforged history
   pub bounded : deliveries history ≤ bound settings l.opening history
   pub done : IsEmpty l.opening l → IsDelivered l.opening history l
   pub drains : overfull_side l ≡ None → (most : ℕ) → bound settings l.opening history ≤ most

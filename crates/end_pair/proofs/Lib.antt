@@ -27,3 +27,4 @@ pub mod Flowing
 pub mod Drained
 pub mod Delivered
 pub mod Bounded
+pub mod Together

@@ -1,12 +1,14 @@
 -- What holds of two ends over two lines, over every list of steps, at modulo 8 and at modulo 128. A list of steps stands for each moment of
 -- a longer run. An opening has its settings, numbers and random numbers in their ranges; the user octets of the steps are octets.
-use Rattle.std.specs.Prelude.{◌≡◌, ℕ, ◌+◌, ◌-◌, ◌*◌, ◌/◌, ◌≤◌, true, List, [], length, take}
+use Rattle.std.specs.Prelude.{◌≡◌, ℕ, ◌+◌, ◌-◌, ◌*◌, ◌/◌, ◌≤◌, true, List, [], ◌∷◌, length, take}
 use Rattle.std.specs.List.{sum_by}
 use Rattle.er_settings.specs.declared.settings.Settings.{Settings}
 use Rattle.end_model.specs.Steps.{is_connected}
+use Rattle.end_model.specs.Ends.{news}
 use Rattle.end_pair.specs.Openings.{Opening, Agree}
 use Rattle.end_pair.specs.Reasons.{IsLosingLineReason}
 use Rattle.end_pair.specs.Links.{Link, opened}
+use Rattle.end_pair.specs.Phases.{AreInStep}
 use Rattle.end_pair.specs.Steps.{LinkStep, AllFit, run, drained}
 
 -- the link behind a list of steps
@@ -31,7 +33,22 @@ LosingLineReasons =
     (s : Opening) (steps : List LinkStep) → AllFit steps → Agree s → (after s steps).order_kept ≡ true
     → IsLosingLineReason (after s steps).e.core.released × IsLosingLineReason (after s steps).r.core.released
 
+-- the first frame that waits is one frame at the other end, and nothing besides
+abbrev pub IsOneFrame : (stream : List ℕ) → (line : List (List ℕ)) → Type 0
+IsOneFrame stream line = (octets : List ℕ) (rest : List (List ℕ)) → line ≡ octets ∷ rest → length (news stream octets) ≡ 1
+
+abbrev pub OneFrame : Type 0
+OneFrame =
+    (s : Opening) (steps : List LinkStep) → AllFit steps → (after s steps).order_kept ≡ true
+    → IsOneFrame (after s steps).r.stream (after s steps).from_e × IsOneFrame (after s steps).e.stream (after s steps).from_r
+
 -- ---- a loss-free line, where the keys agree
+
+-- the two safety sides are in step
+abbrev pub InStep : Type 0
+InStep =
+    (s : Opening) (steps : List LinkStep) → AllFit steps → Agree s → (after s steps).loss_free ≡ true
+    → AreInStep s.engine s.rbc s.kmac s.ra s.rb (after s steps).e.core.safe.safety (after s steps).r.core.safe.safety
 
 -- no frame waits, and every accepted message was taken
 abbrev pub IsEmpty : Link → Type 0

@@ -2,4 +2,5 @@ pub mod Openings
 pub mod Reasons
 pub mod Links
 pub mod Steps
+pub mod Phases
 pub mod Laws

@@ -1,10 +1,30 @@
 //! What holds of two ends of the whole stack over two lines, as facts that a caller can cite.
 
-ghost use Rattle.end_pair.specs.Laws.{Delivery, DeliveryBound, DrainEmpties, FewWait, LosingLineReasons, Prefix};
+ghost use Rattle.end_pair.specs.Laws.{Delivery, DeliveryBound, DrainEmpties, FewWait, InStep, LosingLineReasons, OneFrame, Prefix};
 
 /// A line that only loses and repeats: what an end accepted is a prefix of what the other sent, whatever the keys.
 pub fn prefix()
     ensures { Prefix }
+{
+    er_settings::laws::allowed_are_bounded();
+    station_model::laws::receives_give();
+    station_model::laws::ticks_give();
+    station_model::laws::others_keep();
+    station_pair::laws::calls_keep();
+    t70_header::laws::wrapping();
+    x224_tpdu::laws::writing();
+    x224_class2::laws::segments();
+    sapdu::laws::messages();
+    sapdu::laws::spelled_is_read();
+    sapdu::laws::lengths_of_spellings();
+    safety_automaton::laws::steps();
+    safety_automaton::laws::lengths();
+    cbc_mac::laws::mac_below();
+}
+
+/// A line that only loses and repeats: the first frame that waits is one frame at the other end, and nothing besides.
+pub fn one_frame()
+    ensures { OneFrame }
 {
     er_settings::laws::allowed_are_bounded();
     station_model::laws::receives_give();
@@ -93,6 +113,29 @@ pub fn delivery_bound()
 /// A loss-free line, where the radio block centre finds the engine's KMAC: never more than 254 frames wait in one direction.
 pub fn few_wait()
     ensures { FewWait }
+{
+    er_settings::laws::allowed_are_bounded();
+    station_model::laws::receives_give();
+    station_model::laws::ticks_give();
+    station_model::laws::others_keep();
+    station_model::laws::releases_are_told();
+    station_pair::laws::calls_keep();
+    station_pair::laws::loss_free_keeps();
+    t70_header::laws::wrapping();
+    x224_tpdu::laws::writing();
+    x224_class2::laws::segments();
+    sapdu::laws::messages();
+    sapdu::laws::spelled_is_read();
+    sapdu::laws::lengths_of_spellings();
+    safety_automaton::laws::steps();
+    safety_automaton::laws::lengths();
+    cbc_mac::laws::mac_below();
+}
+
+/// A loss-free line, where the radio block centre finds the engine's KMAC: the two safety sides are in step. Both know the same connection as
+/// soon as they know one, and none has verified a text of the set-up that the other hadn't sealed.
+pub fn in_step()
+    ensures { InStep }
 {
     er_settings::laws::allowed_are_bounded();
     station_model::laws::receives_give();

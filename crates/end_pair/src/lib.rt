@@ -1,6 +1,6 @@
 //! Two ends of the whole stack (a station, network blocks, a transport and a safety side, one above the other) over two lines that
 //! lose, repeat and alter frames: what each end accepts, and why it is released; and over lines that lose nothing: that all arrives, by how
-//! many deliveries, and how many frames wait.
+//! many deliveries, how many frames wait, and how far both safety sides are.
 //!
 //! The definitions of the link and of its steps stand in `specs/Links.antt` and `specs/Steps.antt`, the statements in
 //! `specs/Laws.antt`; `laws` proves them. Nothing here runs.

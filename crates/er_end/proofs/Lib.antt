@@ -3,3 +3,4 @@ pub mod Tying
 pub mod Lines
 pub mod Uppers
 pub mod Standings
+pub mod Keepings

@@ -5,3 +5,4 @@ pub mod KeptEnds
 pub mod Shown
 pub mod Standing
 pub mod Resting
+pub mod Keeping

@@ -169,6 +169,8 @@ impl End {
         requires { now ≤ 1000000000000000 }
         ensures* after { sem 𝓛 (Rests self.entry (after_octets (key_at (K.entries keys.now)) now piece.now self.old)) }
         ensures used { result.0 ≡ used_of self.old piece.now }
+        ensures within { result.0 ≤ length piece.now }
+        ensures moves { 0 < length piece.now → 0 < result.0 }
         ensures shows { Shows result.1 (after_octets (key_at (K.entries keys.now)) now piece.now self.old).core }
     {
         let used = self.read(keys, now, piece);
@@ -181,6 +183,8 @@ impl End {
         requires { now ≤ 1000000000000000 }
         ensures after { self.new ≡ after_octets (key_at (K.entries keys.now)) now piece.now self.old }
         ensures used { result ≡ used_of self.old piece.now }
+        ensures within { result ≤ length piece.now }
+        ensures moves { 0 < length piece.now → 0 < result }
     {
         self.layers.begin_at(now);
         if self.layers.is_released() {

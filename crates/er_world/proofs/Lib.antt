@@ -17,3 +17,6 @@ pub mod StackTells
 pub mod StackRows
 pub mod StackOctets
 pub mod StackCalls
+pub mod Sends
+pub mod Counting
+pub mod WorldTotals

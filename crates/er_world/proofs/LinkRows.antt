@@ -9,17 +9,16 @@ use Rattle.des_block.specs.declared.triple_key.TripleKey.{TripleKey}
 use Rattle.safety_automaton.specs.Keys.{key_at}
 use Rattle.safe_pair.specs.Facts.{MarkedFact, SideFact, marked, marked_from}
 use Rattle.safe_pair.specs.Marks.{MarksGrow}
-use Rattle.drill_model.specs.Outcomes.{Outcome, OfSafety, Refused, Released, Frame, UserReleased, Passed, NothingWaits, Occurrence, at_end, facts_in, frames_in, Handed, Arrived, Up, Took, NothingToTake, Expired}
+use Rattle.drill_model.specs.declared.totals.Totals.{Totals}
+use Rattle.drill_model.specs.Outcomes.{Outcome, UserReleased, Passed, NothingWaits, Occurrence, at_end, facts_in, frames_in}
 use Rattle.drill_model.specs.Ends.{End, EndEvent, end_step}
 use Rattle.drill_model.specs.Ends as model
 use Rattle.drill_model.specs.Waiting.{changes}
 use Rattle.drill_model.specs.Links.{Link, key_on, waiting_of, with_waiting, give, onto, Pass, Change, Release, Tick, pass, change_waiting, link_step}
 use Rattle.drill_model.specs.Marks.{marks_behind}
-use Rattle.drill_model.specs.Kinds.{passed_in, deliveries}
 use Rattle.drill_model.specs.Texts.{link_lines, marked_line, empty_line}
 use Rattle.drill_model.specs.Growth.{FactsGrow, LinkMarksGrow}
 use Rattle.er_world.specs.declared.place.Place.{Place}
-use Rattle.er_world.specs.declared.told.Told.{Told}
 use Rattle.er_world.specs.declared.port.Port.{Port}
 use Rattle.er_world.specs.declared.ledger.Ledger.{Ledger}
 use Rattle.er_world.specs.declared.link.Link.{Link as KeptLink}
@@ -27,40 +26,14 @@ use Rattle.er_world.specs.declared.action.LineChange.{LineChange}
 use Rattle.er_world.specs.declared.waiting.Change.{Change as Changed}
 use Rattle.er_world.specs.declared.waiting.Change.TheVariants as result
 use Rattle.er_world.specs.Changes.{outcomes_of, change_of, change_line}
-use Rattle.er_world.specs.Tellings.{IsTold, AreTold}
 use Rattle.er_world.specs.KeptEnds.{StandsEnd}
 use Rattle.er_world.specs.Ledgers.{HoldsLedger}
 use Rattle.er_world.specs.Ports.{PortWent}
+use Rattle.er_world.specs.Counts.{counts_of, counted_told, counted_pass, counted_change}
 use Rattle.er_world.specs.KeptLinks.{waiting_at, with_waiting_at, StandsLink, LinkWent, LinkDoes, TakesFirst, ChangesFrames}
+use Rattle.er_world.proofs.Counting.{quiet_counts, passed_counts, changed_counts, told_counts}
 
 -- ---- what came, and what came then
-
-deliveries_more : (xs ys : List Occurrence) → deliveries (xs ++ ys) ≡ deliveries xs + deliveries ys
-deliveries_more xs ys =
-    ap length (flat_map-append (λ (o : Occurrence). passed_in o.outcome) xs ys)
-    ∙ length-append (flat_map (λ (o : Occurrence). passed_in o.outcome) xs) (flat_map (λ (o : Occurrence). passed_in o.outcome) ys)
-
--- an end tells of no delivery
-none_passed : (o : Outcome) (t : Told) → IsTold o t → passed_in o ≡ []
-none_passed (OfSafety fact) t is = refl
-none_passed (Refused refusal) t is = refl
-none_passed (Released release) t is = refl
-none_passed (Frame octets) t is = refl
-none_passed (Arrived payload) t is = refl
-none_passed Up t is = refl
-none_passed (Took message) t is = refl
-none_passed NothingToTake t is = refl
-none_passed o t is = absurd is
-
-no_deliveries : (side : Side) (outcomes : List Outcome) (list : List Told) → AreTold outcomes list
-    → flat_map (λ (o : Occurrence). passed_in o.outcome) (map (at_end side) outcomes) ≡ []
-no_deliveries side [] list are = refl
-no_deliveries side (Handed payload ∷ outcomes) list are = no_deliveries side outcomes list are
-no_deliveries side (Expired ∷ outcomes) list are = no_deliveries side outcomes list are
-no_deliveries side (o ∷ outcomes) [] are = absurd are
-no_deliveries side (o ∷ outcomes) (t ∷ list) are =
-    ap (λ (xs : List (List ℕ)). xs ++ flat_map (λ (p : Occurrence). passed_in p.outcome) (map (at_end side) outcomes)) (none_passed o t are.0)
-    ∙ no_deliveries side outcomes list are.1
 
 -- what a law of the crates below says of marks and facts
 pub record Grows : Type 0 where
@@ -72,17 +45,10 @@ pub marked_more : Grows → (history came : List Occurrence)
     → marked (facts_in (history ++ came)) ≡ marked (facts_in history) ++ marked_from (marked (facts_in history)) (facts_in came)
 marked_more grows history came = ap marked (grows.facts history came) ∙ grows.marks [] (facts_in history) (facts_in came)
 
-same_passes : (history came : List Occurrence) (passes : ℕ) → deliveries came ≡ 0 → passes ≡ min (deliveries history) (2 ^ 64 - 1)
-    → passes ≡ min (deliveries (history ++ came)) (2 ^ 64 - 1)
-same_passes history came passes none is =
-    let more : deliveries (history ++ came) ≡ deliveries history =
-    deliveries_more history came ∙ ap (λ n. deliveries history + n) none ∙ (let zero_more : deliveries history + 0 ≡ deliveries history = omega arith in zero_more) in
-    is ∙ ap (λ n. min n (2 ^ 64 - 1)) (sym more)
-
--- where nothing that is kept came
-pub stands_more : Grows → (kept : KeptLink) (l : Link) (history came : List Occurrence) → facts_in came ≡ [] → deliveries came ≡ 0
-    → StandsLink kept l history → StandsLink kept l (history ++ came)
-stands_more grows kept l history came no_facts none st =
+-- where no fact came
+stands_counted : Grows → (kept : KeptLink) (l : Link) (history came : List Occurrence) (totals : Totals) → facts_in came ≡ []
+    → totals ≡ counts_of (history ++ came) → StandsLink kept l history → StandsLink (record kept { totals = totals }) l (history ++ came)
+stands_counted grows kept l history came totals no_facts counts st =
     let facts : marked (facts_in (history ++ came)) ≡ marked (facts_in history) =
     marked_more grows history came ∙ ap (λ (fs : List SideFact). marked (facts_in history) ++ marked_from (marked (facts_in history)) fs) no_facts
     ∙ append-nil (marked (facts_in history)) in
@@ -94,8 +60,14 @@ stands_more grows kept l history came no_facts none st =
       keys = st.keys;
       moment = st.moment;
       holds = subst (HoldsLedger kept.ledger) (sym facts) st.holds;
-      passes = same_passes history came kept.passes none st.passes;
+      totals = counts;
     }
+
+-- where nothing that is kept or counted came
+pub stands_more : Grows → (kept : KeptLink) (l : Link) (history came : List Occurrence) → facts_in came ≡ []
+    → counts_of (history ++ came) ≡ counts_of history → StandsLink kept l history → StandsLink kept l (history ++ came)
+stands_more grows kept l history came no_facts none st =
+    stands_counted grows kept l history came kept.totals no_facts (st.totals ∙ sym none) st
 
 lines_more : (show : Bool) (number : ℕ) → Grows → (history first came : List Occurrence)
     → link_lines show number (marks_behind (marked (facts_in history)) (first ++ came))
@@ -124,23 +96,23 @@ then_went grows show number history first m a mid new before between now one the
 
 -- ---- an event at an end
 
-abbrev pub Answers : Place → EndEvent → KeptLink → Port → Port → Ledger → List ℕ → List ℕ → Type 0
-Answers place event old port new ledger before now =
+abbrev pub Answers : Place → EndEvent → KeptLink → Port → Port → Ledger → Totals → List ℕ → List ℕ → Type 0
+Answers place event old port new ledger counts before now =
     (end : End) (facts : List MarkedFact) → StandsEnd port.end end → HoldsLedger old.ledger facts
-    → PortWent place facts (end_step (key_at old.keys old.moment) old.moment end event) port.waiting new ledger before now
+    → PortWent place facts event (end_step (key_at old.keys old.moment) old.moment end event) port.waiting new ledger old.totals counts before now
 
-gave_e : Grows → (number : ℕ) (show : Bool) (event : EndEvent) (old : KeptLink) (port : Port) (ledger : Ledger) (before now : List ℕ)
+gave_e : Grows → (number : ℕ) (show : Bool) (event : EndEvent) (old : KeptLink) (port : Port) (ledger : Ledger) (counts : Totals) (before now : List ℕ)
     → old.moment < 2 ^ 64
-    → Answers (record { number = number; side = E; show = show }) event old old.e port ledger before now
-    → LinkDoes (λ l. give l E event) show number old (record old { e = port; ledger = ledger }) before now
-gave_e grows number show event old port ledger before now bound by =
+    → Answers (record { number = number; side = E; show = show }) event old old.e port ledger counts before now
+    → LinkDoes (λ l. give l E event) show number old (record old { e = port; ledger = ledger; totals = counts }) before now
+gave_e grows number show event old port ledger counts before now bound by =
     λ l history st.
     let place : Place = record { number = number; side = E; show = show } in
     let facts : List MarkedFact = marked (facts_in history) in
     let a : End × List Outcome = end_step (key_on l.opening) l.moment l.e event in
-    let K : (ℕ → ℕ → Option TripleKey) → Type 0 = λ k. PortWent place facts (end_step k old.moment l.e event) old.e.waiting port ledger before now in
-    let M : ℕ → Type 0 = λ m. PortWent place facts (end_step (key_on l.opening) m l.e event) old.e.waiting port ledger before now in
-    let w : PortWent place facts a old.e.waiting port ledger before now =
+    let K : (ℕ → ℕ → Option TripleKey) → Type 0 = λ k. PortWent place facts event (end_step k old.moment l.e event) old.e.waiting port ledger old.totals counts before now in
+    let M : ℕ → Type 0 = λ m. PortWent place facts event (end_step (key_on l.opening) m l.e event) old.e.waiting port ledger old.totals counts before now in
+    let w : PortWent place facts event a old.e.waiting port ledger old.totals counts before now =
     subst M st.moment (subst K (st.keys old.moment bound) (by l.e facts st.of_e st.holds)) in
     record {
       stands = record {
@@ -151,23 +123,23 @@ gave_e grows number show event old port ledger before now bound by =
         keys = st.keys;
         moment = st.moment;
         holds = subst (HoldsLedger ledger) (sym (marked_more grows history (map (at_end E) a.1))) w.all.holds;
-        passes = same_passes history (map (at_end E) a.1) old.passes (ap length (no_deliveries E a.1 w.list w.told)) st.passes;
+        totals = w.counts_are ∙ ap (counted_told event w.list) st.totals ∙ told_counts history E event a.1 w.list w.told w.sent_are;
       };
       printed = w.all.printed;
     }
 
-gave_r : Grows → (number : ℕ) (show : Bool) (event : EndEvent) (old : KeptLink) (port : Port) (ledger : Ledger) (before now : List ℕ)
+gave_r : Grows → (number : ℕ) (show : Bool) (event : EndEvent) (old : KeptLink) (port : Port) (ledger : Ledger) (counts : Totals) (before now : List ℕ)
     → old.moment < 2 ^ 64
-    → Answers (record { number = number; side = R; show = show }) event old old.r port ledger before now
-    → LinkDoes (λ l. give l R event) show number old (record old { r = port; ledger = ledger }) before now
-gave_r grows number show event old port ledger before now bound by =
+    → Answers (record { number = number; side = R; show = show }) event old old.r port ledger counts before now
+    → LinkDoes (λ l. give l R event) show number old (record old { r = port; ledger = ledger; totals = counts }) before now
+gave_r grows number show event old port ledger counts before now bound by =
     λ l history st.
     let place : Place = record { number = number; side = R; show = show } in
     let facts : List MarkedFact = marked (facts_in history) in
     let a : End × List Outcome = end_step (key_on l.opening) l.moment l.r event in
-    let K : (ℕ → ℕ → Option TripleKey) → Type 0 = λ k. PortWent place facts (end_step k old.moment l.r event) old.r.waiting port ledger before now in
-    let M : ℕ → Type 0 = λ m. PortWent place facts (end_step (key_on l.opening) m l.r event) old.r.waiting port ledger before now in
-    let w : PortWent place facts a old.r.waiting port ledger before now =
+    let K : (ℕ → ℕ → Option TripleKey) → Type 0 = λ k. PortWent place facts event (end_step k old.moment l.r event) old.r.waiting port ledger old.totals counts before now in
+    let M : ℕ → Type 0 = λ m. PortWent place facts event (end_step (key_on l.opening) m l.r event) old.r.waiting port ledger old.totals counts before now in
+    let w : PortWent place facts event a old.r.waiting port ledger old.totals counts before now =
     subst M st.moment (subst K (st.keys old.moment bound) (by l.r facts st.of_r st.holds)) in
     record {
       stands = record {
@@ -178,7 +150,7 @@ gave_r grows number show event old port ledger before now bound by =
         keys = st.keys;
         moment = st.moment;
         holds = subst (HoldsLedger ledger) (sym (marked_more grows history (map (at_end R) a.1))) w.all.holds;
-        passes = same_passes history (map (at_end R) a.1) old.passes (ap length (no_deliveries R a.1 w.list w.told)) st.passes;
+        totals = w.counts_are ∙ ap (counted_told event w.list) st.totals ∙ told_counts history R event a.1 w.list w.told w.sent_are;
       };
       printed = w.all.printed;
     }
@@ -186,21 +158,21 @@ gave_r grows number show event old port ledger before now bound by =
 pub place_at : (place : Place) (side : Side) → place.side ≡ side → place ≡ record { number = place.number; side = side; show = place.show }
 place_at place side is = ap (λ (s : Side). record { number = place.number; side = s; show = place.show }) is
 
-pub gives_e : Grows → (place : Place) (event : EndEvent) (old : KeptLink) (port : Port) (ledger : Ledger) (before now : List ℕ)
-    → place.side ≡ E → old.moment < 2 ^ 64 → Answers place event old old.e port ledger before now
-    → LinkDoes (λ l. give l place.side event) place.show place.number old (record old { e = port; ledger = ledger }) before now
-gives_e grows place event old port ledger before now is bound by =
-    let Q : Place → Type 0 = λ p. Answers p event old old.e port ledger before now in
-    let P : Side → Type 0 = λ s. LinkDoes (λ l. give l s event) place.show place.number old (record old { e = port; ledger = ledger }) before now in
-    subst P (sym is) (gave_e grows place.number place.show event old port ledger before now bound (subst Q (place_at place E is) by))
+pub gives_e : Grows → (place : Place) (event : EndEvent) (old : KeptLink) (port : Port) (ledger : Ledger) (counts : Totals) (before now : List ℕ)
+    → place.side ≡ E → old.moment < 2 ^ 64 → Answers place event old old.e port ledger counts before now
+    → LinkDoes (λ l. give l place.side event) place.show place.number old (record old { e = port; ledger = ledger; totals = counts }) before now
+gives_e grows place event old port ledger counts before now is bound by =
+    let Q : Place → Type 0 = λ p. Answers p event old old.e port ledger counts before now in
+    let P : Side → Type 0 = λ s. LinkDoes (λ l. give l s event) place.show place.number old (record old { e = port; ledger = ledger; totals = counts }) before now in
+    subst P (sym is) (gave_e grows place.number place.show event old port ledger counts before now bound (subst Q (place_at place E is) by))
 
-pub gives_r : Grows → (place : Place) (event : EndEvent) (old : KeptLink) (port : Port) (ledger : Ledger) (before now : List ℕ)
-    → place.side ≡ R → old.moment < 2 ^ 64 → Answers place event old old.r port ledger before now
-    → LinkDoes (λ l. give l place.side event) place.show place.number old (record old { r = port; ledger = ledger }) before now
-gives_r grows place event old port ledger before now is bound by =
-    let Q : Place → Type 0 = λ p. Answers p event old old.r port ledger before now in
-    let P : Side → Type 0 = λ s. LinkDoes (λ l. give l s event) place.show place.number old (record old { r = port; ledger = ledger }) before now in
-    subst P (sym is) (gave_r grows place.number place.show event old port ledger before now bound (subst Q (place_at place R is) by))
+pub gives_r : Grows → (place : Place) (event : EndEvent) (old : KeptLink) (port : Port) (ledger : Ledger) (counts : Totals) (before now : List ℕ)
+    → place.side ≡ R → old.moment < 2 ^ 64 → Answers place event old old.r port ledger counts before now
+    → LinkDoes (λ l. give l place.side event) place.show place.number old (record old { r = port; ledger = ledger; totals = counts }) before now
+gives_r grows place event old port ledger counts before now is bound by =
+    let Q : Place → Type 0 = λ p. Answers p event old old.r port ledger counts before now in
+    let P : Side → Type 0 = λ s. LinkDoes (λ l. give l s event) place.show place.number old (record old { r = port; ledger = ledger; totals = counts }) before now in
+    subst P (sym is) (gave_r grows place.number place.show event old port ledger counts before now bound (subst Q (place_at place R is) by))
 
 -- ---- the frames that wait
 
@@ -219,7 +191,7 @@ stands_with kept l history E frames st = record {
   keys = st.keys;
   moment = st.moment;
   holds = st.holds;
-  passes = st.passes;
+  totals = st.totals;
 }
 stands_with kept l history R frames st = record {
   of_e = st.of_e;
@@ -229,7 +201,7 @@ stands_with kept l history R frames st = record {
   keys = st.keys;
   moment = st.moment;
   holds = st.holds;
-  passes = st.passes;
+  totals = st.totals;
 }
 
 -- what came of a change is printed, and nothing is kept of it
@@ -242,15 +214,6 @@ quiet_facts side result.Altered = refl
 quiet_facts side result.Inserted = refl
 quiet_facts side result.Unchanged = refl
 
-quiet_passes : (side : Side) (c : Changed) → deliveries (map (at_end side) (outcomes_of c)) ≡ 0
-quiet_passes side result.Empty = refl
-quiet_passes side (result.Short found) = refl
-quiet_passes side result.Lost = refl
-quiet_passes side result.Repeated = refl
-quiet_passes side result.Altered = refl
-quiet_passes side result.Inserted = refl
-quiet_passes side result.Unchanged = refl
-
 change_lines : (place : Place) (facts : List MarkedFact) (c : Changed)
     → change_line place c ≡ link_lines place.show place.number (marks_behind facts (map (at_end place.side) (outcomes_of c)))
 change_lines place facts result.Empty = sym (append-nil (change_line place result.Empty))
@@ -262,10 +225,10 @@ change_lines place facts result.Inserted = refl
 change_lines place facts result.Unchanged = refl
 
 -- the line changed what waits
-pub changes_so : Grows → (place : Place) (how : LineChange) (c : Changed) (old new : KeptLink) (before now : List ℕ)
-    → ChangesFrames old place.side how c new → now ≡ before ++ change_line place c
-    → LinkDoes (λ l. link_step l (Change place.side (change_of how))) place.show place.number old new before now
-changes_so grows place how c old new before now ch shows =
+pub changes_so : Grows → (place : Place) (how : LineChange) (c : Changed) (old new : KeptLink) (counts : Totals) (before now : List ℕ)
+    → ChangesFrames old place.side how c new → counts ≡ counted_change c new.totals → now ≡ before ++ change_line place c
+    → LinkDoes (λ l. link_step l (Change place.side (change_of how))) place.show place.number old (record new { totals = counts }) before now
+changes_so grows place how c old new counts before now ch count shows =
     λ l history st.
     let side : Side = place.side in
     let came : List Occurrence = map (at_end side) (outcomes_of c) in
@@ -274,9 +237,10 @@ changes_so grows place how c old new before now ch shows =
     let with' : StandsLink new (with_waiting l side (waiting_at new side)) history =
     subst (λ (k : KeptLink). StandsLink k (with_waiting l side (waiting_at new side)) history) (sym ch.others)
     (stands_with old l history side (waiting_at new side) st) in
-    let P : List (List ℕ) × List Outcome → Type 0 = λ b. LinkWent (change_waiting l side b) place.show place.number history new before now in
+    let P : List (List ℕ) × List Outcome → Type 0 = λ b. LinkWent (change_waiting l side b) place.show place.number history (record new { totals = counts }) before now in
     subst P (sym a) (record {
-      stands = stands_more grows new (with_waiting l side (waiting_at new side)) history came (quiet_facts side c) (quiet_passes side c) with';
+      stands = stands_counted grows new (with_waiting l side (waiting_at new side)) history came counts (quiet_facts side c)
+          (count ∙ ap (counted_change c) with'.totals ∙ sym (changed_counts history side c)) with';
       printed = shows ∙ ap (λ (xs : List ℕ). before ++ xs) (change_lines place (marked (facts_in history)) c);
     })
 
@@ -287,7 +251,7 @@ pub releases_so : Grows → (place : Place) (sub : ℕ) (old new : KeptLink) (be
 releases_so grows place sub old new before now by =
     λ l history st.
     let first : List Occurrence = at_end place.side (UserReleased sub) ∷ [] in
-    let told : StandsLink old l (history ++ first) = stands_more grows old l history first refl refl st in
+    let told : StandsLink old l (history ++ first) = stands_more grows old l history first refl (quiet_counts history place.side (UserReleased sub) refl refl refl refl refl) st in
     then_went grows place.show place.number history first l (give l place.side (model.Release sub)) old new before before now
     (record { stands = told; printed = sym (append-nil before) }) (by l (history ++ first) told)
 
@@ -303,40 +267,17 @@ passes_none grows place old new before now takes shows =
     let first : List Occurrence = at_end place.side NothingWaits ∷ [] in
     let P : List (List ℕ) → Type 0 = λ frames. LinkWent (pass l place.side frames) place.show place.number history new before now in
     subst P (sym none) (record {
-      stands = stands_more grows new l history first refl refl (subst (λ (k : KeptLink). StandsLink k l history) (sym takes.1) st);
+      stands = stands_more grows new l history first refl (quiet_counts history place.side NothingWaits refl refl refl refl refl) (subst (λ (k : KeptLink). StandsLink k l history) (sym takes.1) st);
       printed = shows ∙ ap (λ (xs : List ℕ). before ++ xs) (sym (append-nil (empty_line place.number place.side)));
     })
 
-one_more : (n : ℕ) → min (min n (2 ^ 64 - 1) + 1) (2 ^ 64 - 1) ≡ min (n + 1) (2 ^ 64 - 1)
-one_more n = omega arith
-
--- a frame was taken: a delivery more
-stands_passed : Grows → (kept : KeptLink) (l : Link) (history : List Occurrence) (side : Side) (frame : List ℕ) (passes : ℕ)
-    → StandsLink kept l history → passes ≡ min (kept.passes + 1) (2 ^ 64 - 1)
-    → StandsLink (record kept { passes = passes }) l (history ++ at_end side (Passed frame) ∷ [])
-stands_passed grows kept l history side frame passes st is =
-    let first : List Occurrence = at_end side (Passed frame) ∷ [] in
-    let facts : marked (facts_in (history ++ first)) ≡ marked (facts_in history) =
-    marked_more grows history first ∙ append-nil (marked (facts_in history)) in
-    record {
-      of_e = st.of_e;
-      of_r = st.of_r;
-      from_e = st.from_e;
-      from_r = st.from_r;
-      keys = st.keys;
-      moment = st.moment;
-      holds = subst (HoldsLedger kept.ledger) (sym facts) st.holds;
-      passes = is ∙ ap (λ n. min (n + 1) (2 ^ 64 - 1)) st.passes ∙ one_more (deliveries history)
-          ∙ ap (λ n. min n (2 ^ 64 - 1)) (sym (deliveries_more history first));
-    }
-
 -- a frame was passed
-pub passes_some : Grows → (place there : Place) (old mid new : KeptLink) (frame : List ℕ) (passes : ℕ) (before now : List ℕ)
+pub passes_some : Grows → (place there : Place) (old mid new : KeptLink) (frame : List ℕ) (counts : Totals) (before now : List ℕ)
     → TakesFirst old place.side (Some frame) mid → there ≡ record place { side = other place.side }
-    → passes ≡ min (mid.passes + 1) (2 ^ 64 - 1)
-    → LinkDoes (λ l. give l there.side (model.Receive frame)) there.show there.number (record mid { passes = passes }) new before now
+    → counts ≡ counted_pass mid.totals
+    → LinkDoes (λ l. give l there.side (model.Receive frame)) there.show there.number (record mid { totals = counts }) new before now
     → LinkDoes (λ l. link_step l (Pass place.side)) place.show place.number old new before now
-passes_some grows place there old mid new frame passes before now takes far count by =
+passes_some grows place there old mid new frame counts before now takes far count by =
     λ l history st.
     let side : Side = place.side in
     let frames : List (List ℕ) = waiting_at mid side in
@@ -345,13 +286,14 @@ passes_some grows place there old mid new frame passes before now takes far coun
     let m : Link = with_waiting l side frames in
     let taken : StandsLink mid m history =
     subst (λ (k : KeptLink). StandsLink k m history) (sym takes.1) (stands_with old l history side frames st) in
-    let passed : StandsLink (record mid { passes = passes }) m (history ++ first) = stands_passed grows mid m history side frame passes taken count in
+    let passed : StandsLink (record mid { totals = counts }) m (history ++ first) =
+    stands_counted grows mid m history first counts refl (count ∙ ap counted_pass taken.totals ∙ sym (passed_counts history side frame)) taken in
     let F : Place → Type 0 = λ p. LinkWent (give m p.side (model.Receive frame)) p.show p.number (history ++ first) new before now in
     let went : LinkWent (give m (other side) (model.Receive frame)) place.show place.number (history ++ first) new before now =
     subst F far (by m (history ++ first) passed) in
     let P : List (List ℕ) → Type 0 = λ fs. LinkWent (pass l side fs) place.show place.number history new before now in
     subst P (sym waits)
-    (then_went grows place.show place.number history first m (give m (other side) (model.Receive frame)) (record mid { passes = passes }) new before before now
+    (then_went grows place.show place.number history first m (give m (other side) (model.Receive frame)) (record mid { totals = counts }) new before before now
     (record { stands = passed; printed = sym (append-nil before) }) went)
 
 -- ---- a tick
@@ -367,7 +309,7 @@ stands_at kept l history moment st = record {
   keys = st.keys;
   moment = ap (λ (m : ℕ). max m moment) st.moment;
   holds = st.holds;
-  passes = st.passes;
+  totals = st.totals;
 }
 
 pub ticks_so : Grows → (number : ℕ) (show : Bool) (moment later : ℕ) (old mid new : KeptLink) (before between now : List ℕ) → later ≡ max old.moment moment

@@ -55,7 +55,7 @@ stands_joined opening e r of_model_e of_model_r keys moment of_e of_r found = re
   keys = found;
   moment = refl;
   holds = record { same = λ key text. refl; of_e = refl; of_r = refl };
-  passes = refl;
+  totals = refl;
 }
 
 pub stands_new : (opening : PairOpening) (e r : DrillEnd) (keys : List Entry) (moment : ℕ)

@@ -185,7 +185,7 @@ module _ (s : Step) (old mid new : KeptWorld) (start text : List ℕ) where
 closed_link : (n : ℕ) (kept : KeptLink) (l : Link) (history : List Occurrence) → StandsLink kept l history
     → closing_kept n kept ≡ closing_line n (deliveries history) (length l.from_e) (length l.from_r)
 unfolding closing_kept closing_line
-closed_link n kept l history st = rw (st.passes, st.from_e, st.from_r) refl
+closed_link n kept l history st = rw (st.totals, st.from_e, st.from_r) refl
 
 closed_place : (n : ℕ) (place : Option KeptLink) (o : Option Link) (came : List Came) → StandsPlace place o (history_on n came)
     → place_closing n place ≡ closing_at n o came

@@ -27,6 +27,7 @@ use Rattle.er_world.specs.declared.link.Link.{Link as KeptLink}
 use Rattle.er_world.specs.KeptLinks.{StandsLink, LinkWent, LinkDoes, Drains, waiting_at}
 use Rattle.er_world.specs.Standing.{KeptWorld, place_of, kept_at, StandsPlace, StandsWorld}
 use Rattle.er_world.specs.WorldSteps.{WorldWent, WorldDoes, Done, RefusedFor, Does}
+use Rattle.er_world.proofs.Counting.{quiet_counts}
 use Rattle.er_world.proofs.LinkRows.{stands_more, waits_alike}
 use Rattle.er_world.proofs.Places.{WorldGrows, set_again, read_there, there, nothing_there, is_link_there, at_same, at_other, stands_went, went_world, stays, lines-append}
 
@@ -294,7 +295,7 @@ copies_nothing f found grows w n m s t kept before now source some is none shows
           let empty : waiting_of a.link s ≡ [] =
           sym (waits_alike kept a.link (history_on n came) s a.stands) ∙ empty_frames (waiting_at kept s) none in
           let more : StandsLink kept a.link (history_on n came ++ first) =
-          stands_more grows.links kept a.link (history_on n came) first refl refl a.stands in
+          stands_more grows.links kept a.link (history_on n came) first refl (quiet_counts (history_on n came) s NothingWaits refl refl refl refl refl) a.stands in
           let went' : LinkWent (a.link, first) w.plan.show n (history_on n came) kept before now =
           record { stands = more; printed = shows ∙ ap (λ (xs : List ℕ). before ++ xs) (sym (append-nil (empty_line n s))) } in
           let end = went_world grows w v came n (a.link, first) kept before now st inside (is_link_there w v came n a.link st a.is) went' in

@@ -1,6 +1,6 @@
 -- Representation: a link as the code keeps it, and where it stands among the links of the model; no claim rests on it.
 use Rattle.std.specs.Fmt.{decimal}
-use Rattle.std.specs.Prelude.{ℕ, ◌≡◌, ◌+◌, ◌-◌, ◌<◌, ◌^◌, min, nat_lt, Bool, false, codes, if◌then◌else◌, List, [], ◌∷◌, ◌++◌, length, Option, Some, None}
+use Rattle.std.specs.Prelude.{ℕ, ◌≡◌, ◌+◌, ◌<◌, ◌^◌, nat_lt, Bool, false, codes, if◌then◌else◌, List, [], ◌∷◌, ◌++◌, length, Option, Some, None}
 use Rattle.er_base.specs.declared.side.Side.{Side}
 use Rattle.er_base.specs.declared.side.Side.TheVariants.{E, R}
 use Rattle.safety_automaton.specs.Keys.{Entry, key_at}
@@ -10,7 +10,6 @@ use Rattle.drill_model.specs.Waiting.{changes}
 use Rattle.drill_model.specs.Links.{Link, key_on}
 use Rattle.drill_model.specs.Worlds.{Drain, drain, next_of}
 use Rattle.drill_model.specs.Marks.{marks_behind}
-use Rattle.drill_model.specs.Kinds.{deliveries}
 use Rattle.drill_model.specs.Texts.{link_lines}
 use Rattle.er_world.specs.declared.waiting.Change.{Change}
 use Rattle.er_world.specs.declared.action.LineChange.{LineChange}
@@ -19,6 +18,7 @@ use Rattle.er_world.specs.declared.link.Link.{Link as KeptLink}
 use Rattle.er_world.specs.Changes.{outcomes_of, change_of}
 use Rattle.er_world.specs.KeptEnds.{StandsEnd}
 use Rattle.er_world.specs.Ledgers.{HoldsLedger}
+use Rattle.er_world.specs.Counts.{counts_of, no_totals}
 
 -- the frames of a side that wait
 abbrev pub waiting_at : KeptLink → Side → List (List ℕ)
@@ -37,7 +37,7 @@ new_link e r keys moment = record {
   keys = keys;
   ledger = record { pairs = []; e_mistrusts = false; r_mistrusts = false };
   moment = moment;
-  passes = 0;
+  totals = no_totals;
 }
 
 -- a link of the code stands where a link of the model does, at which this came
@@ -49,7 +49,7 @@ pub record StandsLink (kept : KeptLink) (l : Link) (history : List Occurrence) :
   pub keys : (now : ℕ) → now < 2 ^ 64 → key_at kept.keys now ≡ key_on l.opening
   pub moment : kept.moment ≡ l.moment
   pub holds : HoldsLedger kept.ledger (marked (facts_in history))
-  pub passes : kept.passes ≡ min (deliveries history) (2 ^ 64 - 1)
+  pub totals : kept.totals ≡ counts_of history
 
 -- it went on so, and its lines were printed
 pub record LinkWent (a : Link × List Occurrence) (show : Bool) (number : ℕ) (history : List Occurrence) (new : KeptLink) (before now : List ℕ)
@@ -112,5 +112,5 @@ pub record Drains (d : Drain) (show : Bool) (number passes : ℕ) (history : Lis
 -- the closing line of a link
 unfoldable pub closing_kept : ℕ → KeptLink → List ℕ
 closing_kept number kept =
-    (decimal number ++ (codes " end passes " ++ decimal kept.passes))
+    (decimal number ++ (codes " end passes " ++ decimal kept.totals.passes))
     ++ ((codes " waiting " ++ decimal (length kept.e.waiting)) ++ (codes " " ++ (decimal (length kept.r.waiting) ++ codes "\n")))

@@ -11,6 +11,7 @@ pub mod KeptEnds
 pub mod SafeEnds
 pub mod StationEnds
 pub mod StackEnds
+pub mod Counts
 pub mod Ports
 pub mod KeptLinks
 pub mod Standing

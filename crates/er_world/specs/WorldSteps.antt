@@ -3,6 +3,7 @@ use Rattle.std.specs.Prelude.{ℕ, zero, suc, ◌≡◌, ◌+◌, Bool, true, Li
 use Rattle.er_base.specs.declared.side.Side.{Side}
 use Rattle.er_scenario.specs.declared.step.Step.{Step}
 use Rattle.er_scenario.specs.declared.step.Step.TheVariants as does
+use Rattle.drill_model.specs.declared.totals.Totals.{Totals}
 use Rattle.drill_model.specs.declared.world_fault.WorldFault.{WorldFault}
 use Rattle.drill_model.specs.declared.world_fault.WorldFault.TheVariants.{NoLink, LinkTwice, MomentBack, Overfull, NoMemory}
 use Rattle.drill_model.specs.Worlds.{World, Came, ticks, then_world}
@@ -10,6 +11,7 @@ use Rattle.drill_model.specs.Marks.{marks_from}
 use Rattle.drill_model.specs.Texts.{lines}
 use Rattle.er_world.specs.declared.link.Link.{Link as KeptLink}
 use Rattle.er_world.specs.KeptLinks.{overfull_at, closing_kept}
+use Rattle.er_world.specs.Counts.{no_totals, sum}
 use Rattle.er_world.specs.Standing.{KeptWorld, StandsWorld, kept_at}
 
 -- a world went on so, behind all that came before: where it stands then, what was printed
@@ -122,3 +124,12 @@ place_closing n (Some kept) = closing_kept n kept
 unfoldable pub closing_lines : KeptWorld → (n count : ℕ) → List ℕ
 closing_lines kept n zero = []
 closing_lines kept n (suc count) = place_closing n (kept_at kept n) ++ closing_lines kept (n + 1) count
+
+-- the counts of the links from this number on, so many, with those before them
+abbrev pub place_totals : Option KeptLink → Totals
+place_totals None = no_totals
+place_totals (Some kept) = kept.totals
+
+unfoldable pub summed : KeptWorld → (n count : ℕ) → Totals → Totals
+summed kept n zero t = t
+summed kept n (suc count) t = summed kept (n + 1) count (sum t (place_totals (kept_at kept n)))

@@ -2,6 +2,7 @@
 #![tactic(auto)]
 
 mod action;
+mod counts;
 mod drill_end;
 mod end_event;
 mod finder;

@@ -13,6 +13,7 @@ ghost use Rattle.er_world.specs.Changes.{action_step, change_of, event_of};
 ghost use Rattle.er_world.specs.KeptLinks.{LinkDoes, TakesFirst, ChangesFrames, StandsLink, Drains, waiting_at, new_link, next_at, overfull_at, goes_on, closing_kept};
 
 use crate::action::{Action, LineChange};
+use crate::counts::{count_change, count_pass, no_totals};
 use crate::drill_end::DrillEnd;
 use crate::end_event::EndEvent;
 use crate::finder::OneKey;
@@ -22,13 +23,14 @@ use crate::moment::Moment;
 use crate::place::Place;
 use crate::port::Port;
 use crate::waiting::Change;
+use drill_model::Totals;
 use er_base::{NoMemory, Octets, Side};
 use std::alloc::Global;
 
 /// The most frames that may wait in one direction.
 pub const MOST_WAITING: usize = 4096;
 
-/// Two ends, the keys that they can find, what is kept of all that came, the moment, and the passes so far.
+/// Two ends, the keys that they can find, what is kept of all that came, the moment, and the counts so far.
 #[derive(Drop)]
 pub struct Link {
     e: Port,
@@ -36,7 +38,7 @@ pub struct Link {
     keys: OneKey,
     ledger: Ledger,
     moment: Moment,
-    passes: u64,
+    totals: Totals,
 }
 
 /// What the marks of a link are made of grows with what comes.
@@ -61,7 +63,7 @@ impl Link {
             keys,
             ledger: Ledger::new(alloc),
             moment,
-            passes: 0,
+            totals: no_totals(),
         }
     }
 
@@ -84,6 +86,7 @@ impl Link {
                 self.moment,
                 event,
                 &mut self.ledger,
+                &mut self.totals,
                 out,
             ),
             Side::R => self.r.answer(
@@ -93,6 +96,7 @@ impl Link {
                 self.moment,
                 event,
                 &mut self.ledger,
+                &mut self.totals,
                 out,
             ),
         }
@@ -116,7 +120,7 @@ impl Link {
         let Some(frame) = self.take_first(place.side) else {
             return print_empty(alloc, place, out);
         };
-        self.passes = self.passes.saturating_add(1);
+        count_pass(&mut self.totals);
         let event = EndEvent::Receive(frame.as_slice());
         self.give(alloc, place.other(), &event, out)
     }
@@ -136,7 +140,7 @@ impl Link {
         }
     }
 
-    /// The line changes the waiting frames of an end; what comes of it is printed.
+    /// The line changes the waiting frames of an end; what comes of it is counted and printed.
     fn change(
         &mut self,
         alloc: Global,
@@ -148,6 +152,7 @@ impl Link {
     {
         marks_grow();
         let change = self.change_frames(alloc, place.side, how)?;
+        count_change(change, &mut self.totals);
         print_change(alloc, place, change, out)
     }
 
@@ -204,6 +209,13 @@ impl Link {
         };
         self.give(alloc, e, &EndEvent::Tick, out)?;
         self.give(alloc, e.other(), &EndEvent::Tick, out)
+    }
+
+    /// The counts of all that came.
+    pub fn totals(&self) -> Totals
+        ensures { result ≡ self.now.totals }
+    {
+        self.totals
     }
 
     /// The octets of the first waiting frame of an end.
@@ -285,7 +297,7 @@ impl Link {
     {
         let mut line = Vec::new(alloc);
         put_count(b"", number as u64, &mut line)?;
-        put_count(b" end passes ", self.passes, &mut line)?;
+        put_count(b" end passes ", self.totals.passes, &mut line)?;
         put_count(b" waiting ", self.e.waiting().len() as u64, &mut line)?;
         put_count(b" ", self.r.waiting().len() as u64, &mut line)?;
         line.extend_from_slice(b"\n")?;

@@ -11,6 +11,7 @@ ghost use Rattle.er_world.specs.Ledgers.{HoldsLedger};
 ghost use Rattle.er_world.specs.Ports.{PortWent};
 
 use crate::action::LineChange;
+use crate::counts::count_told;
 use crate::drill_end::DrillEnd;
 use crate::end_event::EndEvent;
 use crate::finder::OneKey;
@@ -18,6 +19,7 @@ use crate::ledger::Ledger;
 use crate::moment::Moment;
 use crate::place::Place;
 use crate::waiting::{Change, Waiting};
+use drill_model::Totals;
 use er_base::{NoMemory, Octets};
 use std::alloc::Global;
 
@@ -62,7 +64,7 @@ impl Port {
         self.waiting.change(alloc, how)
     }
 
-    /// An event at this end, at a moment: what the end does is marked, printed, kept and queued.
+    /// An event at this end, at a moment: what the end does is counted, marked, printed, kept and queued.
     pub fn answer(
         &mut self,
         alloc: Global,
@@ -71,14 +73,18 @@ impl Port {
         now: Moment,
         event: &EndEvent,
         ledger: &mut Ledger,
+        totals: &mut Totals,
         out: &mut Vec<u8>,
     ) -> Result<(), NoMemory>
         ensures bound { now < 2 ^ 64 }
         ensures went { OnOk result ((end : End) (facts : List MarkedFact) → StandsEnd self.old.end end → HoldsLedger ledger.old facts
-            → PortWent place facts (end_step (key_at keys.now now) now end (event_of event.now)) self.old.waiting self.new ledger.new out.old.items out.new.items) }
+            → PortWent place facts (event_of event.now) (end_step (key_at keys.now now) now end (event_of event.now)) self.old.waiting self.new ledger.new
+            totals.old totals.new out.old.items out.new.items) }
     {
+        safety_automaton::laws::steps();
         let _ = now.get();
         let told = self.end.answer(alloc, keys, now, event)?;
+        count_told(event, &told, totals);
         ledger.tell_all(alloc, place, told, &mut self.waiting, out)
     }
 }

@@ -1,7 +1,8 @@
-ghost use Rattle.std.specs.Prelude.{◌≡◌, IfOk};
+ghost use Rattle.std.specs.Prelude.{◌≡◌, false, IfOk};
 ghost use Rattle.er_scenario.specs.declared.level.Level.TheVariants as level;
 ghost use Rattle.drill_model.specs.Steps.{IsOfLevel, HasEtcsNumbers, HasMoment};
 
+use crate::lines::put_count;
 use crate::{World, WorldFault};
 use des_block::TripleKey;
 use er_base::{NoMemory, Octets, Side};
@@ -121,7 +122,19 @@ fn take(alloc: Global, world: &mut World, step: &Step, out: &mut Vec<u8>) -> Res
     }
 }
 
-/// What these moves print, each on the link of its number, the closing lines included.
+/// Prints the totals of a world.
+fn put_totals(world: &World, out: &mut Vec<u8>) -> Result<(), NoMemory>
+    requires { world.now.spent ≡ false }
+{
+    let totals = world.totals();
+    put_count(b"sent ", totals.sent, out)?;
+    put_count(b" accepted ", totals.accepted, out)?;
+    put_count(b" passes ", totals.passes, out)?;
+    put_count(b" lost ", totals.lost, out)?;
+    put_count(b" repeated ", totals.repeated, out)
+}
+
+/// What these moves print, each on the link of its number, the closing lines and the totals included.
 fn printed(alloc: Global, show: bool, moves: &[(u8, Move)]) -> Result<Vec<u8>, NoMemory> {
     let mut out = Vec::new(alloc);
     let mut world = World::new(alloc, Level::Safe, Settings::usual(), show)?;
@@ -133,6 +146,7 @@ fn printed(alloc: Global, show: bool, moves: &[(u8, Move)]) -> Result<Vec<u8>, N
         return Ok(out);
     }
     world.summary(alloc, &mut out)?;
+    put_totals(&world, &mut out)?;
     Ok(out)
 }
 
@@ -150,7 +164,7 @@ fn marks_what_another_link_sealed(rt: HostRuntime) -> Result<(), Fail> {
     ];
     let text = printed(rt.alloc(), false, &moves)?;
     let want =
-        b"1 r connected 5\n1 e connected 9\n1 passes 4\n2 r connected 5\n2 e connected 9\n2 passes 4\n2 r accepted 41 forged\n1 end passes 4 waiting 1 0\n2 end passes 5 waiting 0 0\n";
+        b"1 r connected 5\n1 e connected 9\n1 passes 4\n2 r connected 5\n2 e connected 9\n2 passes 4\n2 r accepted 41 forged\n1 end passes 4 waiting 1 0\n2 end passes 5 waiting 0 0\nsent 1 accepted 1 passes 9 lost 0 repeated 0";
     assert_eq!(rt; text.as_slice(), want.as_slice());
     Ok(())
 }
@@ -175,7 +189,7 @@ fn changes_what_waits(rt: HostRuntime) -> Result<(), Fail> {
     ];
     let text = printed(rt.alloc(), true, &moves)?;
     let want =
-        b"no link\nlink twice\n3 e empty\n3 e short 3\n3 r released 7 9 peer\n3 e released 0 44 local\n3 e frame 10002c\n3 e refused released 0 44\nno link\n3 end passes 1 waiting 1 0\n";
+        b"no link\nlink twice\n3 e empty\n3 e short 3\n3 r released 7 9 peer\n3 e released 0 44 local\n3 e frame 10002c\n3 e refused released 0 44\nno link\n3 end passes 1 waiting 1 0\nsent 0 accepted 0 passes 1 lost 1 repeated 1";
     assert_eq!(rt; text.as_slice(), want.as_slice());
     Ok(())
 }
@@ -232,7 +246,7 @@ fn wire_step_of(alloc: Global, made: &WireMove) -> Result<Step, NoMemory>
     }
 }
 
-/// What these moves of level link print, the closing line included.
+/// What these moves of level link print, the closing line and the totals included.
 fn printed_of_wire(alloc: Global, moves: &[WireMove]) -> Result<Vec<u8>, NoMemory> {
     let mut out = Vec::new(alloc);
     let mut world = World::new(alloc, Level::Link, Settings::usual(), false)?;
@@ -244,6 +258,7 @@ fn printed_of_wire(alloc: Global, moves: &[WireMove]) -> Result<Vec<u8>, NoMemor
         return Ok(out);
     }
     world.summary(alloc, &mut out)?;
+    put_totals(&world, &mut out)?;
     Ok(out)
 }
 
@@ -275,7 +290,7 @@ fn makes_good_what_a_line_loses(rt: HostRuntime) -> Result<(), Fail> {
     ];
     let text = printed_of_wire(rt.alloc(), &moves)?;
     let want =
-        b"1 r up\n1 e up\n1 passes 2\n1 r accepted 41\n1 r accepted 42\n1 passes 6\n1 r accepted 43\nmoment back\n1 passes 2\n1 e released 1 3 local\n1 r refused length 0\n1 r released 0 9 local\n1 e refused released 1 3\n1 passes 2\n1 end passes 15 waiting 0 0\n";
+        b"1 r up\n1 e up\n1 passes 2\n1 r accepted 41\n1 r accepted 42\n1 passes 6\n1 r accepted 43\nmoment back\n1 passes 2\n1 e released 1 3 local\n1 r refused length 0\n1 r released 0 9 local\n1 e refused released 1 3\n1 passes 2\n1 end passes 15 waiting 0 0\nsent 3 accepted 3 passes 15 lost 2 repeated 0";
     assert_eq!(rt; text.as_slice(), want.as_slice());
     Ok(())
 }

@@ -11,15 +11,17 @@ ghost use Rattle.safe_pair.specs.Marks.{MarksGrow};
 ghost use Rattle.drill_model.specs.Growth.{FactsGrow, HistoryGrows, HistoryOfOwn, HistoryOfOther, LinkMarksGrow, WorldMarksGrow, LinkText};
 ghost use Rattle.drill_model.specs.Steps.{IsOfLevel, HasEtcsNumbers, HasMoment};
 ghost use Rattle.drill_model.specs.Links.{OfPair, OfStations, OfStacks, Tick, opened};
-ghost use Rattle.drill_model.specs.Worlds.{Plan, link_at, is_link, link_opening, wire_opening, open_link, at_link, drain_link, copy_between, ticks, ticked, world_step};
+ghost use Rattle.drill_model.specs.Worlds.{Plan, link_at, is_link, link_opening, wire_opening, open_link, at_link, drain_link, copy_between, ticks, ticked, world_run, world_step};
 ghost use Rattle.drill_model.specs.Faults.{wants, wants_closed, wants_moment, or_else, refusal};
 ghost use Rattle.drill_model.specs.Texts.{last_lines};
+ghost use Rattle.drill_model.specs.Totals.{totals_of};
 ghost use Rattle.er_world.specs.Changes.{action_step};
 ghost use Rattle.er_world.specs.KeptLinks.{LinkWent, waiting_at};
 ghost use Rattle.er_world.specs.Standing.{Ran, Applied, IsFaultBehind, LeavesIt, kept_at};
-ghost use Rattle.er_world.specs.WorldSteps.{Does, WorldDoes, Ends, left_by, touched, overfull_in, overfull_from, overfull_by, place_closing, closing_lines};
+ghost use Rattle.er_world.specs.WorldSteps.{Does, WorldDoes, Ends, left_by, touched, overfull_in, overfull_from, overfull_by, place_closing, place_totals, closing_lines};
 
 use crate::action::{Action, LineChange};
+use crate::counts::{no_totals, sum};
 use crate::drill_end::DrillEnd;
 use crate::end_event::EndEvent;
 use crate::finder::OneKey;
@@ -29,7 +31,7 @@ use crate::moment::Moment;
 use crate::place::Place;
 use crate::station_end::StationEnd;
 use des_block::TripleKey;
-use drill_model::WorldFault;
+use drill_model::{Totals, WorldFault};
 use er_base::{NoMemory, Octets, Side};
 use er_end::End;
 use er_scenario::{Level, Step};
@@ -230,6 +232,30 @@ impl World {
         ensures { result ≡ self.now.spent }
     {
         self.spent
+    }
+
+    /// The totals of the run so far, over all links and both ends. Each stays at 2^64 - 1.
+    pub fn totals(&self) -> Totals
+        requires { self.now.spent ≡ false }
+        ensures { (plan : Plan) (steps : List AnyStep) → Ran self.now plan steps → result ≡ totals_of (world_run plan steps).1 }
+    {
+        let mut totals = no_totals();
+        let mut number = 1;
+        while number < 65 {
+            totals = sum(totals, self.totals_at(number));
+            number += 1;
+        }
+        totals
+    }
+
+    /// The counts of link N, if it was opened.
+    fn totals_at(&self, number: u8) -> Totals
+        ensures { result ≡ place_totals (kept_at self.now number) }
+    {
+        match self.link(number) {
+            Some(link) => link.totals(),
+            None => no_totals(),
+        }
     }
 
     /// Prints the closing lines, one for each link that was opened, their numbers rising. After want of memory nothing was printed.

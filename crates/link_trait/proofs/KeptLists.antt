@@ -8,8 +8,8 @@ use Rattle.link_trait.specs.declared.act.Act.{Act}
 use Rattle.link_trait.specs.declared.memory_line.MemoryLine.{MemoryLine}
 use Rattle.link_trait.specs.declared.call_record.KeptCall.{KeptCall}
 use Rattle.link_trait.specs.declared.call_record.CallRecord.{CallRecord}
-use Rattle.link_trait.specs.Wires.{Call, given_of, given_by}
-use Rattle.link_trait.specs.KeptCalls.{told, total, opens, call_of, Sound, Keeps, Stands, StaysOpen}
+use Rattle.link_trait.specs.Wires.{Call, Reading, Gave, NotNow, End, Failed, Reads, taken_of, taken_by, given_of, given_by}
+use Rattle.link_trait.specs.KeptCalls.{told, total, opens, call_of, Sound, Keeps, Stands, StaysOpen, IsUntouched}
 use Rattle.link_trait.specs.WiresMemory.{WiresState, fits, open_at, line_at, if_open}
 use Rattle.link_trait.specs.declared.call_record.Note.{Note}
 
@@ -41,6 +41,11 @@ pub given_of-more : (conn : ℕ) (calls : List Call) (call : Call) → given_of 
 unfolding given_of
 given_of-more conn [] call = append-nil (given_by conn call)
 given_of-more conn (x ∷ calls) call = ap (λ ys. given_by conn x ++ ys) (given_of-more conn calls call) ∙ sym (append_assoc (given_by conn x) (given_of conn calls) (given_by conn call))
+
+pub taken_of-more : (conn : ℕ) (calls : List Call) (call : Call) → taken_of conn (calls ++ call ∷ []) ≡ taken_of conn calls ++ taken_by conn call
+unfolding taken_of
+taken_of-more conn [] call = append-nil (taken_by conn call)
+taken_of-more conn (x ∷ calls) call = ap (λ ys. taken_by conn x ++ ys) (taken_of-more conn calls call) ∙ sym (append_assoc (taken_by conn x) (taken_of conn calls) (taken_by conn call))
 
 -- how many are open with one connection more, and with another one in the place of an open one
 abbrev pub one_of : MemoryLine → ℕ
@@ -79,33 +84,41 @@ told_keep acts r now call xs before places sound keeps =
     ap (λ ks. told acts ks now.octets.items) keeps.calls ∙ ap (λ os. told acts (r.kept.items ++ record { note = call; octets = length xs } ∷ []) os) keeps.octet_list
     ∙ told-more acts r.kept.items r.octets.items (record { note = call; octets = length xs }) xs sound.octets refl
 
-nothing_more : (acts : List Act) (r now : CallRecord) (call : Note) (xs : List ℕ) (before places conn : ℕ) → Sound r before → Keeps r now call xs places
-    → given_of conn (told acts r.kept.items r.octets.items) ≡ [] → given_by conn (call_of acts xs call) ≡ []
-    → given_of conn (told acts now.kept.items now.octets.items) ≡ []
-nothing_more acts r now call xs before places conn sound keeps none nothing =
-    ap (given_of conn) (told_keep acts r now call xs before places sound keeps)
-    ∙ given_of-more conn (told acts r.kept.items r.octets.items) (call_of acts xs call)
-    ∙ ap (λ os. os ++ given_by conn (call_of acts xs call)) none ∙ nothing
+-- a connection stays untouched at a call that neither takes from it nor gives to it
+untouched_more : (acts : List Act) (r now : CallRecord) (call : Note) (xs : List ℕ) (before places conn : ℕ) → Sound r before → Keeps r now call xs places
+    → IsUntouched conn (told acts r.kept.items r.octets.items) → taken_by conn (call_of acts xs call) ≡ [] → given_by conn (call_of acts xs call) ≡ []
+    → IsUntouched conn (told acts now.kept.items now.octets.items)
+untouched_more acts r now call xs before places conn sound keeps none no_taking no_giving =
+    let calls : told acts now.kept.items now.octets.items ≡ told acts r.kept.items r.octets.items ++ call_of acts xs call ∷ [] =
+    told_keep acts r now call xs before places sound keeps in
+    record {
+      taken = ap (taken_of conn) calls ∙ taken_of-more conn (told acts r.kept.items r.octets.items) (call_of acts xs call)
+          ∙ ap (λ os. os ++ taken_by conn (call_of acts xs call)) none.taken ∙ no_taking;
+      given = ap (given_of conn) calls ∙ given_of-more conn (told acts r.kept.items r.octets.items) (call_of acts xs call)
+          ∙ ap (λ os. os ++ given_by conn (call_of acts xs call)) none.given ∙ no_giving;
+    }
 
 -- a call that takes one place was kept
 pub stands_keep : {Y Z : Type 0} (acts : List Act) (r now : CallRecord) (lines : Vec MemoryLine Y) (again : Vec ℕ Z) (call : Note) (xs : List ℕ)
     → Stands acts r lines again → Keeps r now call xs 1 → r.places + 1 ≤ r.call_places → vec_len r.octets + length xs ≤ r.octet_places
+    → ((conn : ℕ) → length lines.items < conn → taken_by conn (call_of acts xs call) ≡ [])
     → ((conn : ℕ) → length lines.items < conn → given_by conn (call_of acts xs call) ≡ []) → Stands acts now lines again
-stands_keep acts r now lines again call xs stands keeps room octet_fits nothing = record {
+stands_keep acts r now lines again call xs stands keeps room octet_fits no_taking no_giving = record {
   sound = sound_more r now call xs (opens lines.items) (opens lines.items) 1 stands.sound keeps (omega arith) room octet_fits;
   line_count = omega (arith, stands.line_count, keeps.call_count);
   line_room = omega (arith, stands.line_room, keeps.call_places);
   again_count = omega (arith, stands.again_count, keeps.call_count);
   again_room = omega (arith, stands.again_room, keeps.call_places);
-  given = λ conn above. nothing_more acts r now call xs (opens lines.items) 1 conn stands.sound keeps (stands.given conn above) (nothing conn above);
+  untouched = λ conn above.
+      untouched_more acts r now call xs (opens lines.items) 1 conn stands.sound keeps (stands.untouched conn above) (no_taking conn above) (no_giving conn above);
 }
 
 -- a call that opens a connection was kept
 pub stands_open : {Y Z : Type 0} (acts : List Act) (r now : CallRecord) (lines more : Vec MemoryLine Y) (again : Vec ℕ Z) (call : Note) (xs : List ℕ) (line : MemoryLine)
     → Stands acts r lines again → Keeps r now call xs 2 → r.places + 2 ≤ r.call_places → vec_len r.octets + length xs ≤ r.octet_places
     → more.items ≡ lines.items ++ line ∷ [] → vec_len more ≡ vec_len lines + 1 → vec_capacity lines ≤ vec_capacity more → line.closed ≡ None
-    → ((conn : ℕ) → given_by conn (call_of acts xs call) ≡ []) → Stands acts now more again
-stands_open acts r now lines more again call xs line stands keeps room octet_fits grew count memory is_open nothing =
+    → ((conn : ℕ) → taken_by conn (call_of acts xs call) ≡ []) → ((conn : ℕ) → given_by conn (call_of acts xs call) ≡ []) → Stands acts now more again
+stands_open acts r now lines more again call xs line stands keeps room octet_fits grew count memory is_open no_taking no_giving =
     let one : one_of line ≡ 1 = ap (λ c. if is_some c then 0 else 1) is_open in
     let turn : opens more.items ≡ opens lines.items + 1 = ap opens grew ∙ opens-more lines.items line ∙ ap (λ n. opens lines.items + n) one in
     let longer : length more.items ≡ length lines.items + 1 = ap length grew ∙ length-append lines.items (line ∷ []) in
@@ -115,8 +128,18 @@ stands_open acts r now lines more again call xs line stands keeps room octet_fit
       line_room = omega (arith, stands.line_room, keeps.call_places, memory);
       again_count = omega (arith, stands.again_count, keeps.call_count);
       again_room = omega (arith, stands.again_room, keeps.call_places);
-      given = λ conn above. nothing_more acts r now call xs (opens lines.items) 2 conn stands.sound keeps (stands.given conn (omega (arith, longer, above))) (nothing conn);
+      untouched = λ conn above.
+          untouched_more acts r now call xs (opens lines.items) 2 conn stands.sound keeps (stands.untouched conn (omega (arith, longer, above))) (no_taking conn) (no_giving conn);
     }
+
+-- the connection that it opens is untouched
+pub opened_untouched : {Y Z : Type 0} (acts : List Act) (r now : CallRecord) (lines : Vec MemoryLine Y) (again : Vec ℕ Z) (call : Note) (xs : List ℕ)
+    → Stands acts r lines again → Keeps r now call xs 2
+    → ((conn : ℕ) → taken_by conn (call_of acts xs call) ≡ []) → ((conn : ℕ) → given_by conn (call_of acts xs call) ≡ [])
+    → IsUntouched (length lines.items + 1) (told acts now.kept.items now.octets.items)
+opened_untouched acts r now lines again call xs stands keeps no_taking no_giving =
+    untouched_more acts r now call xs (opens lines.items) 2 (length lines.items + 1) stands.sound keeps (stands.untouched (length lines.items + 1) (omega arith))
+    (no_taking (length lines.items + 1)) (no_giving (length lines.items + 1))
 
 -- an open connection by its number
 pub record IsOpen (lines : List MemoryLine) (conn : ℕ) (line : MemoryLine) : Type 0 where
@@ -160,14 +183,14 @@ stands_put acts r lines now again conn line other stands there is_open put count
       line_room = omega (arith, stands.line_room, memory);
       again_count = stands.again_count;
       again_room = stands.again_room;
-      given = λ at above. stands.given at (omega (arith, long, above));
+      untouched = λ at above. stands.untouched at (omega (arith, long, above));
     }
 
 pub stands_close : {Y Z : Type 0} (acts : List Act) (r kept : CallRecord) (lines now : Vec MemoryLine Y) (again : Vec ℕ Z) (conn : ℕ) (line other : MemoryLine) (call : Note)
     → Stands acts r lines again → open_at lines.items conn ≡ Some line → is_some other.closed ≡ true → Keeps r kept call [] 0
     → now.items ≡ slice_set lines.items (conn - 1) other → vec_len now ≡ vec_len lines → vec_capacity now ≡ vec_capacity lines
-    → ((conn : ℕ) → given_by conn (call_of acts [] call) ≡ []) → Stands acts kept now again
-stands_close acts r kept lines now again conn line other call stands there is_closed keeps put count memory nothing =
+    → ((conn : ℕ) → taken_by conn (call_of acts [] call) ≡ []) → ((conn : ℕ) → given_by conn (call_of acts [] call) ≡ []) → Stands acts kept now again
+stands_close acts r kept lines now again conn line other call stands there is_closed keeps put count memory no_taking no_giving =
     let here : IsOpen lines.items conn line = is_open_by lines.items conn line there in
     let none : one_of other ≡ 0 = ap (λ b. if b then 0 else 1) is_closed in
     let less : opens now.items + 1 ≡ opens lines.items = omega (arith, ap opens put, opens-set lines.items (conn - 1) line other here.get here.is_open, none) in
@@ -178,7 +201,8 @@ stands_close acts r kept lines now again conn line other call stands there is_cl
       line_room = omega (arith, stands.line_room, memory, keeps.call_places);
       again_count = omega (arith, stands.again_count, keeps.call_count);
       again_room = omega (arith, stands.again_room, keeps.call_places);
-      given = λ at above. nothing_more acts r kept call [] (opens lines.items) 0 at stands.sound keeps (stands.given at (omega (arith, long, above))) (nothing at);
+      untouched = λ at above.
+          untouched_more acts r kept call [] (opens lines.items) 0 at stands.sound keeps (stands.untouched at (omega (arith, long, above))) (no_taking at) (no_giving at);
     }
 
 not_below : (m n : ℕ) → not (nat_lt m n) ≡ true → n ≤ m
@@ -219,7 +243,7 @@ stands_leave acts r lines again more stands room count memory = record {
   sound = stands.sound;
   line_count = stands.line_count;
   line_room = stands.line_room;
-  given = stands.given;
+  untouched = stands.untouched;
   again_count = omega (arith, room, count);
   again_room = omega (arith, stands.again_room, memory);
 }
@@ -243,9 +267,9 @@ pub told_new : (acts : List Act) (ks : List KeptCall) (os : List ℕ) → ks ≡
 unfolding told
 told_new acts ks os none = ap (λ xs. told acts xs os) none
 
-nothing_given : (conn : ℕ) (calls : List Call) → calls ≡ [] → given_of conn calls ≡ []
-unfolding given_of
-nothing_given conn calls none = ap (given_of conn) none
+none_untouched : (conn : ℕ) (calls : List Call) → calls ≡ [] → IsUntouched conn calls
+unfolding given_of taken_of
+none_untouched conn calls none = record { taken = ap (taken_of conn) none; given = ap (given_of conn) none }
 
 none_open : (lines : List MemoryLine) → lines ≡ [] → opens lines ≡ 0
 unfolding opens
@@ -259,7 +283,7 @@ stands_new acts r lines again sound calls none line_count again_count line_room 
   line_room = line_room;
   again_count = omega (arith, again_count);
   again_room = again_room;
-  given = λ conn above. nothing_given conn (told acts r.kept.items r.octets.items) (told_new acts r.kept.items r.octets.items calls);
+  untouched = λ conn above. none_untouched conn (told acts r.kept.items r.octets.items) (told_new acts r.kept.items r.octets.items calls);
 }
 
 differs : (m n : ℕ) → m < n → (m == n) ≡ false
@@ -274,6 +298,12 @@ pub open_found : (lines : List MemoryLine) (conn : ℕ) (found : Option MemoryLi
 open_found lines conn None there = tt
 open_found lines conn (Some line) there = (if_open_some (line_at lines conn) line (sym there)).0
 
--- a write to an opened connection gives nothing to a later one
+-- a write to an opened connection gives nothing to a later one, and a read takes nothing from it
 pub given_to_other : (newest conn other n : ℕ) (piece : List ℕ) → conn ≤ newest → newest < other → (if conn == other then take n piece else []) ≡ []
 given_to_other newest conn other n piece opened later = cond-false (conn == other) (take n piece) [] (differs conn other (omega arith))
+
+pub taken_from_other : (newest conn other size waits : ℕ) (reading : Reading) → conn ≤ newest → newest < other → taken_by other (Reads conn size waits reading) ≡ []
+taken_from_other newest conn other size waits (Gave octets) opened later = cond-false (conn == other) octets [] (differs conn other (omega arith))
+taken_from_other newest conn other size waits NotNow opened later = refl
+taken_from_other newest conn other size waits End opened later = refl
+taken_from_other newest conn other size waits Failed opened later = refl

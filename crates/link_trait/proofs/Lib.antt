@@ -4,3 +4,5 @@ mod KeptLists
 mod Comings
 mod Giving
 mod Reading
+mod ToldLines
+mod ToldCalls

@@ -1,6 +1,6 @@
 -- Representation: the record of wires in memory as they keep it, octets of addresses and pieces in one list.
 use Rattle.std.specs.Prelude.{◌≡◌, ◌≤◌, ◌<◌, ℕ, ◌+◌, ◌-◌, ◌^◌, true, false, List, [], ◌∷◌, ◌++◌, length, take, drop, slice_set, Option, None, Some, IfSome, is_some, option_map, if◌then◌else◌, Vec, vec_len, vec_capacity}
-use Rattle.link_trait.specs.Wires.{Call, Listens, Dials, Turns, Reads, Writes, Closes, given_of}
+use Rattle.link_trait.specs.Wires.{Call, Listens, Dials, Turns, Reads, Writes, Closes, given_of, taken_of}
 use Rattle.link_trait.specs.WiresMemory.{WiresState, octets_to, between, gives, open_at, new_line, happening_of, comes}
 use Rattle.link_trait.specs.declared.act.Act.TheVariants as act
 use Rattle.link_trait.specs.declared.memory_wires.Coming.{Coming}
@@ -59,15 +59,20 @@ pub record Keeps (r now : CallRecord) (call : Note) (octets : List ℕ) (places 
   pub call_capacity : vec_capacity r.kept ≤ vec_capacity now.kept
   pub octet_capacity : vec_capacity r.octets ≤ vec_capacity now.octets
 
--- the record is sound, there is room for the connections and for those whose reads leave octets, and nothing was given to a
--- connection that wasn't opened
+-- calls that took nothing from a connection, and gave nothing to it
+pub record IsUntouched (conn : ℕ) (calls : List Call) : Type 0 where
+  pub taken : taken_of conn calls ≡ []
+  pub given : given_of conn calls ≡ []
+
+-- the record is sound, there is room for the connections and for those whose reads leave octets, and a connection that wasn't
+-- opened is untouched
 pub record Stands {Y Z : Type 0} (acts : List Act) (r : CallRecord) (lines : Vec MemoryLine Y) (again : Vec ℕ Z) : Type 0 where
   pub sound : Sound r (opens lines.items)
   pub line_count : vec_len lines ≤ vec_len r.kept
   pub line_room : r.call_places ≤ vec_capacity lines
   pub again_count : vec_len again ≤ vec_len r.kept
   pub again_room : r.call_places ≤ vec_capacity again
-  pub given : (conn : ℕ) → length lines.items < conn → given_of conn (told acts r.kept.items r.octets.items) ≡ []
+  pub untouched : (conn : ℕ) → length lines.items < conn → IsUntouched conn (told acts r.kept.items r.octets.items)
 
 -- the connection stays open with this line
 pub record StaysOpen (lines : List MemoryLine) (conn : ℕ) (line : MemoryLine) : Type 0 where

@@ -3,7 +3,7 @@
 use Rattle.std.specs.Prelude.{ℕ, ◌+◌, ◌-◌, ◌==◌, ◌&&◌, ◌||◌, not, min, Bool, true, false, List, [], ◌∷◌, ◌++◌, length, take, drop, slice_get, slice_set, is_some, unwrap_or, Option, None, Some, nat_lt, if◌then◌else◌}
 use Rattle.link_trait.specs.Outside.{counted}
 use Rattle.link_trait.specs.OutsideMemory.{is_listed}
-use Rattle.link_trait.specs.Wires.{Call, Listens, Dials, Turns, Reads, Writes, Closes, Reading, Gave, NotNow, End, Failed}
+use Rattle.link_trait.specs.Wires.{Call, Listens, Dials, Turns, Reads, Writes, Closes, Reading, Gave, NotNow, End, Failed, Line, Lines, taken_of, given_of}
 use Rattle.link_trait.specs.declared.act.Act.{Act}
 use Rattle.link_trait.specs.declared.act.Act.TheVariants as act
 use Rattle.link_trait.specs.declared.memory_line.MemoryLine.{MemoryLine}
@@ -112,6 +112,27 @@ new_line done room = record { from = done; closed = None; taken = 0; room = room
 -- they tell until a call finds a capacity spent
 abbrev pub told_calls : WiresState → Option (List Call)
 told_calls s = if s.spent then None else Some s.calls
+
+-- what is told of a connection; of one that wasn't opened nothing waits, and it has no room
+abbrev pub room_of : Option MemoryLine → ℕ
+room_of None = 0
+room_of (Some line) = line.room
+
+abbrev pub shut_of : Option MemoryLine → Bool
+shut_of None = false
+shut_of (Some line) = line.is_shut
+
+unfoldable pub line_told : WiresState → ℕ → Line
+line_told s conn = record {
+  taken = taken_of conn s.calls;
+  given = given_of conn s.calls;
+  waits = waits_at s conn;
+  room = room_of (line_at s.lines conn);
+  shut = shut_of (line_at s.lines conn);
+}
+
+unfoldable pub told_lines : WiresState → Option Lines
+told_lines s = if s.spent then None else Some (line_told s)
 
 -- calls ---------------------------------------------------------------------------------------------------------------------------
 
@@ -289,7 +310,7 @@ read_done s conn waiting read_answer.Failed = failed s
 abbrev pub after_read : WiresState → ℕ → ℕ → WiresState
 after_read s conn size =
     if fits s 1 0
-    then read_done (kept (called s) (Reads conn size 0 (gives (read_in s conn size) (waits_at s conn))) 1 0)
+    then read_done (kept (called s) (Reads conn size (length (waits_at s conn)) (gives (read_in s conn size) (waits_at s conn))) 1 0)
     conn (length (waits_at s conn)) (read_in s conn size)
     else failed (spends (called s))
 

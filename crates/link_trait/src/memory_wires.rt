@@ -2,9 +2,9 @@
 ghost use Rattle.std.specs.Prelude.{◌≡◌, ◌≤◌, ◌<◌, ◌+◌, ◌-◌, ◌^◌, ◌∷◌, ◌++◌, [], ◌||◌, ℕ, true, length, take, min, slice_set, unwrap_or, is_some, None, Some, if◌then◌else◌, IfOk, IfSome, OnOk, OnErr};
 ghost use Rattle.std.specs.Result.{is_ok};
 ghost use Rattle.link_trait.specs.Outside.{Grew, Rose};
-ghost use Rattle.link_trait.specs.Wires.{Closes, Turns, Reads, reading_of, opened_by_turn, given_of, given_by, dialled};
-ghost use Rattle.link_trait.specs.KeptCalls.{call_of, IsComing, StaysOpen, advanced, act_of, with_room, when_shut};
-ghost use Rattle.link_trait.specs.WiresMemory.{between, new_wires, fits, kept, called, is_to_fail, failed, turn_failed, spends, waits_at, told_calls, open_at, line_at, changed, places_of};
+ghost use Rattle.link_trait.specs.Wires.{Closes, Turns, Reads, reading_of, opened_by_turn, given_of, given_by, taken_by, dialled};
+ghost use Rattle.link_trait.specs.KeptCalls.{call_of, IsComing, IsUntouched, StaysOpen, advanced, act_of, with_room, when_shut};
+ghost use Rattle.link_trait.specs.WiresMemory.{between, new_wires, fits, kept, called, is_to_fail, failed, turn_failed, spends, waits_at, told_calls, told_lines, open_at, line_at, changed, places_of};
 ghost use Rattle.link_trait.specs.WiresMemory.{is_listen_ok, after_listen, dialled_in, after_dial, happening_in, after_turn, read_in, after_read, written_in, after_write_to, after_close, reads_of, writes_of, gives, new_line};
 
 use crate::act::{Act, behind, between, copy_brought, count_of, first_act};
@@ -17,7 +17,7 @@ use er_base::NoMemory;
 use std::alloc::Global;
 use std::marker::Model;
 
-/// Wires in memory, which do what a script says and tell their calls.
+/// Wires in memory, which do what a script says, and tell their calls and what they hold at each connection.
 ///
 /// A turn does the next act of the script, and behind the last one answers Ended; a connection where octets still wait
 /// behind a read is Readable again before the next act. A call fails exactly where it was listed by
@@ -175,6 +175,7 @@ impl MemoryWires {
     // Keeps a call that takes one place.
     fn keep(&mut self, note: Note, octets: &[u8])
         requires fits { fits self.old 1 (length octets.now) ≡ true }
+        requires taken { (conn : ℕ) → length self.old.lines < conn → taken_by conn (call_of self.old.acts octets.now note) ≡ [] }
         requires given { (conn : ℕ) → length self.old.lines < conn → given_by conn (call_of self.old.acts octets.now note) ≡ [] }
         ensures { self.new ≡ kept self.old (call_of self.old.acts octets.now note) 1 (length octets.now) }
     {
@@ -184,8 +185,10 @@ impl MemoryWires {
     // Keeps a call that opens a connection, which takes two places.
     fn open(&mut self, note: Note, octets: &[u8])
         requires fits { fits self.old 2 (length octets.now) ≡ true }
+        requires taken { (conn : ℕ) → taken_by conn (call_of self.old.acts octets.now note) ≡ [] }
         requires given { (conn : ℕ) → given_by conn (call_of self.old.acts octets.now note) ≡ [] }
-        ensures { self.new ≡ record (kept self.old (call_of self.old.acts octets.now note) 2 (length octets.now)) { lines = self.old.lines ++ new_line self.old.done self.old.room ∷ [] } }
+        ensures state { self.new ≡ record (kept self.old (call_of self.old.acts octets.now note) 2 (length octets.now)) { lines = self.old.lines ++ new_line self.old.done self.old.room ∷ [] } }
+        ensures untouched { IsUntouched (length self.old.lines + 1) self.new.calls }
     {
         self.record.keep(note, octets, 2);
         self.lines
@@ -205,6 +208,7 @@ impl MemoryWires {
     fn keep_taken(&mut self, note: Note, conn: u64, line: MemoryLine)
         requires fits { fits self.old 1 0 ≡ true }
         requires stays { StaysOpen self.old.lines conn line }
+        requires taken { (conn : ℕ) → length self.old.lines < conn → taken_by conn (call_of self.old.acts [] note) ≡ [] }
         requires given { (conn : ℕ) → given_by conn (call_of self.old.acts [] note) ≡ [] }
         ensures state { self.new ≡ record (kept self.old (call_of self.old.acts [] note) 1 0) { lines = slice_set self.old.lines (conn - 1) line } }
         ensures room { length self.new.again < length self.new.calls }
@@ -400,13 +404,13 @@ fn places_of(happening: Happening) -> usize
 }
 
 // The note of a read that took nothing.
-fn read_note(conn: u64, size: usize, answer: ReadAnswer) -> Note
-    ensures { result ≡ Note.Read conn size 0 answer 0 0 0 }
+fn read_note(conn: u64, size: usize, waiting: u128, answer: ReadAnswer) -> Note
+    ensures { result ≡ Note.Read conn size waiting answer 0 0 0 }
 {
     Note::Read {
         conn,
         size,
-        waiting: 0,
+        waiting,
         answer,
         from: 0,
         to: 0,
@@ -417,7 +421,7 @@ fn read_note(conn: u64, size: usize, answer: ReadAnswer) -> Note
 impl Wires for MemoryWires {
     ghost calls = { λ s. told_calls s };
 
-    ghost lines = { λ _. None };
+    ghost lines = { λ s. told_lines s };
 
     ghost opened = { λ s. length s.lines };
 
@@ -451,6 +455,7 @@ impl Wires for MemoryWires {
     fn dial(&mut self, address: &str) -> Result<Conn, Failed>
         ensures answer { dialled result ≡ dialled_in self.old address.now }
         ensures state { self.new ≡ after_dial self.old address.now }
+        ensures untouched { IfOk result (λ conn. IsUntouched conn.0 self.new.calls) }
         ensures most { self.new.faults ≤ 2 ^ 64 - 1 }
         ensures turn_most { self.new.turn_faults ≤ 2 ^ 64 - 1 }
     {
@@ -473,6 +478,7 @@ impl Wires for MemoryWires {
     fn turn(&mut self, until: Option<u64>) -> Happening
         ensures answer { result ≡ happening_in self.old }
         ensures state { self.new ≡ after_turn self.old until }
+        ensures untouched { (conn : Conn) → result ≡ Happening.Accepted conn → IsUntouched conn.0 self.new.calls }
         ensures number { (conn : Conn) → result ≡ Happening.Accepted conn → conn.0 ≡ length self.old.lines + 1 }
         ensures accepted { (conn : Conn) → result ≡ Happening.Accepted conn → self.old.listening ≡ true }
         ensures opened { length self.new.lines ≡ opened_by_turn result (length self.old.lines) }
@@ -504,12 +510,12 @@ impl Wires for MemoryWires {
         coming.happening
     }
 
-    #[tactic(auto, using(crate::proofs::Reading::read_answers, crate::proofs::Reading::read_leaves, crate::proofs::Reading::read_takes_all, crate::proofs::Reading::read_fits))]
+    #[tactic(auto, using(crate::proofs::Reading::read_answers, crate::proofs::Reading::read_leaves, crate::proofs::Reading::read_takes_all, crate::proofs::Reading::read_fits, crate::proofs::KeptLists::taken_from_other))]
     fn read(&mut self, conn: Conn, into: &mut [u8]) -> ReadAnswer
         requires { 0 < length into.old }
         ensures answer { result ≡ read_in self.old conn.0 (length into.old) }
         ensures state { self.new ≡ after_read self.old conn.0 (length into.old) }
-        ensures told { Grew (told_calls self.old) (told_calls self.new) (Reads conn.0 (length into.old) 0 (reading_of result into.new) ∷ []) }
+        ensures gave { reading_of result into.new ≡ gives result (waits_at self.old conn.0) }
         ensures length { length into.new ≡ length into.old }
         ensures fits { (n : ℕ) → result ≡ ReadAnswer.Some n → (1 ≤ n) × (n ≤ length into.old) }
         ensures opened { length self.new.lines ≡ length self.old.lines }
@@ -526,19 +532,20 @@ impl Wires for MemoryWires {
             self.count_fault();
             return ReadAnswer::Failed;
         }
+        let waiting = self.waiting(conn.0);
         let Some(line) = self.open_line(conn.0, is_to_fail) else {
-            self.keep(read_note(conn.0, into.len(), ReadAnswer::Failed), &[]);
+            let note = read_note(conn.0, into.len(), waiting, ReadAnswer::Failed);
+            self.keep(note, &[]);
             self.count_fault();
             return ReadAnswer::Failed;
         };
-        let waiting = self.waiting(conn.0);
         if waiting == 0 {
             let answer = if line.is_shut {
                 ReadAnswer::End
             } else {
                 ReadAnswer::NotNow
             };
-            self.keep(read_note(conn.0, into.len(), answer), &[]);
+            self.keep(read_note(conn.0, into.len(), 0, answer), &[]);
             return answer;
         }
         let count = self.copy_waiting(conn.0, &line, into);
@@ -547,7 +554,7 @@ impl Wires for MemoryWires {
         let note = Note::Read {
             conn: conn.0,
             size: into.len(),
-            waiting: 0,
+            waiting,
             answer,
             from: line.from,
             to,

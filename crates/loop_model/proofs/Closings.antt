@@ -41,7 +41,7 @@ steady r = record {
   given = λ m s g allowed fits. tt;
   stalls = λ m s g allowed fits. tt;
   heard = λ s mind. tt;
-  parts = λ s at. tt;
+  parts = λ s at gone. tt;
 }
 
 bare : Bare Opens
@@ -50,7 +50,7 @@ bare = record {
   wrote = λ s n whole. (refl, tt);
   put_off = λ s. (refl, tt);
   failed = λ s. (refl, tt);
-  breaks = λ s. tt;
+  breaks = λ s gone. tt;
 }
 
 all_given : AllGiven (λ g. Unit {0})
@@ -81,7 +81,7 @@ keeps : (plan : Plan) → Keeps plan Q Live Gone
 unfolding Opens
 keeps plan = record {
   visit = λ s t xs ys cs ds h q. no_close-append cs ds h q.1;
-  close = λ s t xs ys cs ds h q. subst EndAtClose (append_assoc cs ds (Closes t.number ∷ [])) (closed_ends (cs ++ ds) t.number (no_close-append cs ds h q.1));
+  close = λ s t xs ys cs ds over h q. subst EndAtClose (append_assoc cs ds (Closes t.number ∷ [])) (closed_ends (cs ++ ds) t.number (no_close-append cs ds h q.1));
   open_ = λ l conn mind. tt;
   never = tt;
   full = λ m conn. (λ e. refl, tt);

@@ -33,12 +33,12 @@ steady r = record {
   given = λ m s g allowed fits. refl;
   stalls = λ m s g allowed fits. refl;
   heard = λ s mind. refl;
-  parts = λ s at. refl;
+  parts = λ s at gone. refl;
 }
 
 bare : Bare NoTurn
 unfolding NoTurn turns_of
-bare = record { wrote = λ s n whole. refl; put_off = λ s. refl; failed = λ s. refl; breaks = λ s. refl }
+bare = record { wrote = λ s n whole. refl; put_off = λ s. refl; failed = λ s. refl; breaks = λ s gone. refl }
 
 all_given : AllGiven (λ g. Unit {0})
 all_given = record { usual = record { sends = λ text. tt; leaves = λ sub. tt; takes = tt }; hears = λ octets. tt; ticks = tt; ends = tt; faults = tt }
@@ -53,7 +53,7 @@ calls r = usual_calls r (λ g. Unit {0}) NoTurn (steady r) all_given bare read_n
 left_none : (s : Session) (ts : List Session) (xs : List Entry) (cs : List Call) → Left NoTurn s ts xs cs → turns_of cs ≡ []
 unfolding NoTurn turns_of
 left_none s ts xs cs (Stays t p q) = q
-left_none s ts xs cs (Closed t ds p e q) = ap turns_of e ∙ turns_of-append ds (Closes t.number ∷ []) ∙ append-nil (turns_of ds) ∙ q
+left_none s ts xs cs (Closed t ds over p e q) = ap turns_of e ∙ turns_of-append ds (Closes t.number ∷ []) ∙ append-nil (turns_of ds) ∙ q
 
 visit_none : (r : Rules) (m : ℕ) (visit : Visit) (n : ℕ) (ss : List Session) (a : Met) → turns_of (visit_at (visited r m visit) n ss a).calls ≡ []
 unfolding visit_at turns_of

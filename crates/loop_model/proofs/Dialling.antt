@@ -8,7 +8,7 @@ use Rattle.rand_core.specs.Stream.{next_u64}
 use Rattle.link_trait.specs.Wires.{Call, Dials, Closes}
 use Rattle.loop_model.specs.Journals.{Entry}
 use Rattle.loop_model.specs.Outs.{first_of}
-use Rattle.loop_model.specs.Sessions.{Session, Given, Begins, fed, nothing_said, handled}
+use Rattle.loop_model.specs.Sessions.{Session, Given, Begins, Says, fed, nothing_said, handled}
 use Rattle.loop_model.specs.Visits.{Met, rests, served}
 use Rattle.loop_model.specs.Loops.{Plan, rules_of, Loop, next_user, begun, Caller, calling, called_by, called, Course, asks, Turn, run, Dialled, opens, dials_to, dials}
 use Rattle.loop_model.specs.Parts.{session_of, of, calls_at, opened_in, Rises, newest}
@@ -42,12 +42,12 @@ apart_left (Some s) = (refl, tt)
 if_false : {A : Type 0} (b : Bool) (x y : A) → b ≡ false → (if b then x else y) ≡ y
 if_false b x y p = rw p refl
 
-module _ (plan : Plan) (caller : Caller) (Allowed : Given → Type 0) (Q : Session → Session → List Entry → List Call → Type 0) (q : Steady (rules_of plan) Allowed Q) (usual : Usual Allowed)
+module _ (plan : Plan) (caller : Caller) (Q : Session → Session → List Entry → List Call → Type 0)
     (c : Calls (rules_of plan) Q) (own : (s t : Session) (xs : List Entry) (cs : List Call) → Q s t xs cs → Own s t xs cs)
     (K : Session → List Entry → List Call → Type 0) (E : List Entry → List Call → Type 0) (k : Keeps plan Q K E)
-    (at : ℕ) (first : (l : Loop) (conn : ℕ) (mind : Mind) → l.moment ≡ at
-    → K (fed (rules_of plan) l.moment (begun conn (calling plan caller l) mind) (Begins caller.engine plan.rbc (next_u64 l.words).0)).0
-    (fed (rules_of plan) l.moment (begun conn (calling plan caller l) mind) (Begins caller.engine plan.rbc (next_u64 l.words).0)).1 [])
+    (at : ℕ) (first : (l : Loop) (conn : ℕ) (mind : Mind) (says : Says) → l.moment ≡ at
+    → K (handled (rules_of plan) l.moment (begun conn (calling plan caller l) mind) (Begins caller.engine plan.rbc (next_u64 l.words).0) says).0
+    (handled (rules_of plan) l.moment (begun conn (calling plan caller l) mind) (Begins caller.engine plan.rbc (next_u64 l.words).0) says).1 [])
   where
     abbrev Known : List Entry → List Call → List Session → Type 0
     Known js bs ss = Knows plan Q c own K E k js bs ss
@@ -84,8 +84,8 @@ module _ (plan : Plan) (caller : Caller) (Allowed : Given → Type 0) (Q : Sessi
     unfolding LeftAt
     left_of conn address t ts xs ys ds num mine h (Stays u p l) =
         rw p (knows_left conn address t xs ys ds (Some u) num ((own t u ys ds l).number ∙ num) mine h l)
-    left_of conn address t ts xs ys ds num mine h (Closed u es p e l) =
-        rw p (knows_left conn address t xs ys ds None num tt mine h (u, es, e, l))
+    left_of conn address t ts xs ys ds num mine h (Closed u es over p e l) =
+        rw p (knows_left conn address t xs ys ds None num tt mine h (u, es, over, e, l))
 
     knows_away : (conn m : ℕ) (address : List ℕ)
         → Known (record { moment = m; conn = conn; event = event.Unserved 0; outcomes = [] } ∷ []) (Dials address (Some conn) ∷ Closes conn ∷ []) []
@@ -101,7 +101,7 @@ module _ (plan : Plan) (caller : Caller) (Allowed : Given → Type 0) (Q : Sessi
           );
     }
 
-    knows_called : (user : Option Mind) (l : Loop) (conn : ℕ) (address : List ℕ) (a : Met) → l.sessions ≡ [] → l.moment ≡ at
+    pub knows_called : (user : Option Mind) (l : Loop) (conn : ℕ) (address : List ℕ) (a : Met) → l.sessions ≡ [] → l.moment ≡ at
         → Known (called_by user plan caller l conn a).entries (Dials address (Some conn) ∷ (called_by user plan caller l conn a).calls) (called_by user plan caller l conn a).state.sessions
     unfolding served
     knows_called None l conn address a none now = rw none (knows_away conn l.moment address)
@@ -112,12 +112,9 @@ module _ (plan : Plan) (caller : Caller) (Allowed : Given → Type 0) (Q : Sessi
         let g = Begins caller.engine plan.rbc (next_u64 l.words).0 in
         let says = first_of nothing_said a.says in
         let h = handled r m s g says in
-        let f = follows_handled r Allowed Q q usual m s g says in
         let o = steady_handled r (λ g. Unit {0}) Own (own_steady r) any_usual m s g says tt in
-        let known : K h.0 h.1 [] =
-        subst (λ z. K h.0 z []) (sym f.is) (k.visit (fed r m s g).0 h.0 (fed r m s g).1 f.rest [] [] (first l conn mind now) f.holds) in
         left_of conn address h.0 (rests r m h.0 a.wrote).state h.1 (rests r m h.0 a.wrote).entries (rests r m h.0 a.wrote).calls
-        o.number o.entries known (left_rests r Q c.quiet m h.0 h.0 a.wrote [] [] (c.none h.0))
+        o.number o.entries (first l conn mind says now) (left_rests r Q c.quiet m h.0 h.0 a.wrote [] [] (c.none h.0))
 
     -- a dial that opened its connection, and the run behind it
     knows_opened : (d : Course) (conn : ℕ) (address : List ℕ) (a : Met) (turns : List Turn) → d.loop.sessions ≡ [] → d.loop.moment ≡ at
@@ -141,8 +138,33 @@ module _ (plan : Plan) (caller : Caller) (Allowed : Given → Type 0) (Q : Sessi
     knows_to None d address a none now rises = rw none (record { fits = λ n. k.never; apart = tt; low = λ n up. (refl, refl, refl) })
     knows_to (Some conn) d address a none now rises = knows_opened (asks a.first d) conn address a.met a.turns none now rises
 
-    pub knows_dial : (d : Course) (address : List ℕ) (a : Dialled) → d.loop.sessions ≡ [] → max d.loop.moment a.first ≡ at
+    pub knows_dial_of : (d : Course) (address : List ℕ) (a : Dialled) → d.loop.sessions ≡ [] → max d.loop.moment a.first ≡ at
         → Rises 0 (opened_in (dials plan caller d address a).calls)
         → Known (dials plan caller d address a).entries (dials plan caller d address a).calls (dials plan caller d address a).state.loop.sessions
     unfolding dials
-    knows_dial d address a none now rises = knows_to a.conn d address a none now rises
+    knows_dial_of d address a none now rises = knows_to a.conn d address a none now rises
+
+-- the same, where what holds behind the first event is kept by all that follows it
+module _ (plan : Plan) (caller : Caller) (Allowed : Given → Type 0) (Q : Session → Session → List Entry → List Call → Type 0) (q : Steady (rules_of plan) Allowed Q) (usual : Usual Allowed)
+    (c : Calls (rules_of plan) Q) (own : (s t : Session) (xs : List Entry) (cs : List Call) → Q s t xs cs → Own s t xs cs)
+    (K : Session → List Entry → List Call → Type 0) (E : List Entry → List Call → Type 0) (k : Keeps plan Q K E)
+    (at : ℕ) (first : (l : Loop) (conn : ℕ) (mind : Mind) → l.moment ≡ at
+    → K (fed (rules_of plan) l.moment (begun conn (calling plan caller l) mind) (Begins caller.engine plan.rbc (next_u64 l.words).0)).0
+    (fed (rules_of plan) l.moment (begun conn (calling plan caller l) mind) (Begins caller.engine plan.rbc (next_u64 l.words).0)).1 [])
+  where
+    pub first_handled : (l : Loop) (conn : ℕ) (mind : Mind) (says : Says) → l.moment ≡ at
+        → K (handled (rules_of plan) l.moment (begun conn (calling plan caller l) mind) (Begins caller.engine plan.rbc (next_u64 l.words).0) says).0
+        (handled (rules_of plan) l.moment (begun conn (calling plan caller l) mind) (Begins caller.engine plan.rbc (next_u64 l.words).0) says).1 []
+    first_handled l conn mind says now =
+        let r = rules_of plan in
+        let m = l.moment in
+        let s = begun conn (calling plan caller l) mind in
+        let g = Begins caller.engine plan.rbc (next_u64 l.words).0 in
+        let h = handled r m s g says in
+        let f = follows_handled r Allowed Q q usual m s g says in
+        subst (λ z. K h.0 z []) (sym f.is) (k.visit (fed r m s g).0 h.0 (fed r m s g).1 f.rest [] [] (first l conn mind now) f.holds)
+
+    pub knows_dial : (d : Course) (address : List ℕ) (a : Dialled) → d.loop.sessions ≡ [] → max d.loop.moment a.first ≡ at
+        → Rises 0 (opened_in (dials plan caller d address a).calls)
+        → Knows plan Q c own K E k (dials plan caller d address a).entries (dials plan caller d address a).calls (dials plan caller d address a).state.loop.sessions
+    knows_dial d address a none now rises = knows_dial_of plan caller Q c own K E k at first_handled d address a none now rises

@@ -62,7 +62,7 @@ steady r = record {
   given = λ m s g allowed fits. subst (λ z. one_if z + 0 ≤ 0) (sym (no_fault s.end g allowed)) (omega arith);
   stalls = λ m s g allowed fits. subst (λ z. one_if z + (0 + 0) ≤ 0) (sym (no_fault s.end g allowed)) (omega arith);
   heard = λ s mind. omega arith;
-  parts = λ s at. omega arith;
+  parts = λ s at gone. omega arith;
 }
 
 usual : Usual IsNoFault
@@ -110,7 +110,7 @@ quiet r = record {
   wrote = λ s n whole. omega arith;
   put_off = λ s. omega arith;
   failed = λ m s says live. bound _ 1 (handled_fault r m s says);
-  failed_released = λ s. omega arith;
+  failed_released = λ s gone. omega arith;
   ticked = λ m s says due. steady_handled r IsNoFault Fails (steady r) usual m s Ticks says tt;
 }
 
@@ -121,7 +121,7 @@ calls r = record { quiet = quiet r; read = λ m s a live. read_fails r m s a.wai
 left_fails : (s : Session) (ts : List Session) (xs : List Entry) (cs : List Call) → Left Fails s ts xs cs → faults xs ≤ failures cs
 unfolding Fails failures
 left_fails s ts xs cs (Stays t p q) = q
-left_fails s ts xs cs (Closed t ds p e q) =
+left_fails s ts xs cs (Closed t ds over p e q) =
     then_fails (faults xs) (failures ds) 0 (0 + 0) (faults xs) (failures cs) q (omega arith) (omega arith) (ap failures e ∙ failures-append ds (Closes t.number ∷ []))
 
 visit_fails : (r : Rules) (m : ℕ) (visit : Visit) (n : ℕ) (ss : List Session) (a : Met)

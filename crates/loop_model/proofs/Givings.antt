@@ -131,7 +131,7 @@ steady r = record {
       breaks_off s (record s { end = end_after r m (end_after r m s.end g) Stalls; broken = true })
       (entry_of r m s g ∷ entry_of r m (record s { end = end_after r m s.end g }) Stalls ∷ []) refl;
   heard = λ s mind. waits s (record s { mind = mind }) [] (sym (append-nil s.output)) (λ p. p);
-  parts = λ s at. waits s (record s { mind = None; closing = Some at }) [] (sym (append-nil s.output)) (λ p. p);
+  parts = λ s at gone. waits s (record s { mind = None; closing = Some at }) [] (sym (append-nil s.output)) (λ p. p);
 }
 
 take_and_drop : (n : ℕ) (xs : List ℕ) → take n xs ++ drop n xs ≡ xs
@@ -157,7 +157,7 @@ bare = record {
   };
   put_off = λ s. bare_call s (Writes s.number s.output write.NotNow) refl;
   failed = λ s. bare_call s (Writes s.number s.output write.Failed) refl;
-  breaks = λ s. breaks_off s (record s { broken = true }) [] refl;
+  breaks = λ s gone. breaks_off s (record s { broken = true }) [] refl;
 }
 
 all_given : AllGiven (λ g. Unit {0})
@@ -219,7 +219,7 @@ keeps : (plan : Plan) → Keeps plan Q Given_so Gone
 unfolding given_in octets_of
 keeps plan = record {
   visit = λ s t xs ys cs ds h q. more s t xs ys cs ds h q.1;
-  close = λ s t xs ys cs ds h q.
+  close = λ s t xs ys cs ds over h q.
       let m = more s t xs ys cs ds h q.1 in
       record { rest = m.rest; is = ap (λ z. z ++ m.rest) (closed_given cs ds t.number) ∙ m.is };
   open_ = λ l conn mind. record { rest = []; is = refl; whole = λ p. refl };

@@ -11,3 +11,8 @@ pub mod Failings
 pub mod Readings
 pub mod Countings
 pub mod Orders
+pub mod Resting
+pub mod Momentwise
+pub mod Taking
+pub mod Replaying
+pub mod Hearing

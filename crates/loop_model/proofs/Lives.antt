@@ -18,9 +18,9 @@ use Rattle.loop_model.specs.Loops.{Plan, rules_of, Loop, most_live, visit_at, un
 use Rattle.loop_model.specs.Parts.{session_of, of, calls_at, opened_by, opened_in, Rises, newest}
 use Rattle.loop_model.proofs.Projections.{split_if, of-append, calls_at-append, opened_in-append, rises_first, rises_rest, newest-append}
 use Rattle.loop_model.proofs.Loopwise.{Loopwise, wise_run}
-use Rattle.loop_model.proofs.Steadies.{Left, Stays, Closed, Calls, left_visited}
+use Rattle.loop_model.proofs.Steadies.{is_over, Left, Stays, Closed, Calls, left_visited}
 
-same : (n : ℕ) → (n == n) ≡ true
+pub same : (n : ℕ) → (n == n) ≡ true
 same n = eq-eqb n n refl
 
 other_way : (m n : ℕ) → (m == n) ≡ false → (n == m) ≡ false
@@ -40,7 +40,7 @@ pub record Own (s t : Session) (xs : List Entry) (cs : List Call) : Type 0 where
 -- a relation that each visit keeps, and what it comes to
 pub record Keeps (plan : Plan) (Q : Session → Session → List Entry → List Call → Type 0) (K : Session → List Entry → List Call → Type 0) (E : List Entry → List Call → Type 0) : Type 0 where
   pub visit : (s t : Session) (xs ys : List Entry) (cs ds : List Call) → K s xs cs → Q s t ys ds → K t (xs ++ ys) (cs ++ ds)
-  pub close : (s t : Session) (xs ys : List Entry) (cs ds : List Call) → K s xs cs → Q s t ys ds → E (xs ++ ys) (cs ++ (ds ++ Closes t.number ∷ []))
+  pub close : (s t : Session) (xs ys : List Entry) (cs ds : List Call) → is_over t ≡ true → K s xs cs → Q s t ys ds → E (xs ++ ys) (cs ++ (ds ++ Closes t.number ∷ []))
   pub open_ : (l : Loop) (conn : ℕ) (mind : Mind)
       → K (begun conn (answering plan l) mind) (record { moment = l.moment; conn = conn; event = event.Answer plan.rbc (next_u64 l.words).0; outcomes = [] } ∷ []) []
   pub never : E [] []
@@ -53,9 +53,9 @@ module _ (plan : Plan) (Q : Session → Session → List Entry → List Call →
 
   unfoldable pub LeftAt : Session → Option Session → List Entry → List Call → Type 0
   LeftAt s (Some t) xs cs = Q s t xs cs
-  LeftAt s None xs cs = (t : Session) × (ds : List Call) × (cs ≡ ds ++ Closes t.number ∷ []) × Q s t xs ds
+  LeftAt s None xs cs = (t : Session) × (ds : List Call) × (is_over t ≡ true) × (cs ≡ ds ++ Closes t.number ∷ []) × Q s t xs ds
 
-  data Moved (n : ℕ) (ss ts : List Session) (xs : List Entry) (cs : List Call) : Type 0 where
+  pub data Moved (n : ℕ) (ss ts : List Session) (xs : List Entry) (cs : List Call) : Type 0 where
     Absent : session_of n ss ≡ None → ts ≡ ss → xs ≡ [] → cs ≡ [] → Moved n ss ts xs cs
     Found : (s : Session) → session_of n ss ≡ Some s → s.number ≡ n
         → ((conn : ℕ) → (n == conn) ≡ false → session_of conn ts ≡ session_of conn ss)
@@ -73,14 +73,14 @@ module _ (plan : Plan) (Q : Session → Session → List Entry → List Call →
       (λ conn ne. rw (subst (λ z. (z == conn) ≡ false) (sym num) ne, ne) refl)
       (rw at_t q)
       (subst (λ z. session_of z ss ≡ None) (sym num) a.0, a.1))
-  here s ss ts xs cs a (Closed t ds p e q) =
+  here s ss ts xs cs a (Closed t ds over p e q) =
       rw p
       (Found s (rw (same s.number) refl) refl
       (λ conn ne. rw ne refl)
-      (rw a.0 (t, ds, e, q))
+      (rw a.0 (t, ds, over, e, q))
       a.1)
 
-  moved : (m : ℕ) (visit : Visit) (n : ℕ) (ss : List Session) (a : Met) → Apart ss
+  pub moved : (m : ℕ) (visit : Visit) (n : ℕ) (ss : List Session) (a : Met) → Apart ss
       → Moved n ss (visit_at (visited (rules_of plan) m visit) n ss a).state (visit_at (visited (rules_of plan) m visit) n ss a).entries (visit_at (visited (rules_of plan) m visit) n ss a).calls
   unfolding visit_at session_of Apart
   moved m visit n [] a p = Absent refl refl refl refl
@@ -122,7 +122,7 @@ module _ (plan : Plan) (Q : Session → Session → List Entry → List Call →
   pub own_left : (s : Session) (left : Option Session) (xs : List Entry) (cs : List Call) → LeftAt s left xs cs → OwnAt s xs cs
   unfolding LeftAt calls_at opened_in
   own_left s (Some t) xs cs q = let o = own s t xs cs q in record { entries = o.entries; calls = o.calls; opens = o.opens }
-  own_left s None xs cs (t, ds, e, q) =
+  own_left s None xs cs (t, ds, over, e, q) =
       let o = own s t xs ds q in
       record {
         entries = o.entries;
@@ -137,9 +137,9 @@ module _ (plan : Plan) (Q : Session → Session → List Entry → List Call →
       → Fits left n (js ++ xs) (bs ++ cs)
   unfolding LeftAt Fits
   fits_left s (Some t) n js xs bs cs num h q = ((own s t xs cs q).number ∙ num, k.visit s t js xs bs cs h q)
-  fits_left s None n js xs bs cs num h (t, ds, e, q) = rw e (k.close s t js xs bs ds h q)
+  fits_left s None n js xs bs cs num h (t, ds, over, e, q) = rw e (k.close s t js xs bs ds over h q)
 
-  knows_moved : (n : ℕ) (js xs : List Entry) (bs cs : List Call) (ss ts : List Session) → Knows js bs ss → Moved n ss ts xs cs → Knows (js ++ xs) (bs ++ cs) ts
+  pub knows_moved : (n : ℕ) (js xs : List Entry) (bs cs : List Call) (ss ts : List Session) → Knows js bs ss → Moved n ss ts xs cs → Knows (js ++ xs) (bs ++ cs) ts
   unfolding Fits
   knows_moved n js xs bs cs ss ts h (Absent f e x y) = rw (e, x, y, append-nil js, append-nil bs) h
   knows_moved n js xs bs cs ss ts h (Found s f num others left apart) = record {
@@ -211,7 +211,7 @@ module _ (plan : Plan) (Q : Session → Session → List Entry → List Call →
   turn_opens bs until happening =
       opened_in-append bs (Turns until happening ∷ []) ∙ ap (λ z. opened_in bs ++ z) (append-nil (opened_by happening))
 
-  knows_turned : (js : List Entry) (bs : List Call) (ss : List Session) (until : Option ℕ) (happening : Happening) → opened_by happening ≡ []
+  pub knows_turned : (js : List Entry) (bs : List Call) (ss : List Session) (until : Option ℕ) (happening : Happening) → opened_by happening ≡ []
       → Knows js bs ss → Knows (js ++ []) (bs ++ Turns until happening ∷ []) ss
   knows_turned js bs ss until happening none h = rw (append-nil js) (record {
     fits = λ conn. rw (turn_at conn bs until happening) (h.fits conn);
@@ -223,7 +223,7 @@ module _ (plan : Plan) (Q : Session → Session → List Entry → List Call →
   })
 
   -- the connection that was accepted is above all before
-  accepted_above : (bs : List Call) (cs : List Call) (until : Option ℕ) (conn : Conn)
+  pub accepted_above : (bs : List Call) (cs : List Call) (until : Option ℕ) (conn : Conn)
       → Rises (newest 0 (opened_in bs)) (opened_in (Turns until (happening.Accepted conn) ∷ cs)) → newest 0 (opened_in bs) < conn.0
   unfolding opened_in
   accepted_above bs cs until conn p = p.0
@@ -236,7 +236,7 @@ module _ (plan : Plan) (Q : Session → Session → List Entry → List Call →
   unfolding of
   one_of conn x = refl
 
-  knows_opened : (js : List Entry) (bs : List Call) (l : Loop) (until : Option ℕ) (conn : Conn) (mind : Mind)
+  pub knows_opened : (js : List Entry) (bs : List Call) (l : Loop) (until : Option ℕ) (conn : Conn) (mind : Mind)
       → newest 0 (opened_in bs) < conn.0 → Knows js bs l.sessions
       → Knows (js ++ record { moment = l.moment; conn = conn.0; event = event.Answer plan.rbc (next_u64 l.words).0; outcomes = [] } ∷ [])
       (bs ++ Turns until (happening.Accepted conn) ∷ []) (l.sessions ++ begun conn.0 (answering plan l) mind ∷ [])
@@ -279,7 +279,7 @@ module _ (plan : Plan) (Q : Session → Session → List Entry → List Call →
       ap (λ z. newest 0 z) (opened_in-append bs (Turns until (happening.Accepted conn) ∷ Closes conn.0 ∷ []))
       ∙ newest-append 0 (opened_in bs) (conn.0 ∷ [])
 
-  knows_away : (js : List Entry) (bs : List Call) (ss : List Session) (m : ℕ) (why : Event) (until : Option ℕ) (conn : Conn)
+  pub knows_away : (js : List Entry) (bs : List Call) (ss : List Session) (m : ℕ) (why : Event) (until : Option ℕ) (conn : Conn)
       → newest 0 (opened_in bs) < conn.0
       → E (record { moment = m; conn = conn.0; event = why; outcomes = [] } ∷ []) (Closes conn.0 ∷ []) → Knows js bs ss
       → Knows (js ++ record { moment = m; conn = conn.0; event = why; outcomes = [] } ∷ [])
@@ -334,13 +334,15 @@ module _ (plan : Plan) (Q : Session → Session → List Entry → List Call →
         knows_away js bs ss m (event.Unserved handed) until conn (accepted_above bs (Closes conn.0 ∷ []) until conn rises) (k.unserved m conn.0 handed) h;
   }
 
+  pub knows_none : Knows [] [] []
+  unfolding Fits of calls_at opened_in session_of Apart
+  knows_none = record { fits = λ conn. k.never; apart = tt; low = λ conn lt. (refl, refl, refl) }
+
   -- from no sessions on, where the connections that are accepted have rising numbers
   pub knows_run : (c : Course) (turns : List Turn) → c.loop.sessions ≡ [] → Rises 0 (opened_in (run plan c turns).calls)
       → Knows (run plan c turns).entries (run plan c turns).calls (run plan c turns).state.loop.sessions
-  unfolding Goes Fits of calls_at opened_in session_of Apart
-  knows_run c turns none rises =
-      wise_run plan Goes goes c turns [] [] rises
-      (rw none (record { fits = λ conn. k.never; apart = tt; low = λ conn lt. (refl, refl, refl) }))
+  unfolding Goes opened_in
+  knows_run c turns none rises = wise_run plan Goes goes c turns [] [] rises (rw none knows_none)
 
   -- from what is known of a journal and a record
   pub knows_on : (c : Course) (turns : List Turn) (js : List Entry) (bs : List Call) → Rises (newest 0 (opened_in bs)) (opened_in (run plan c turns).calls)

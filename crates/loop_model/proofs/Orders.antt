@@ -25,7 +25,7 @@ calls r = usual_calls r (λ g. Unit {0}) Own (own_steady r) all_given own_bare o
 
 left_few : (s : Session) (ts : List Session) (xs : List Entry) (cs : List Call) → Left Own s ts xs cs → length ts ≤ 1
 left_few s ts xs cs (Stays t p q) = subst (λ z. length z ≤ 1) (sym p) (omega arith)
-left_few s ts xs cs (Closed t ds p e q) = subst (λ z. length z ≤ 1) (sym p) (omega arith)
+left_few s ts xs cs (Closed t ds over p e q) = subst (λ z. length z ≤ 1) (sym p) (omega arith)
 
 one_at_most : (a b c : ℕ) → c ≡ a + b → a ≤ 1 → c ≤ suc b
 one_at_most a b c p q = omega arith
@@ -81,13 +81,13 @@ up_to_more a b (n ∷ ns) p q = (let h : n ≤ a = q.0 in omega arith, up_to_mor
 rises_left : (from : ℕ) (s : Session) (ss ts : List Session) (xs : List Entry) (cs : List Call) → Left Own s ts xs cs
     → Rises from (numbers (s ∷ ss)) → Rises from (numbers (ts ++ ss))
 rises_left from s ss ts xs cs (Stays t p q) h = rw p (subst (λ z. (from < z) × Rises z (numbers ss)) (sym q.number) h)
-rises_left from s ss ts xs cs (Closed t ds p e q) h = rw p (rises_down from s.number (numbers ss) (let x : from < s.number = h.0 in omega arith) h.1)
+rises_left from s ss ts xs cs (Closed t ds over p e q) h = rw p (rises_down from s.number (numbers ss) (let x : from < s.number = h.0 in omega arith) h.1)
 
 up_to_left : (top : ℕ) (s : Session) (ss ts : List Session) (xs : List Entry) (cs : List Call) → Left Own s ts xs cs
     → UpTo top (numbers (s ∷ ss)) → UpTo top (numbers (ts ++ ss))
 unfolding UpTo
 up_to_left top s ss ts xs cs (Stays t p q) h = rw p (subst (λ z. (z ≤ top) × UpTo top (numbers ss)) (sym q.number) h)
-up_to_left top s ss ts xs cs (Closed t ds p e q) h = rw p h.1
+up_to_left top s ss ts xs cs (Closed t ds over p e q) h = rw p h.1
 
 visit_rises : (r : Rules) (m : ℕ) (visit : Visit) (n from : ℕ) (ss : List Session) (a : Met) → Rises from (numbers ss)
     → Rises from (numbers (visit_at (visited r m visit) n ss a).state)
@@ -120,7 +120,7 @@ visit_opens r m visit n (s ∷ ss) a =
   where
     left_opens : (s : Session) (ts : List Session) (xs : List Entry) (cs : List Call) → Left Own s ts xs cs → opened_in cs ≡ []
     left_opens s ts xs cs (Stays t p q) = q.opens
-    left_opens s ts xs cs (Closed t ds p e q) = ap opened_in e ∙ opened_in-append ds (Closes t.number ∷ []) ∙ ap (λ z. z ++ []) q.opens
+    left_opens s ts xs cs (Closed t ds over p e q) = ap opened_in e ∙ opened_in-append ds (Closes t.number ∷ []) ∙ ap (λ z. z ++ []) q.opens
 
 rises_last : (from top n : ℕ) (ns : List ℕ) → Rises from ns → UpTo top ns → from ≤ top → top < n → Rises from (ns ++ n ∷ [])
 unfolding UpTo

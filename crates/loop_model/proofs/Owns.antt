@@ -5,11 +5,11 @@ use Rattle.link_trait.specs.Wires.{Call, Reading, Gave, NotNow, End, Failed, Rea
 use Rattle.link_trait.specs.declared.wires.WriteAnswer.TheVariants as write
 use Rattle.loop_model.specs.Journals.{Entry}
 use Rattle.loop_model.specs.Outs.{first_of}
-use Rattle.loop_model.specs.Sessions.{Rules, Session, Given, Hears, Ticks, Ends, Faults, Stalls, end_after, outcomes_of, entry_of, octets_in, breaks, Says, nothing_said}
+use Rattle.loop_model.specs.Sessions.{Rules, Session, is_released, Given, Hears, Ticks, Ends, Faults, Stalls, end_after, outcomes_of, entry_of, octets_in, breaks, Says, nothing_said}
 use Rattle.loop_model.specs.Visits.{most_read, came}
 use Rattle.loop_model.specs.Parts.{of, calls_at, opened_in}
 use Rattle.loop_model.proofs.Projections.{of-append, calls_at-append, opened_in-append, split_if}
-use Rattle.loop_model.proofs.Steadies.{Steady, Usual, Quiet, Calls, steady_handled, steady_pours}
+use Rattle.loop_model.proofs.Steadies.{SteadyAt, Steady, steady_at, Usual, QuietAt, Quiet, CallsAt, Calls, handled_at, pours_at}
 use Rattle.loop_model.proofs.Lives.{Own}
 
 -- each bare call
@@ -17,7 +17,7 @@ pub record Bare (Q : Session → Session → List Entry → List Call → Type 0
   pub wrote : (s : Session) (n : ℕ) → s.broken ≡ false → Q s (record s { output = drop n s.output }) [] (Writes s.number s.output (write.Some n) ∷ [])
   pub put_off : (s : Session) → Q s s [] (Writes s.number s.output write.NotNow ∷ [])
   pub failed : (s : Session) → Q s s [] (Writes s.number s.output write.Failed ∷ [])
-  pub breaks : (s : Session) → Q s (record s { broken = true }) [] []
+  pub breaks : (s : Session) → is_released s ≡ true → Q s (record s { broken = true }) [] []
 
 -- all that the loop gives an end by itself is allowed
 pub record AllGiven (Allowed : Given → Type 0) : Type 0 where
@@ -27,29 +27,45 @@ pub record AllGiven (Allowed : Given → Type 0) : Type 0 where
   pub ends : Allowed Ends
   pub faults : Allowed Faults
 
-module _ (r : Rules) (Allowed : Given → Type 0) (Q : Session → Session → List Entry → List Call → Type 0) (q : Steady r Allowed Q) (all : AllGiven Allowed) (b : Bare Q) where
-  came_so : (m : ℕ) (s : Session) (reading : Reading) (says : List Says) → Q s (came reading r m s says).0 (came reading r m s says).1 []
-  came_so m s (Gave octets) says = steady_pours r Allowed Q q all.usual all.hears m s octets says
-  came_so m s NotNow says = q.none s
-  came_so m s End says = steady_handled r Allowed Q q all.usual m s Ends (first_of nothing_said says) all.ends
-  came_so m s Failed says = steady_handled r Allowed Q q all.usual m s Faults (first_of nothing_said says) all.faults
+module _ (r : Rules) (m : ℕ) (Allowed : Given → Type 0) (Q : Session → Session → List Entry → List Call → Type 0) (q : SteadyAt r m Allowed Q) (all : AllGiven Allowed) (b : Bare Q) where
+  came_at : (s : Session) (reading : Reading) (says : List Says) → Q s (came reading r m s says).0 (came reading r m s says).1 []
+  came_at s (Gave octets) says = pours_at r m Allowed Q q all.usual all.hears s octets says
+  came_at s NotNow says = q.none s
+  came_at s End says = handled_at r m Allowed Q q all.usual s Ends (first_of nothing_said says) all.ends
+  came_at s Failed says = handled_at r m Allowed Q q all.usual s Faults (first_of nothing_said says) all.faults
 
+  pub usual_quiet_at : QuietAt r m Q
+  usual_quiet_at = record {
+    none = q.none;
+    then_ = q.then_;
+    wrote = b.wrote;
+    put_off = b.put_off;
+    failed = λ s says live. q.then_ s s _ [] _ (Writes s.number s.output write.Failed ∷ []) [] (b.failed s) (handled_at r m Allowed Q q all.usual s Faults says all.faults);
+    failed_released = λ s gone. q.then_ s s (record s { broken = true }) [] [] (Writes s.number s.output write.Failed ∷ []) [] (b.failed s) (b.breaks s gone);
+    ticked = λ s says due. handled_at r m Allowed Q q all.usual s Ticks says all.ticks;
+  }
+
+  pub usual_calls_at : ((s : Session) (waits : ℕ) (reading : Reading) → Q s s [] (Reads s.number most_read waits reading ∷ [])) → CallsAt r m Q
+  usual_calls_at reads = record {
+    quiet = usual_quiet_at;
+    read = λ s a live. q.then_ s s _ [] _ (Reads s.number most_read a.waits a.reading ∷ []) [] (reads s a.waits a.reading) (came_at s a.reading a.says);
+  }
+
+-- at every moment
+module _ (r : Rules) (Allowed : Given → Type 0) (Q : Session → Session → List Entry → List Call → Type 0) (q : Steady r Allowed Q) (all : AllGiven Allowed) (b : Bare Q) where
   pub usual_quiet : Quiet r Q
   usual_quiet = record {
     none = q.none;
     then_ = q.then_;
     wrote = b.wrote;
     put_off = b.put_off;
-    failed = λ m s says live. q.then_ s s _ [] _ (Writes s.number s.output write.Failed ∷ []) [] (b.failed s) (steady_handled r Allowed Q q all.usual m s Faults says all.faults);
-    failed_released = λ s. q.then_ s s (record s { broken = true }) [] [] (Writes s.number s.output write.Failed ∷ []) [] (b.failed s) (b.breaks s);
-    ticked = λ m s says due. steady_handled r Allowed Q q all.usual m s Ticks says all.ticks;
+    failed = λ m. (usual_quiet_at r m Allowed Q (steady_at r Allowed Q q m) all b).failed;
+    failed_released = λ s gone. q.then_ s s (record s { broken = true }) [] [] (Writes s.number s.output write.Failed ∷ []) [] (b.failed s) (b.breaks s gone);
+    ticked = λ m. (usual_quiet_at r m Allowed Q (steady_at r Allowed Q q m) all b).ticked;
   }
 
   pub usual_calls : ((s : Session) (waits : ℕ) (reading : Reading) → Q s s [] (Reads s.number most_read waits reading ∷ [])) → Calls r Q
-  usual_calls reads = record {
-    quiet = usual_quiet;
-    read = λ m s a live. q.then_ s s _ [] _ (Reads s.number most_read a.waits a.reading ∷ []) [] (reads s a.waits a.reading) (came_so m s a.reading a.says);
-  }
+  usual_calls reads = record { quiet = usual_quiet; read = λ m. (usual_calls_at r m Allowed Q (steady_at r Allowed Q q m) all b reads).read }
 
 -- ---- two at once
 
@@ -64,7 +80,21 @@ steady_both r Allowed P Q p q = record {
   given = λ m s g allowed fits. (p.given m s g allowed fits, q.given m s g allowed fits);
   stalls = λ m s g allowed fits. (p.stalls m s g allowed fits, q.stalls m s g allowed fits);
   heard = λ s mind. (p.heard s mind, q.heard s mind);
-  parts = λ s at. (p.parts s at, q.parts s at);
+  parts = λ s at gone. (p.parts s at gone, q.parts s at gone);
+}
+
+pub calls_both : (r : Rules) (P Q : Session → Session → List Entry → List Call → Type 0) → Calls r P → Calls r Q → Calls r (Both P Q)
+calls_both r P Q p q = record {
+  quiet = record {
+    none = λ s. (p.none s, q.none s);
+    then_ = λ s t u xs ys cs ds a b. (p.then_ s t u xs ys cs ds a.0 b.0, q.then_ s t u xs ys cs ds a.1 b.1);
+    wrote = λ s n whole. (p.wrote s n whole, q.wrote s n whole);
+    put_off = λ s. (p.put_off s, q.put_off s);
+    failed = λ m s says live. (p.failed m s says live, q.failed m s says live);
+    failed_released = λ s gone. (p.failed_released s gone, q.failed_released s gone);
+    ticked = λ m s says due. (p.ticked m s says due, q.ticked m s says due);
+  };
+  read = λ m s a live. (p.read m s a live, q.read m s a live);
 }
 
 pub bare_both : (P Q : Session → Session → List Entry → List Call → Type 0) → Bare P → Bare Q → Bare (Both P Q)
@@ -72,7 +102,7 @@ bare_both P Q p q = record {
   wrote = λ s n whole. (p.wrote s n whole, q.wrote s n whole);
   put_off = λ s. (p.put_off s, q.put_off s);
   failed = λ s. (p.failed s, q.failed s);
-  breaks = λ s. (p.breaks s, q.breaks s);
+  breaks = λ s gone. (p.breaks s gone, q.breaks s gone);
 }
 
 -- ---- its own
@@ -137,7 +167,7 @@ own_steady r = record {
       own_two s (record s { end = end_after r m (end_after r m s.end g) Stalls; broken = true }) (entry_of r m s g)
       (entry_of r m (record s { end = end_after r m s.end g }) Stalls) refl refl refl;
   heard = λ s mind. own_same s (record s { mind = mind }) refl;
-  parts = λ s at. own_same s (record s { mind = None; closing = Some at }) refl;
+  parts = λ s at gone. own_same s (record s { mind = None; closing = Some at }) refl;
 }
 
 pub own_bare : Bare Own
@@ -146,7 +176,7 @@ own_bare = record {
   wrote = λ s n whole. record { number = refl; entries = λ conn. if_nil (s.number == conn); calls = λ conn. refl; opens = refl };
   put_off = λ s. record { number = refl; entries = λ conn. if_nil (s.number == conn); calls = λ conn. refl; opens = refl };
   failed = λ s. record { number = refl; entries = λ conn. if_nil (s.number == conn); calls = λ conn. refl; opens = refl };
-  breaks = λ s. own_same s (record s { broken = true }) refl;
+  breaks = λ s gone. own_same s (record s { broken = true }) refl;
 }
 
 pub own_reads : (s : Session) (waits : ℕ) (reading : Reading) → Own s s [] (Reads s.number most_read waits reading ∷ [])

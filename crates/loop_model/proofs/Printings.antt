@@ -56,7 +56,7 @@ behind-append settings finds m (x ∷ xs) ys = behind-append settings finds (hap
 -- ---- one session
 
 -- the events that an end takes
-abbrev IsOfEnd : Given → Type 0
+abbrev pub IsOfEnd : Given → Type 0
 IsOfEnd (Begins engine rbc rb) = ⊥
 IsOfEnd (Hears octets) = Unit {0}
 IsOfEnd (Sends text) = Unit {0}
@@ -67,7 +67,7 @@ IsOfEnd Ends = Unit {0}
 IsOfEnd Faults = Unit {0}
 IsOfEnd Stalls = Unit {0}
 
-all_of_end : AllGiven IsOfEnd
+pub all_of_end : AllGiven IsOfEnd
 all_of_end = record {
   usual = record { sends = λ text. tt; leaves = λ sub. tt; takes = tt };
   hears = λ octets. tt;
@@ -80,23 +80,23 @@ module _ (steps : StepsAlike) (made : MadeStands) (plan : Plan) (allowed : AllAl
   rules : Rules
   rules = rules_of plan
 
-  abbrev Tells : Option End → List Entry → Type 0
+  abbrev pub Tells : Option End → List Entry → Type 0
   Tells m xs = tells plan.settings (key_at plan.keys) m xs
 
-  abbrev Behind : Option End → List Entry → Option End
+  abbrev pub Behind : Option End → List Entry → Option End
   Behind m xs = behind plan.settings (key_at plan.keys) m xs
 
   -- events lead from an end that is kept to another
-  record Leads (m : End) (k : KEnd) (ys : List Entry) : Type 0 where
+  pub record Leads (m : End) (k : KEnd) (ys : List Entry) : Type 0 where
     told : Tells (Some m) ys
     now : End
     is : Behind (Some m) ys ≡ Some now
     stands : EndStands k now
 
-  Going : KEnd → KEnd → List Entry → Type 0
+  pub Going : KEnd → KEnd → List Entry → Type 0
   Going k l ys = (m : End) → EndStands k m → Leads m l ys
 
-  Goes : Session → Session → List Entry → List Call → Type 0
+  unfoldable pub Goes : Session → Session → List Entry → List Call → Type 0
   Goes s t ys ds = Going s.end t.end ys
 
   stays : (k : KEnd) → Going k k []
@@ -151,7 +151,7 @@ module _ (steps : StepsAlike) (made : MadeStands) (plan : Plan) (allowed : AllAl
         on s.end k (end_after (rules_of plan) m k Stalls) (entry_of (rules_of plan) m s g ∷ [])
         (entry_of (rules_of plan) m (record s { end = k }) Stalls ∷ []) (one m s.number s.end g p) (one m s.number k Stalls tt);
     heard = λ s mind. stays s.end;
-    parts = λ s at. stays s.end;
+    parts = λ s at gone. stays s.end;
   }
 
   bare : Bare Goes
@@ -160,38 +160,38 @@ module _ (steps : StepsAlike) (made : MadeStands) (plan : Plan) (allowed : AllAl
     wrote = λ s n whole. stays s.end;
     put_off = λ s. stays s.end;
     failed = λ s. stays s.end;
-    breaks = λ s. stays s.end;
+    breaks = λ s gone. stays s.end;
   }
 
   reads : (s : Session) (waits : ℕ) (reading : Reading) → Goes s s [] (Reads s.number most_read waits reading ∷ [])
   unfolding Goes
   reads s waits reading = stays s.end
 
-  abbrev Q : Session → Session → List Entry → List Call → Type 0
+  abbrev pub Q : Session → Session → List Entry → List Call → Type 0
   Q = Both Own Goes
 
-  q_steady : Steady (rules_of plan) IsOfEnd Q
+  pub q_steady : Steady (rules_of plan) IsOfEnd Q
   q_steady = steady_both (rules_of plan) IsOfEnd Own Goes (steady_less (rules_of plan) (λ g. Unit {0}) IsOfEnd Own (λ g p. tt) (own_steady (rules_of plan))) steady
 
-  q_calls : Calls (rules_of plan) Q
+  pub q_calls : Calls (rules_of plan) Q
   q_calls =
       usual_calls (rules_of plan) IsOfEnd Q q_steady all_of_end (bare_both Own Goes own_bare bare)
       (λ s waits reading. (own_reads s waits reading, reads s waits reading))
 
   -- an end and its events so far
-  record ToldTo (k : KEnd) (xs : List Entry) : Type 0 where
-    told : Tells None xs
-    now : End
-    is : Behind None xs ≡ Some now
-    stands : EndStands k now
+  pub record ToldTo (k : KEnd) (xs : List Entry) : Type 0 where
+    pub told : Tells None xs
+    pub now : End
+    pub is : Behind None xs ≡ Some now
+    pub stands : EndStands k now
 
-  abbrev Told : Session → List Entry → List Call → Type 0
+  abbrev pub Told : Session → List Entry → List Call → Type 0
   Told s xs cs = ToldTo s.end xs
 
-  abbrev Gone : List Entry → List Call → Type 0
+  abbrev pub Gone : List Entry → List Call → Type 0
   Gone xs cs = Tells None xs
 
-  more : (k l : KEnd) (xs ys : List Entry) → ToldTo k xs → Going k l ys → ToldTo l (xs ++ ys)
+  pub more : (k l : KEnd) (xs ys : List Entry) → ToldTo k xs → Going k l ys → ToldTo l (xs ++ ys)
   unfolding Going
   more k l xs ys h q =
       let b = q h.now h.stands in
@@ -202,11 +202,11 @@ module _ (steps : StepsAlike) (made : MadeStands) (plan : Plan) (allowed : AllAl
         stands = b.stands;
       }
 
-  keeps : Keeps plan Q Told Gone
+  pub keeps : Keeps plan Q Told Gone
   unfolding behind Goes
   keeps = record {
     visit = λ s t xs ys cs ds h q. more s.end t.end xs ys h q.1;
-    close = λ s t xs ys cs ds h q. (more s.end t.end xs ys h q.1).told;
+    close = λ s t xs ys cs ds over h q. (more s.end t.end xs ys h q.1).told;
     open_ = λ l conn mind. record {
       told = (refl, tt);
       now = opened (AnswersWith plan.settings plan.rbc (next_u64 l.words).0 l.moment);
@@ -226,7 +226,7 @@ module _ (steps : StepsAlike) (made : MadeStands) (plan : Plan) (allowed : AllAl
 
   -- ---- the whole journal
 
-  at_own : (conn : ℕ) (m : Option End) (xs : List Entry) → end_behind plan.settings (key_at plan.keys) conn m (lines_of xs) ≡ Behind m (of conn xs)
+  pub at_own : (conn : ℕ) (m : Option End) (xs : List Entry) → end_behind plan.settings (key_at plan.keys) conn m (lines_of xs) ≡ Behind m (of conn xs)
   unfolding end_behind behind of
   at_own conn m [] = refl
   at_own conn m (x ∷ xs) =
@@ -278,7 +278,7 @@ module _ (steps : StepsAlike) (made : MadeStands) (plan : Plan) (allowed : AllAl
 
   -- ---- a dial
 
-  abbrev begins : Caller → Loop → Given
+  abbrev pub begins : Caller → Loop → Given
   begins caller l = Begins caller.engine plan.rbc (next_u64 l.words).0
 
   told_call : (caller : Caller) (l : Loop) (conn : ℕ) → key_at plan.keys l.moment caller.engine plan.rbc ≡ Some caller.kmac
@@ -298,7 +298,7 @@ module _ (steps : StepsAlike) (made : MadeStands) (plan : Plan) (allowed : AllAl
         stands = a.0;
       }
 
-  first_told : (caller : Caller) (at : ℕ) → key_at plan.keys at caller.engine plan.rbc ≡ Some caller.kmac
+  pub first_told : (caller : Caller) (at : ℕ) → key_at plan.keys at caller.engine plan.rbc ≡ Some caller.kmac
       → (l : Loop) (conn : ℕ) (mind : Mind) → l.moment ≡ at
       → ToldTo (fed (rules_of plan) l.moment (begun conn (calling plan caller l) mind) (begins caller l)).0.end
       (fed (rules_of plan) l.moment (begun conn (calling plan caller l) mind) (begins caller l)).1

@@ -13,7 +13,7 @@ use Rattle.loop_model.specs.Visits.{Wrote, rests_behind, Met, nothing_met, Tick,
 use Rattle.loop_model.specs.Loops.{Plan, rules_of, Loop, most_live, visit_at, numbers, swept, Sweeps, before, next_user, answered_by, accepted, happened, Halt, Course, asks, Turn, readied, turned_unless, went_unless, went}
 use Rattle.loop_model.specs.Parts.{session_of}
 use Rattle.loop_model.specs.Laws.{reads_by, reads_of, to_be_read_of, to_be_read, to_be_read_unless, OneReadATurn}
-use Rattle.loop_model.proofs.Steadies.{Steady, Quiet, Left, Stays, Closed, left_tick, left_write, left_expire, left_behind}
+use Rattle.loop_model.proofs.Steadies.{Steady, Quiet, Left, Stays, Closed, quiet_at, left_tick_at, left_write_at, left_expire_at, left_behind_at}
 use Rattle.loop_model.proofs.Owns.{Bare, AllGiven, usual_quiet}
 
 pub reads_of-append : (cs ds : List Call) → reads_of (cs ++ ds) ≡ reads_of cs ++ reads_of ds
@@ -32,12 +32,12 @@ steady r = record {
   given = λ m s g allowed fits. refl;
   stalls = λ m s g allowed fits. refl;
   heard = λ s mind. refl;
-  parts = λ s at. refl;
+  parts = λ s at gone. refl;
 }
 
 bare : Bare NoRead
 unfolding NoRead reads_of
-bare = record { wrote = λ s n whole. refl; put_off = λ s. refl; failed = λ s. refl; breaks = λ s. refl }
+bare = record { wrote = λ s n whole. refl; put_off = λ s. refl; failed = λ s. refl; breaks = λ s gone. refl }
 
 all_given : AllGiven (λ g. Unit {0})
 all_given = record { usual = record { sends = λ text. tt; leaves = λ sub. tt; takes = tt }; hears = λ octets. tt; ticks = tt; ends = tt; faults = tt }
@@ -48,7 +48,7 @@ quiet r = usual_quiet r (λ g. Unit {0}) NoRead (steady r) all_given bare
 left_none : (s : Session) (ts : List Session) (xs : List Entry) (cs : List Call) → Left NoRead s ts xs cs → reads_of cs ≡ []
 unfolding NoRead reads_of
 left_none s ts xs cs (Stays t p q) = q
-left_none s ts xs cs (Closed t ds p e q) = ap reads_of e ∙ reads_of-append ds (Closes t.number ∷ []) ∙ append-nil (reads_of ds) ∙ q
+left_none s ts xs cs (Closed t ds over p e q) = ap reads_of e ∙ reads_of-append ds (Closes t.number ∷ []) ∙ append-nil (reads_of ds) ∙ q
 
 module _ (f : Session → Met → Out (List Session)) (none : (s : Session) (a : Met) → reads_of (f s a).calls ≡ []) where
   visit_none : (n : ℕ) (ss : List Session) (a : Met) → reads_of (visit_at f n ss a).calls ≡ []
@@ -67,13 +67,13 @@ module _ (f : Session → Met → Out (List Session)) (none : (s : Session) (a :
       ∙ swept_none ns o.state (drop 1 answers)
 
 tick_none : (r : Rules) (m : ℕ) (s : Session) (a : Met) → reads_of (visited r m Tick s a).calls ≡ []
-tick_none r m s a = left_none s _ _ _ (left_tick r NoRead (quiet r) m s a)
+tick_none r m s a = left_none s _ _ _ (left_tick_at r m NoRead (quiet_at r NoRead (quiet r) m) s a)
 
 write_none : (r : Rules) (m : ℕ) (s : Session) (a : Met) → reads_of (visited r m Write s a).calls ≡ []
-write_none r m s a = left_none s _ _ _ (left_write r NoRead (quiet r) m s a)
+write_none r m s a = left_none s _ _ _ (left_write_at r m NoRead (quiet_at r NoRead (quiet r) m) s a)
 
 expire_none : (r : Rules) (m : ℕ) (s : Session) (a : Met) → reads_of (visited r m Expire s a).calls ≡ []
-expire_none r m s a = left_none s _ _ _ (left_expire r NoRead (quiet r) m s a)
+expire_none r m s a = left_none s _ _ _ (left_expire_at r m NoRead (quiet_at r NoRead (quiet r) m) s a)
 
 before_none : (r : Rules) (m : ℕ) (ss : List Session) (a : Sweeps) → reads_of (before r m ss a).calls ≡ []
 unfolding before
@@ -86,7 +86,7 @@ before_none r m ss a =
 
 behind_none : (r : Rules) (m : ℕ) (reading : Reading) (s : Session) (a : Wrote) → reads_of (rests_behind reading r m s a).calls ≡ []
 unfolding NoRead reads_of
-behind_none r m reading s a = left_none s _ _ _ (left_behind r NoRead (quiet r) reading m s s a [] [] refl)
+behind_none r m reading s a = left_none s _ _ _ (left_behind_at r m NoRead (quiet_at r NoRead (quiet r) m) reading s s a [] [] refl)
 
 one_read : (r : Rules) (m : ℕ) (s : Session) (a : Met) → reads_of (visited r m Read s a).calls ≡ (if is_released s then [] else s.number ∷ [])
 unfolding visited read_once reads_of

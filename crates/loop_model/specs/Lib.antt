@@ -5,3 +5,5 @@ pub mod Visits
 pub mod Loops
 pub mod Parts
 pub mod Laws
+pub mod Recordings
+pub mod Points

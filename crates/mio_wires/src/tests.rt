@@ -14,10 +14,20 @@ fn soon(rt: HostRuntime) -> io::Result<u64> {
     Ok(now.saturating_add(100))
 }
 
+// A listener at a port of this machine that nobody had.
+fn listener(rt: HostRuntime) -> io::Result<net::TcpListener> {
+    net::TcpListener::bind(&rt, SocketAddr::from((Ipv4Addr::LOCALHOST, 0)))
+}
+
+// The address of a listener, as text.
+fn address_of(rt: HostRuntime, listener: &net::TcpListener) -> Result<String, Fail> {
+    let address = listener.local_addr()?;
+    Ok(format!(in rt.alloc(); "{address}")?)
+}
+
 // An address of this machine at which nobody listens.
 fn free_address(rt: HostRuntime) -> Result<String, Fail> {
-    let listener = net::TcpListener::bind(&rt, SocketAddr::from((Ipv4Addr::LOCALHOST, 0)))?;
-    Ok(format!(in rt.alloc(); "{}", listener.local_addr()?)?)
+    address_of(rt, &listener(rt)?)
 }
 
 // The first connection that is accepted in a hundred turns.
@@ -73,7 +83,7 @@ fn write_soon<W: Wires>(
 }
 
 // Six octets go each way.
-fn exchange<W: Wires>(
+fn exchanges<W: Wires>(
     rt: HostRuntime,
     wires: &mut W,
     peer: &mut net::TcpStream,
@@ -102,29 +112,44 @@ fn ends<W: Wires>(rt: HostRuntime, wires: &mut W) -> io::Result<bool> {
     Ok(came == ReadAnswer::End && is_closed && wires.turn(Some(soon(rt)?)) == Happening::Quiet)
 }
 
+// A peer comes, and goes behind six octets each way.
+fn serves_a_peer<W: Wires>(rt: HostRuntime, wires: &mut W, address: &str) -> io::Result<bool> {
+    let mut peer = net::TcpStream::connect(&rt, address)?;
+    let is_accepted = accepted(rt, wires)? == Some(Conn(1));
+    let exchanged = exchanges(rt, wires, &mut peer)?;
+    drop(peer);
+    Ok(is_accepted && exchanged && ends(rt, wires)?)
+}
+
 #[test]
 fn a_peer_is_accepted_read_answered_and_ends(rt: HostRuntime) -> Result<(), Fail> {
     let address = free_address(rt)?;
     let mut wires = MioWires::new(rt.alloc(), rt)?;
     assert!(rt; wires.listen(address.as_str()).is_ok());
-    let mut peer = net::TcpStream::connect(&rt, address.as_str())?;
-    assert!(rt; accepted(rt, &mut wires)? == Some(Conn(1)));
-    assert!(rt; exchange(rt, &mut wires, &mut peer)?);
-    drop(peer);
-    assert!(rt; ends(rt, &mut wires)?);
+    assert!(rt; serves_a_peer(rt, &mut wires, address.as_str())?);
     Ok(())
+}
+
+// A peer is called, and gets six octets.
+fn calls_a_peer<W: Wires>(
+    rt: HostRuntime,
+    wires: &mut W,
+    listener: &net::TcpListener,
+    address: &str,
+) -> io::Result<bool> {
+    let mut read = [0; 6];
+    let is_dialled = wires.dial(address) == Ok(Conn(1));
+    let written = write_soon(rt, wires, Conn(1), b"octets")?;
+    listener.accept()?.0.read_exact(&mut read)?;
+    Ok(is_dialled && written == WriteAnswer::Some(6) && &read == b"octets")
 }
 
 #[test]
 fn a_peer_is_dialled_and_written_to(rt: HostRuntime) -> Result<(), Fail> {
-    let listener = net::TcpListener::bind(&rt, SocketAddr::from((Ipv4Addr::LOCALHOST, 0)))?;
-    let address = format!(in rt.alloc(); "{}", listener.local_addr()?)?;
+    let listener = listener(rt)?;
+    let address = address_of(rt, &listener)?;
     let mut wires = MioWires::new(rt.alloc(), rt)?;
-    assert!(rt; wires.dial(address.as_str()) == Ok(Conn(1)));
-    assert!(rt; write_soon(rt, &mut wires, Conn(1), b"octets")? == WriteAnswer::Some(6));
-    let mut read = [0; 6];
-    listener.accept()?.0.read_exact(&mut read)?;
-    assert!(rt; &read == b"octets");
+    assert!(rt; calls_a_peer(rt, &mut wires, &listener, address.as_str())?);
     Ok(())
 }
 
@@ -137,24 +162,49 @@ fn is_refused<W: Wires>(rt: HostRuntime, wires: &mut W, address: &str) -> io::Re
     }
 }
 
+// Whether nothing is listened at: an address that is taken, and texts that are none.
+fn listens_nowhere<W: Wires>(wires: &mut W, taken: &str) -> bool {
+    for address in [taken, "", "localhost:4711", "127.0.0.1", "127.0.0.1:65536"] {
+        if wires.listen(address).is_ok() {
+            return false;
+        }
+    }
+    true
+}
+
 #[test]
 fn calls_that_fail(rt: HostRuntime) -> Result<(), Fail> {
-    let listener = net::TcpListener::bind(&rt, SocketAddr::from((Ipv4Addr::LOCALHOST, 0)))?;
-    let taken = format!(in rt.alloc(); "{}", listener.local_addr()?)?;
-    let free = free_address(rt)?;
+    let listener = listener(rt)?;
+    let taken = address_of(rt, &listener)?;
     let mut wires = MioWires::new(rt.alloc(), rt)?;
-    for address in [
-        taken.as_str(),
-        "",
-        "localhost:4711",
-        "127.0.0.1",
-        "127.0.0.1:65536",
-    ] {
-        assert!(rt; wires.listen(address).is_err());
-    }
+    assert!(rt; listens_nowhere(&mut wires, taken.as_str()));
     assert!(rt; wires.dial("localhost:4711").is_err());
-    assert!(rt; is_refused(rt, &mut wires, free.as_str())?);
+    drop(listener);
+    assert!(rt; is_refused(rt, &mut wires, taken.as_str())?);
     Ok(())
+}
+
+// Peers come until one waits, and that one is accepted behind a close.
+fn holds_one_back<W: Wires>(
+    rt: HostRuntime,
+    wires: &mut W,
+    address: &str,
+    peers: &mut Vec<net::TcpStream>,
+) -> Result<bool, Fail> {
+    for number in 1..=MOST_CONNECTIONS as u64 {
+        peers.push(net::TcpStream::connect(&rt, address)?)?;
+        if accepted(rt, wires)? != Some(Conn(number)) {
+            return Ok(false);
+        }
+    }
+    peers.push(net::TcpStream::connect(&rt, address)?)?;
+    for _ in 0..10 {
+        if matches!(wires.turn(Some(soon(rt)?)), Happening::Accepted(_)) {
+            return Ok(false);
+        }
+    }
+    wires.close(Conn(9));
+    Ok(accepted(rt, wires)? == Some(Conn(MOST_CONNECTIONS as u64 + 1)))
 }
 
 #[test]
@@ -163,15 +213,6 @@ fn no_more_are_accepted_than_can_be_open(rt: HostRuntime) -> Result<(), Fail> {
     let mut wires = MioWires::new(rt.alloc(), rt)?;
     let mut peers = Vec::new(rt.alloc());
     assert!(rt; wires.listen(address.as_str()).is_ok());
-    for number in 1..=MOST_CONNECTIONS as u64 {
-        peers.push(net::TcpStream::connect(&rt, address.as_str())?)?;
-        assert!(rt; accepted(rt, &mut wires)? == Some(Conn(number)));
-    }
-    peers.push(net::TcpStream::connect(&rt, address.as_str())?)?;
-    for _ in 0..10 {
-        assert!(rt; !matches!(wires.turn(Some(soon(rt)?)), Happening::Accepted(_)));
-    }
-    wires.close(Conn(9));
-    assert!(rt; accepted(rt, &mut wires)? == Some(Conn(MOST_CONNECTIONS as u64 + 1)));
+    assert!(rt; holds_one_back(rt, &mut wires, address.as_str(), &mut peers)?);
     Ok(())
 }

@@ -11,7 +11,7 @@ returns-in_default c =
 pub returns : goal.returns
 returns c =
     on_ok_weaker c.give.result
-    (passes_some (record { marks = c.marks_grow.ensures.marks; facts = c.marks_grow.ensures.facts; lines = c.marks_grow.ensures.lines }) c.args.place c.other.result c.args.self.now c.take_first.new.self c.give.new.self c.as_slice.result.now c.saturating_add-self.result
+    (passes_some (record { marks = c.marks_grow.ensures.marks; facts = c.marks_grow.ensures.facts; lines = c.marks_grow.ensures.lines }) c.args.place c.other.result c.args.self.now c.take_first.new.self c.give.new.self c.as_slice.result.now c.count_pass.new.totals
     c.args.out.now.items c.give.new.out.items
-    (rw c.as_slice.ensures c.in-Some.ensures) c.other.ensures c.saturating_add-self.ensures)
+    (rw c.as_slice.ensures c.in-Some.ensures) c.other.ensures c.count_pass.ensures)
     c.give.ensures

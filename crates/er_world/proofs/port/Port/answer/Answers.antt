@@ -1,4 +1,7 @@
 use Rattle.std.proofs.lemmas.Result.{on_ok_weaker}
+use Rattle.er_world.specs.Changes.{event_of}
+use Rattle.safety_automaton.specs.Keys.{key_at}
+use Rattle.er_world.proofs.Sends.{sent_so}
 use Rattle.er_world.proofs.port.Port.answer.Goals as goal
 
 pub returns-clause-went : goal.returns-clause-went
@@ -6,5 +9,12 @@ returns-clause-went c =
     on_ok_weaker c.tell_all.result
     (λ all end facts st h.
     let w = c.in_ok-told.ensures end st in
-    record { stands = w.stands; list = c.in_ok-told.told.items; told = w.told; all = all _ facts w.told h })
+    record {
+      stands = w.stands;
+      list = c.in_ok-told.told.items;
+      told = w.told;
+      all = all _ facts w.told h;
+      counts_are = c.count_told.ensures;
+      sent_are = sent_so c.steps.ensures.only (key_at c.args.keys.now c.args.now) c.args.now end (event_of c.args.event.now) c.in_ok-told.told.items w.told;
+    })
     c.tell_all.ensures

@@ -14,7 +14,7 @@ invariant_of-self c =
     let there : open_at c.self.inside.lines.items c.args.conn ≡ Some c.in-Some.line =
     ap (λ ls. open_at ls c.args.conn) (sym c.deref.ensures.value) ∙ sym c.open_at.ensures ∙ c.in-Some.is in (
       stands_close c.self.inside.acts.items c.self.inside.record c.keep.new.self c.self.inside.lines _ c.self.inside.again c.args.conn c.in-Some.line _ _
-          c.self.invariant.0 there refl c.keep.ensures refl refl refl (λ conn. refl),
+          c.self.invariant.0 there refl c.keep.ensures refl refl refl (λ conn. refl) (λ conn. refl),
       c.self.invariant.1,
       c.self.invariant.2,
     )

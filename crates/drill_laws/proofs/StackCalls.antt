@@ -1,0 +1,179 @@
+-- What an event at a stack tells as one step of its safety side, or as none: its facts, and what was sent and accepted by it.
+use Rattle.std.proofs.Common.{◌≡◌, ℕ, suc, zero, if◌then◌else◌, true, false, Bool, List, [], ◌∷◌, ◌++◌, length, map, refl, sym, ap₂, subst, ◌∙◌, append-nil}
+use Rattle.std.specs.Prelude.{Option, Some, None, is_some}
+use Rattle.std.specs.List.{flat_map}
+use Rattle.std.specs.Option.{option_to_list}
+use Rattle.std.proofs.lemmas.List.Concat.{flat_map-append}
+use Rattle.er_base.specs.declared.release.Release.{Release}
+use Rattle.er_base.specs.declared.side.Side.{Side}
+use Rattle.er_base.specs.declared.cause.Cause.TheVariants.{SetUpTimeSpent}
+use Rattle.er_base.specs.Causes.{release_of}
+use Rattle.des_block.specs.declared.triple_key.TripleKey.{TripleKey}
+use Rattle.hdlc_frames.specs.Framing.{Verdict}
+use Rattle.x224_class2.specs.Tpdus.{Dr}
+use Rattle.safety_automaton.specs.Safety.{Safety}
+use Rattle.safe_pair.specs.Facts.{Fact, SideFact, at_side, facts_of}
+use Rattle.safe_pair.specs.Openings.{PairOpening}
+use Rattle.station_pair.specs.Links.{said_octets}
+use Rattle.end_model.specs.Outcomes.{SendRefusal}
+use Rattle.end_model.specs.Layers.{Spoken, Core, model}
+use Rattle.end_model.specs.Steps.{begins_at, ends, gives, shuts, finishes, departs, gives_next, goes_on, offers, most_offers, concludes, starts, comes, refusal_of, sends_unless, uses, is_spent, di_of, time_at, ticks, normal_disconnect}
+use Rattle.end_model.specs.Ends.{hears_each}
+use Rattle.drill_model.specs.Outcomes.{Outcome, Frame, at_end, facts_in}
+use Rattle.drill_model.specs.Growth.{FactsGrow}
+use Rattle.drill_model.specs.StationEnds.{if_released, if_expired}
+use Rattle.drill_model.specs.StackEnds.{facts_told, told_at, stack_told, told_unless, took}
+use Rattle.drill_model.specs.StackReports.{user_in}
+use Rattle.drill_model.specs.Kinds.{sent_in, accepted_in}
+use Rattle.drill_laws.proofs.Speaking.{Speaks, Spoke, comes_spoke, sends_spoke, uses_silent, facts_append, facts_of_facts, rest_silent, expired_silent, took_silent}
+use Rattle.drill_laws.proofs.StackSaying.{sent_in_step, call_sent, call_accepted}
+
+-- ---- an event in which the safety side takes no step
+
+module _ (before : Safety) where
+  abbrev Rests : Core → Type 0
+  Rests x = (x.upper.spoke ≡ None) × (x.safe.safety ≡ before)
+
+  rests_if : (b : Bool) (x y : Core) → Rests x → Rests y → Rests (if b then x else y)
+  rests_if true x y hx hy = hx
+  rests_if false x y hx hy = hy
+
+  departs_rests : (why : Release) (reason : ℕ) (user : List ℕ) (x : Core) → Rests x → Rests (departs model why reason user x)
+  departs_rests why reason user x h = if_rests (model.may_send x.line) (gives model (Dr reason user) x) x h h
+    where
+      if_rests : (b : Bool) (y z : Core) → Rests y → Rests z → Rests (ends why (shuts model (if b then y else z)))
+      if_rests true y z hy hz = hy
+      if_rests false y z hy hz = hz
+
+  offers_rest : (n : ℕ) (x : Core) → Rests x → Rests (offers model n x)
+  unfolding offers
+  offers_rest zero x h = h
+  offers_rest (suc n) x h = rests_if (goes_on model x) (offers model n (gives_next model x)) x (offers_rest n (gives_next model x) h) h
+
+  concludes_rests : (x : Core) → Rests x → Rests (concludes model x)
+  concludes_rests x h = rests_if (is_some x.released) x (finishes model (offers model most_offers x)) h (offers_rest most_offers x h)
+
+  time_rests : (why : Option Release) (x : Core) → Rests x → Rests (time_at model why x)
+  time_rests (Some why) x h = h
+  time_rests None x h =
+      let why : Release = release_of SetUpTimeSpent in
+      rests_if (is_spent x) (departs model why normal_disconnect (di_of why x.safe.safety) x) x
+      (departs_rests why normal_disconnect (di_of why x.safe.safety) x h) h
+
+pub starts_rest : (now : ℕ) (x : Core) → Rests x.safe.safety (starts model now x)
+starts_rest now x =
+    let y : Core = begins_at model now x in
+    let z : Core = record y { line = model.starts y.moment y.line } in
+    rests_if x.safe.safety (is_some y.released) y (concludes model z) (refl, refl) (concludes_rests x.safe.safety z (refl, refl))
+
+pub ticks_rest : (now : ℕ) (x : Core) → Rests x.safe.safety (ticks model now x)
+ticks_rest now x =
+    let s : Safety = x.safe.safety in
+    let y : Core = begins_at model now x in
+    let z : Core = record y { line = model.ticks y.moment y.line } in
+    let why : Option Release = model.given_up y.moment y.line in
+    rests_if s (is_some y.released) y (concludes model (time_at model why z)) (refl, refl)
+    (concludes_rests s (time_at model why z) (time_rests s why z (refl, refl)))
+
+-- ---- what outcomes tell
+
+abbrev pub facts_spoken : Option Spoken → List Fact
+facts_spoken None = []
+facts_spoken (Some s) = facts_of s.event s.outcome
+
+-- outcomes tell this step, or none
+pub record Tells (spoke : Option Spoken) (os : List Outcome) : Type 0 where
+  pub facts_are : (side : Side) → facts_in (map (at_end side) os) ≡ map (at_side side) (facts_spoken spoke)
+  pub sent_is : flat_map sent_in os ≡ sent_in_step spoke
+  pub accepted_is : flat_map accepted_in os ≡ option_to_list (user_in spoke)
+
+-- a side that looks KMACs up so took the step that the outcomes tell
+pub record Calls (key_of : ℕ → ℕ → Option TripleKey) (before : Safety) (os : List Outcome) (after : Safety) : Type 0 where
+  pub spoke : Option Spoken
+  pub speaks : Speaks key_of before spoke after
+  pub tells : Tells spoke os
+
+module _ (grow : FactsGrow) (opening : PairOpening) where
+  told_facts : (side : Side) (spoke : Option Spoken) → facts_in (map (at_end side) (facts_told spoke)) ≡ map (at_side side) (facts_spoken spoke)
+  told_facts side None = refl
+  told_facts side (Some s) = facts_of_facts grow opening side (facts_of s.event s.outcome)
+
+  pub told_tells : (x : Core) → Tells x.upper.spoke (told_at x)
+  told_tells x = record {
+    facts_are = λ side.
+        facts_append grow opening side (facts_told x.upper.spoke) (if_released x.leaves ++ map Frame (said_octets x.line))
+        ∙ ap₂ (λ (fs gs : List SideFact). fs ++ gs) (told_facts side x.upper.spoke) (rest_silent grow opening side x.leaves (said_octets x.line))
+        ∙ append-nil (map (at_side side) (facts_spoken x.upper.spoke));
+    sent_is = call_sent x;
+    accepted_is = call_accepted x;
+  }
+
+  -- behind outcomes that tell nothing of this
+  pub tells_behind : (spoke : Option Spoken) (first os : List Outcome) → ((side : Side) → facts_in (map (at_end side) first) ≡ []) → flat_map sent_in first ≡ []
+      → flat_map accepted_in first ≡ [] → Tells spoke os → Tells spoke (first ++ os)
+  tells_behind spoke first os facts sent accepted h = record {
+    facts_are = λ side. facts_append grow opening side first os ∙ ap₂ (λ (fs gs : List SideFact). fs ++ gs) (facts side) (h.facts_are side);
+    sent_is = flat_map-append sent_in first os ∙ ap₂ (λ (xs ys : List (List ℕ)). xs ++ ys) sent h.sent_is;
+    accepted_is = flat_map-append accepted_in first os ∙ ap₂ (λ (xs ys : List (List ℕ)). xs ++ ys) accepted h.accepted_is;
+  }
+
+  -- ---- the events
+
+  module _ (key_of : ℕ → ℕ → Option TripleKey) where
+    told_calls : (before : Safety) (x : Core) → Spoke key_of before x → Calls key_of before (told_at x) x.safe.safety
+    told_calls before x h = record { spoke = x.upper.spoke; speaks = h; tells = told_tells x }
+
+    sends_call_at : (moment : ℕ) (user : List ℕ) (x : Core) (o : Option SendRefusal)
+        → Calls key_of x.safe.safety (told_unless o (sends_unless model o moment user x)) (sends_unless model o moment user x).safe.safety
+    sends_call_at moment user x (Some refusal) = record {
+      spoke = None;
+      speaks = refl;
+      tells = record { facts_are = λ side. refl; sent_is = refl; accepted_is = refl };
+    }
+    sends_call_at moment user x None =
+        told_calls x.safe.safety (sends_unless model None moment user x) (sends_spoke key_of x.safe.safety moment user x refl)
+
+    pub sends_call : (moment : ℕ) (user : List ℕ) (x : Core)
+        → let o = refusal_of model user x in
+        Calls key_of x.safe.safety (told_unless o (sends_unless model o moment user x)) (sends_unless model o moment user x).safe.safety
+    sends_call moment user x = sends_call_at moment user x (refusal_of model user x)
+
+    took_none : (message : Option (List ℕ)) → (flat_map sent_in (took message) ≡ []) × (flat_map accepted_in (took message) ≡ [])
+    took_none None = (refl, refl)
+    took_none (Some message) = (refl, refl)
+
+    pub takes_call : (moment : ℕ) (x : Core) → Calls key_of x.safe.safety (took (model.oldest x.upper) ++ told_at (uses model moment x)) (uses model moment x).safe.safety
+    takes_call moment x =
+        let y : Core = uses model moment x in
+        let message : Option (List ℕ) = model.oldest x.upper in
+        let none = took_none message in
+        record {
+          spoke = y.upper.spoke;
+          speaks = uses_silent key_of x.safe.safety moment x refl;
+          tells = tells_behind y.upper.spoke (took message) (told_at y) (λ side. took_silent grow opening side message) none.0 none.1 (told_tells y);
+        }
+
+    -- one frame
+    pub hears_call : (moment : ℕ) (verdicts : List Verdict) (x : Core) → length verdicts ≡ 1
+        → Calls key_of x.safe.safety (stack_told (λ now. key_of) moment verdicts x) (hears_each (λ now. key_of) moment verdicts x).safe.safety
+    hears_call moment [] x one = absurd cc
+    hears_call moment (v ∷ []) x one =
+        let y : Core = comes model (λ now. key_of) moment v x in
+        subst (λ (os : List Outcome). Calls key_of x.safe.safety os y.safe.safety) (sym (append-nil (told_at y)))
+        (told_calls x.safe.safety y (comes_spoke key_of x.safe.safety moment v x refl))
+    hears_call moment (v ∷ w ∷ more) x one = absurd cc
+
+  -- what a tick tells: no step
+  expired_none : (b : Bool) → (flat_map sent_in (if_expired b) ≡ []) × (flat_map accepted_in (if_expired b) ≡ [])
+  expired_none true = (refl, refl)
+  expired_none false = (refl, refl)
+
+  pub ticks_tell : (b : Bool) (x : Core) → x.upper.spoke ≡ None → Tells None (if_expired b ++ told_at x)
+  ticks_tell b x none =
+      let e = expired_none b in
+      tells_behind None (if_expired b) (told_at x) (λ side. expired_silent grow opening side b) e.0 e.1
+      (subst (λ (o : Option Spoken). Tells o (told_at x)) none (told_tells x))
+
+  -- nor does a start
+  pub starts_tell : (x : Core) → x.upper.spoke ≡ None → Tells None (told_at x)
+  starts_tell x none = subst (λ (o : Option Spoken). Tells o (told_at x)) none (told_tells x)

@@ -1,0 +1,137 @@
+//! What is counted of all that comes at a link. Each count stays at its greatest value.
+
+ghost use Rattle.std.specs.Prelude.{◌≡◌};
+ghost use Rattle.std.specs.List.{count_by};
+ghost use Rattle.er_world.specs.Changes.{event_of};
+ghost use Rattle.er_world.specs.Counts.{begins_refused, counted_change, counted_pass, counted_told, is_message, is_refusal, no_totals, sent_at, sum};
+
+use crate::end_event::EndEvent;
+use crate::told::Told;
+use crate::waiting::Change;
+use drill_model::Totals;
+use std::collections::VecDeque;
+
+/// Nothing came.
+pub fn no_totals() -> Totals
+    ensures { result ≡ no_totals }
+{
+    Totals {
+        sent: 0,
+        accepted: 0,
+        passes: 0,
+        lost: 0,
+        repeated: 0,
+    }
+}
+
+/// The totals of two parts of a world.
+pub fn sum(a: Totals, b: Totals) -> Totals
+    ensures { result ≡ sum a b }
+{
+    Totals {
+        sent: a.sent.saturating_add(b.sent),
+        accepted: a.accepted.saturating_add(b.accepted),
+        passes: a.passes.saturating_add(b.passes),
+        lost: a.lost.saturating_add(b.lost),
+        repeated: a.repeated.saturating_add(b.repeated),
+    }
+}
+
+/// Whether what an end did is that it accepted a message.
+fn is_message(told: &Told) -> bool
+    ensures { result ≡ is_message told.now }
+{
+    match told {
+        Told::Sealed { .. } => false,
+        Told::Verified { .. } => false,
+        Told::Connected { .. } => false,
+        Told::Accepted { .. } => true,
+        Told::Up => false,
+        Told::Arrived(_) => true,
+        Told::Took(_) => false,
+        Told::NothingToTake => false,
+        Told::Refused(_) => false,
+        Told::Released(_) => false,
+        Told::Frame(_) => false,
+    }
+}
+
+/// Whether what an end did is that it refused a send.
+fn is_refusal(told: &Told) -> bool
+    ensures { result ≡ is_refusal told.now }
+{
+    match told {
+        Told::Sealed { .. } => false,
+        Told::Verified { .. } => false,
+        Told::Connected { .. } => false,
+        Told::Accepted { .. } => false,
+        Told::Up => false,
+        Told::Arrived(_) => false,
+        Told::Took(_) => false,
+        Told::NothingToTake => false,
+        Told::Refused(_) => true,
+        Told::Released(_) => false,
+        Told::Frame(_) => false,
+    }
+}
+
+/// Whether what an end told begins with a refusal.
+fn begins_refused(told: &VecDeque<Told>) -> bool
+    ensures { result ≡ begins_refused told.now.items }
+{
+    match told.front() {
+        Some(first) => is_refusal(first),
+        None => false,
+    }
+}
+
+/// How many sends that were Ok an event is: one, where the user sends and isn't refused.
+fn sent_at(event: &EndEvent, told: &VecDeque<Told>) -> u64
+    ensures { result ≡ sent_at (event_of event.now) told.now.items }
+{
+    match event {
+        EndEvent::Start => 0,
+        EndEvent::Receive(_) => 0,
+        EndEvent::Send(_) => { if begins_refused(told) { 0 } else { 1 } }
+        EndEvent::Take => 0,
+        EndEvent::Release(_) => 0,
+        EndEvent::Tick => 0,
+    }
+}
+
+/// How many messages an end accepted.
+fn messages(told: &VecDeque<Told>) -> usize
+    ensures { result ≡ count_by is_message told.now.items }
+{
+    told.iter().filter(|one| is_message(one)).count()
+}
+
+/// Counts what an end told of an event.
+pub fn count_told(event: &EndEvent, told: &VecDeque<Told>, totals: &mut Totals)
+    ensures { totals.new ≡ counted_told (event_of event.now) told.now.items totals.old }
+{
+    totals.sent = totals.sent.saturating_add(sent_at(event, told));
+    totals.accepted = totals.accepted.saturating_add(messages(told) as u64);
+}
+
+/// Counts a pass.
+pub fn count_pass(totals: &mut Totals)
+    ensures { totals.new ≡ counted_pass totals.old }
+{
+    totals.passes = totals.passes.saturating_add(1);
+}
+
+/// Counts what came of a change of the frames that wait.
+pub fn count_change(change: Change, totals: &mut Totals)
+    ensures { totals.new ≡ counted_change change totals.old }
+{
+    match change {
+        Change::Empty => {}
+        Change::Short(_) => {}
+        Change::Lost => totals.lost = totals.lost.saturating_add(1),
+        Change::Repeated => totals.repeated = totals.repeated.saturating_add(1),
+        Change::Altered => {}
+        Change::Inserted => {}
+        Change::Unchanged => {}
+    }
+}
