@@ -1,0 +1,11 @@
+pub mod Written
+pub mod Alike
+pub mod Cuts
+pub mod Overs
+pub mod Givings
+pub mod Takes
+pub mod Changes
+pub mod Counts
+pub mod Holdings
+pub mod Taking
+pub mod Running

@@ -1,0 +1,33 @@
+-- One event more, one that isn't taken, and the end.
+use Rattle.std.proofs.Common.{◌≡◌, ◌<◌, ◌≤◌, List, ℕ, length, take, get_or, slice_get, Some, refl, subst}
+use Rattle.std.proofs.lemmas.Option.{slice_get_read}
+use Rattle.er_trace.specs.declared.entry.Entry.{Entry}
+use Rattle.trace_replay.proofs.Running.{readable_at, went_next, went_err, went_end}
+use Rattle.trace_replay.proofs.run.replay_entries.Goals as goal
+
+-- the event at an index
+item_at : (xs ys : List Entry) (i : ℕ) (x : Entry) → xs ≡ ys → i < length xs → x ≡ get_or xs i x → slice_get ys i ≡ Some x
+item_at xs ys i x same inside is = subst (λ (zs : List Entry). slice_get zs i ≡ Some x) same (slice_get_read xs (length xs) i x refl inside is)
+
+pub replay_entry-requires-clause-entry : goal.replay_entry-requires-clause-entry
+replay_entry-requires-clause-entry g c =
+    readable_at c.args.trace.now.entries c.loop-entry.entry-index c.entry-item.result c.requires.entries
+    (item_at _ _ _ _ c.as_slice-entry-items.ensures c.loop-entry-test.true c.entry-item.is)
+
+pub loop-entry-preserved : goal.loop-entry-preserved
+loop-entry-preserved g c =
+    went_next c.args.trace.now.settings _ c.args.trace.now.entries c.loop-entry.entry-index c.entry-item.result c.loop-entry.connections c.replay_entry.new.connections c.loop-entry.last
+    _ _ _ _ _ _ c.loop-entry.invariant (item_at _ _ _ _ c.as_slice-entry-items.ensures c.loop-entry-test.true c.entry-item.is)
+    c.replay_entry.ensures.later (c.in-Ok.ensures.replays (take c.loop-entry.entry-index c.args.trace.now.entries) c.loop-entry.invariant.last_is c.loop-entry.invariant.holds)
+
+pub returns-in-Err-clause-replays : goal.returns-in-Err-clause-replays
+returns-in-Err-clause-replays g c = λ start count head before.
+    went_err c.args.trace.now.settings _ c.args.trace.now.entries c.loop-entry.entry-index c.entry-item.result c.loop-entry.connections c.replay_entry.new.connections c.loop-entry.last
+    start _ _ _ _ _ _ count c.in-Err.fault c.loop-entry.invariant (item_at _ _ _ _ c.as_slice-entry-items.ensures c.loop-entry-test.true c.entry-item.is)
+    (c.in-Err.ensures.replays (take c.loop-entry.entry-index c.args.trace.now.entries) c.loop-entry.invariant.last_is c.loop-entry.invariant.holds)
+    head before
+
+pub returns-clause-replays : goal.returns-clause-replays
+returns-clause-replays g c = λ start count head before.
+    went_end c.args.trace.now.settings _ c.args.trace.now.entries c.loop-entry.entry-index c.loop-entry.connections c.loop-entry.last start _ _ _ _ count c.loop-entry.invariant
+    (subst (λ (xs : List Entry). length xs ≤ c.loop-entry.entry-index) c.as_slice-entry-items.ensures c.loop-entry-test.false) head

@@ -1,0 +1,125 @@
+//! The replay of all events.
+
+ghost use Rattle.std.specs.Prelude.{◌≡◌, ◌≤◌, ℕ, List, Option, OnOk, OnErr};
+ghost use Rattle.er_base.specs.LineTexts.{line_text};
+ghost use Rattle.er_settings.specs.Ranges.{AllAllowed};
+ghost use Rattle.safety_automaton.specs.Keys.{key_at};
+ghost use Rattle.link_trait.specs.Outside.{Grew, GrewPart, Rose};
+ghost use Rattle.er_trace.specs.declared.entry.Entry.{Entry as TraceEntry};
+ghost use Rattle.er_trace.specs.Texts.{CanBeRead, IsReadable, header_words};
+ghost use Rattle.trace_model.specs.Checks.{last_moment};
+ghost use Rattle.trace_model.specs.Replays.{Replays};
+ghost use Rattle.trace_replay.specs.Places.{Holds};
+ghost use Rattle.trace_replay.specs.Takings.{ReplaysOne};
+
+use crate::connections::Connections;
+use er_settings::Settings;
+use er_trace::{Entry, Trace, print_header};
+use link_trait::{Failed, Sink};
+use safety_automaton::KeyFinder;
+use std::alloc::Global;
+use trace_model::ReplayFault;
+
+// Writes lines, where there are any.
+#[tactic(auto, using(crate::proofs::Written::nothing_written))]
+fn write_lines<S: Sink>(lines: &[u8], sink: &mut S) -> Result<(), Failed>
+    ensures ok { OnOk result (Grew (S.held sink.old) (S.held sink.new) lines.now) }
+    ensures err { OnErr result (GrewPart (S.held sink.old) (S.held sink.new) lines.now) }
+    ensures cause { OnErr result (Rose (S.faults sink.old) (S.faults sink.new)) }
+    ensures later { S.faults sink.old ≤ S.faults sink.new }
+{
+    if lines.is_empty() {
+        return Ok(());
+    }
+    sink.write(lines)
+}
+
+// Replays one event behind others, of which the greatest moment was `last`.
+fn replay_entry<K: KeyFinder, S: Sink>(
+    connections: &mut Connections,
+    settings: &Settings,
+    keys: &K,
+    last: u64,
+    entry: &Entry,
+    line: &mut Vec<u8>,
+    sink: &mut S,
+) -> Result<(), ReplayFault>
+    requires settings { AllAllowed settings.now }
+    requires entry { IsReadable entry.now }
+    ensures replays { (before : List TraceEntry) → last ≡ last_moment before → Holds settings.now (key_at (K.entries keys.now)) before connections.old
+        → ReplaysOne settings.now (key_at (K.entries keys.now)) before entry.now connections.new (S.held sink.old) (S.held sink.new) (S.faults sink.old) (S.faults sink.new) result }
+    ensures later { S.faults sink.old ≤ S.faults sink.new }
+{
+    if entry.moment < last {
+        return Err(ReplayFault::MomentBack {
+            line: entry.line,
+            was: last,
+            now: entry.moment,
+        });
+    }
+    line.clear();
+    match connections.take(settings, keys, entry, line) {
+        Ok(()) => {}
+        Err(fault) => return Err(fault),
+    }
+    match write_lines(line.as_slice(), sink) {
+        Ok(()) => Ok(()),
+        Err(_failed) => Err(ReplayFault::Sink),
+    }
+}
+
+// Replays all events, behind the header.
+#[tactic(auto, using(crate::proofs::Running::went_none))]
+fn replay_entries<K: KeyFinder, S: Sink>(
+    alloc: Global,
+    keys: &K,
+    trace: &Trace,
+    line: &mut Vec<u8>,
+    sink: &mut S,
+) -> Result<(), ReplayFault>
+    requires { CanBeRead trace.now }
+    ensures replays { (start : Option (List ℕ)) (count : ℕ) → Grew start (S.held sink.old) (line_text (header_words trace.now.settings)) → count ≤ S.faults sink.old
+        → Replays trace.now.settings (key_at (K.entries keys.now)) trace.now.entries start (S.held sink.new) count (S.faults sink.new) result }
+    ensures later { S.faults sink.old ≤ S.faults sink.new }
+{
+    let settings = &trace.settings;
+    let mut connections = Connections::new(alloc);
+    let mut last = 0;
+    for entry in trace.entries.as_slice() {
+        match replay_entry(
+            &mut connections,
+            settings,
+            keys,
+            last,
+            entry,
+            line,
+            sink,
+        ) {
+            Ok(()) => last = entry.moment,
+            Err(fault) => return Err(fault),
+        }
+    }
+    Ok(())
+}
+
+/// Prints the text of a trace: its header, then each event's line and those of its outcomes, one write for each event.
+///
+/// KMACs are looked up among the keys, each at the moment of its event. Where an event isn't taken, a write fails, or memory runs
+/// out, the text of the events before it was printed.
+pub fn replay<K: KeyFinder, S: Sink>(
+    alloc: Global,
+    keys: &K,
+    trace: &Trace,
+    sink: &mut S,
+) -> Result<(), ReplayFault>
+    requires { CanBeRead trace.now }
+    ensures replays { Replays trace.now.settings (key_at (K.entries keys.now)) trace.now.entries (S.held sink.old) (S.held sink.new) (S.faults sink.old) (S.faults sink.new) result }
+    ensures later { S.faults sink.old ≤ S.faults sink.new }
+{
+    let mut line = Vec::new(alloc);
+    print_header(&trace.settings, &mut line)?;
+    match write_lines(line.as_slice(), sink) {
+        Ok(()) => replay_entries(alloc, keys, trace, &mut line, sink),
+        Err(_failed) => Err(ReplayFault::Sink),
+    }
+}
