@@ -1,5 +1,5 @@
 -- Which names were asked for, by how the parts of a run end.
-use Rattle.std.proofs.Common.{◌≡◌, ◌≢◌, ◌⊎◌, inl, inr, ℕ, List, [], ◌∷◌, Option, Result, Ok, Err, IfOk, refl, ap, arith}
+use Rattle.std.proofs.Common.{◌≡◌, ◌⊎◌, inl, inr, ℕ, List, [], ◌∷◌, Option, Result, Ok, Err, IfOk, refl, ap, arith}
 use Rattle.er_base.specs.declared.no_memory.NoMemory.{NoMemory as Want}
 use Rattle.er_base.specs.declared.text_fault.TextFault.{TextFault}
 use Rattle.er_base.specs.declared.text_fault.TextFault.TheVariants as text
@@ -10,7 +10,7 @@ use Rattle.key_store.specs.declared.key_file_fault.KeyFileFault.TheVariants as k
 use Rattle.link_trait.specs.Outside.{Grew}
 use Rattle.link_trait.specs.Growth.{grew_then, grew_nothing}
 use Rattle.er_program.specs.Asking.{Names, AsksLast, AsksBehindKeys, Asks}
-use Rattle.er_program.specs.Commands.{Command, Misused, Drill, Bits, Migrate, Replay, Bulk, names_of}
+use Rattle.er_program.specs.Commands.{Replay}
 use Rattle.er_program.specs.LastLines.{fetch_line}
 use Rattle.er_program.specs.Answers.{Answer, AllAreTaken, OneIsRefused, IsTraceAnswer, keys_answer}
 use Rattle.er_program.specs.ReplayWriting.{EndsOne}
@@ -109,21 +109,3 @@ pub asks_words_lost : (keys_name name : List ℕ) (a b : Names) (before now : Op
     → IfOk r (λ s. Asks (Replay keys_name name) s.0 a b before now)
 asks_words_lost keys_name name a b before now f g (Ok s) first gives = inl (record { asked_for = first; ends = inl gives.0; written = λ h. gives.1 })
 asks_words_lost keys_name name a b before now f g (Err why) first gives = tt
-
--- all names were asked for, but at statuses 2 and 4
-pub asks_all : (command : Command) (status : ℕ) (asked asked_now : Names) (before now : Option (List ℕ))
-    → Asks command status asked asked_now before now → status ≢ 2 → status ≢ 4 → Grew asked asked_now (names_of command)
-asks_all Misused status asked asked_now before now asks fetched good = asks
-asks_all (Drill name) status asked asked_now before now asks fetched good = asks
-asks_all (Bits name) status asked asked_now before now asks fetched good = asks
-asks_all (Migrate keys_name) status asked asked_now before now asks fetched good = asks
-asks_all (Replay keys_name name) status asked asked_now before now asks fetched good =
-    elim asks [
-      | inl first ↦
-          elim first.ends [
-            | inl lost ↦ absurd (fetched lost)
-            | inr bad ↦ absurd (good bad)
-          ]
-      | inr both ↦ both.asked_for
-    ]
-asks_all (Bulk seed count) status asked asked_now before now asks fetched good = asks

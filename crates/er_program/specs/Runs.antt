@@ -37,8 +37,8 @@ IsStatus s = (s ≡ 0) ⊎ (s ≡ 1) ⊎ (s ≡ 2) ⊎ (s ≡ 3) ⊎ (s ≡ 4) �
 
 -- what is claimed of the world that a list of steps leads to: each link has the opening of the step that opened it; at each link the
 -- messages and the peers are authentic; where the link keeps its order, what an end accepted is a prefix of what the other sent, and each
--- release has one of the reasons of a line that only loses and repeats; where it is loss-free, all is delivered within its bound, and at
--- level safe nothing is forged; and at most 4,096 frames wait in one direction
+-- release has one of the reasons of a line that only loses and repeats; where it is loss-free, nothing is forged and all is delivered within
+-- its bound; and at most 4,096 frames wait in one direction
 pub record Holds (plan : Plan) (steps : List Step) : Type 0 where
   pub opens : (n : ℕ) → option_map (λ l. l.opening) (link_at (world_run plan steps).0 n) ≡ opening_of plan n steps
   pub lawful : (n : ℕ) → LawfulAt (link_at (world_run plan steps).0 n) (history_on n (world_run plan steps).1)
