@@ -1,5 +1,5 @@
 -- A send is Ok exactly where it isn't refused: what an end tells of each event, at each level.
-use Rattle.std.proofs.Common.{◌≡◌, ℕ, zero, suc, ◌+◌, Bool, true, false, if◌then◌else◌, List, [], ◌∷◌, ◌++◌, map, length, length-append, refl, sym, ap, ◌∙◌, subst, arith, Option, Some, None, Result, Ok, Err}
+use Rattle.std.proofs.Common.{◌≡◌, ℕ, zero, suc, ◌+◌, Bool, true, false, if◌then◌else◌, List, [], ◌∷◌, ◌++◌, map, length, length-append, refl, sym, ap, ◌∙◌, subst, arith, Option, Some, None, Ok, Err}
 use Rattle.std.specs.Prelude.{not, is_some, nat_le, ◌&&◌, ◌==◌}
 use Rattle.std.specs.List.{flat_map}
 use Rattle.std.proofs.lemmas.List.Concat.{flat_map-append}
@@ -26,7 +26,7 @@ use Rattle.safety_automaton.specs.Safety.{Safety, Phase, Ready, WaitAu1, WaitAu2
 use Rattle.safe_pair.specs.Facts.{Fact, Sent, Sealed, Verified, Connected as ConnectedFact, Accepted, facts_by, heard_in as octets_heard}
 use Rattle.end_model.specs.Outcomes.{SendRefusal, RefusedNotConnected, RefusedLength as RefusedLong, RefusedFull}
 use Rattle.end_model.specs.Layers.{Spoken, Core, model}
-use Rattle.end_model.specs.Steps.{Finds, begins_at, ends, gives, shuts, finishes, departs, cut_off, deserted, parts, why_of, spoken, is_some_octets, says, skips, Carrier, InCr, InCc, InDt, answers, keeps, acts, text_comes, does, tpdu_comes, block_at, is_ready, connects, comes_up, link_at, link_comes, gives_next, goes_on, offers, most_offers, concludes, starts, comes, is_connected, refusal_at, refusal_of, sent, sends_unless, used, uses, leaves, is_spent, di_of, time_at, ticks, normal_disconnect}
+use Rattle.end_model.specs.Steps.{Finds, begins_at, ends, gives, shuts, finishes, departs, cut_off, deserted, parts, why_of, spoken, is_some_octets, says, skips, Carrier, InCr, InCc, InDt, answers, keeps, acts, text_comes, does, block_at, is_ready, connects, comes_up, link_at, link_comes, gives_next, goes_on, offers, most_offers, concludes, starts, comes, is_connected, refusal_at, refusal_of, sent, sends_unless, uses, leaves, is_spent, di_of, time_at, ticks, normal_disconnect}
 use Rattle.end_model.specs.Ends.{End as Stack, news as stack_news}
 use Rattle.drill_model.specs.Outcomes.{Outcome, OfSafety, Handed, Arrived, Up, Took, NothingToTake, Released as ReleasedOut, Frame, Expired, UserReleased, Passed, Lost, Repeated, Altered, Inserted, NothingWaits, IsShort}
 use Rattle.drill_model.specs.Outcomes as outcome

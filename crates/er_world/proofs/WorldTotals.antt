@@ -11,7 +11,7 @@ use Rattle.er_world.specs.declared.link.Link.{Link as KeptLink}
 use Rattle.er_world.specs.Counts.{saturated, no_totals, sum, counts_of}
 use Rattle.er_world.specs.Standing.{KeptWorld, StandsPlace, StandsWorld, Ran, kept_at}
 use Rattle.er_world.specs.WorldSteps.{place_totals, summed}
-use Rattle.er_world.proofs.Counting.{totals, alike, capped_more}
+use Rattle.er_world.proofs.Counting.{totals, alike}
 
 -- the counts of a link are those of what came at it
 place_counts : (place : Option KeptLink) (o : Option Link) (history : List Occurrence) → StandsPlace place o history → place_totals place ≡ counts_of history

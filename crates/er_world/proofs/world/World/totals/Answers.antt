@@ -1,4 +1,4 @@
-use Rattle.std.proofs.Common.{refl, suc, ap, ◌∙◌, ◌-◌, ◌+◌, ◌≡◌, arith}
+use Rattle.std.proofs.Common.{suc, ap, ◌∙◌, ◌-◌, ◌+◌, ◌≡◌, arith}
 use Rattle.er_world.specs.Counts.{sum}
 use Rattle.er_world.specs.WorldSteps.{summed}
 use Rattle.er_world.proofs.WorldTotals.{sums_on, sums_up, totals_ran}
