@@ -1,5 +1,5 @@
 -- The joined octets of a connection's events are those taken from it, or a beginning of them where it stalled.
-use Rattle.std.proofs.Common.{if◌then◌else◌, ◌≡◌, ℕ, zero, suc, ◌+◌, ◌-◌, ◌≤◌, max, inl, inr, Bool, true, false, ◌||◌, List, [], ◌∷◌, ◌++◌, length, take, drop, Option, Some, None, refl, sym, ◌∙◌, ap, subst, append-nil, append_assoc, arith, true≢false, take-append-drop, length-drop, eq-eqb, ne_eqb}
+use Rattle.std.proofs.Common.{◌≡◌, ℕ, zero, suc, ◌+◌, ◌-◌, ◌≤◌, max, inl, inr, Bool, true, false, ◌||◌, List, [], ◌∷◌, ◌++◌, length, take, drop, Option, Some, None, refl, sym, ◌∙◌, ap, subst, append-nil, append_assoc, arith, true≢false, take-append-drop, length-drop, eq-eqb, ne_eqb}
 use Rattle.std.specs.Prelude.{nat_lt, ◌==◌, is_some}
 use Rattle.std.proofs.lemmas.Bool.{cases_Bool}
 use Rattle.er_end.specs.KeptEnds.{KEnd, used_of}
@@ -14,8 +14,7 @@ use Rattle.loop_model.specs.Sessions.{Rules, Session, Given, Begins, Hears, Send
 use Rattle.loop_model.specs.Visits.{most_read, came}
 use Rattle.loop_model.specs.Loops.{Plan, rules_of, Loop, begun, answering, Caller, calling, Course, run, dials}
 use Rattle.loop_model.specs.Parts.{session_of, of, calls_at}
-use Rattle.loop_model.specs.Laws.{IsBeginning}
-use Rattle.loop_model.specs.Points.{heard_by, heard_of, is_stalled, has_stalled, IsHeard, AreHeard, OctetsAreHeard}
+use Rattle.loop_model.specs.Points.{heard_by, heard_of, is_stalled, has_stalled, AreHeard, OctetsAreHeard}
 use Rattle.loop_model.proofs.Steadies.{Steady, Usual, Quiet, Calls, steady_handled, steady_pours, follows_handled, runs_lift}
 use Rattle.loop_model.proofs.Lives.{Own, Keeps, Fits, Knows, knows_run}
 use Rattle.loop_model.proofs.Dialling.{knows_dial_of}

@@ -1,5 +1,5 @@
 -- Behind a turn no session is left that is to be closed.
-use Rattle.std.proofs.Common.{◌≡◌, ℕ, inl, inr, Bool, true, false, ◌&&◌, ◌||◌, List, [], ◌∷◌, ◌++◌, length, Option, Some, None, refl, sym, ◌∙◌, ap, subst}
+use Rattle.std.proofs.Common.{ℕ, inl, inr, Bool, true, false, ◌&&◌, ◌||◌, List, [], ◌∷◌, ◌++◌, length, refl, sym, subst}
 use Rattle.std.specs.Prelude.{◌==◌, if◌then◌else◌}
 use Rattle.std.proofs.lemmas.Bool.{cases_Bool}
 use Rattle.er_end.specs.KeptEnds.{deadline_of, kept_opened}
@@ -7,9 +7,9 @@ use Rattle.er_users.specs.Users.{Mind}
 use Rattle.link_trait.specs.Wires.{Call, Reading, Gave, NotNow, End, Failed}
 use Rattle.loop_model.specs.Journals.{Entry}
 use Rattle.loop_model.specs.Outs.{Out, first_of}
-use Rattle.loop_model.specs.Sessions.{Rules, Session, Given, Ticks, is_released, nothing_said, handled}
+use Rattle.loop_model.specs.Sessions.{Rules, Session, Ticks, is_released, nothing_said, handled}
 use Rattle.loop_model.specs.Visits.{Wrote, written, closed, stays, settled, rests, rests_behind, Visit, Tick, Read, Write, Expire, Met, is_due, came, read_once, served, visited}
-use Rattle.loop_model.specs.Loops.{Plan, rules_of, Loop, visit_at, begun, answering, Course, Turn, run}
+use Rattle.loop_model.specs.Loops.{Plan, rules_of, Loop, visit_at, begun, answering}
 use Rattle.loop_model.specs.Turnings.{IsKept, AreKept, OthersAreClosed}
 use Rattle.loop_model.proofs.Loopwise.{Loopwise, wise_run}
 

@@ -12,7 +12,6 @@ use Rattle.link_trait.specs.declared.wires.Happening.{Happening}
 use Rattle.link_trait.specs.declared.wires.Happening.TheVariants as happening
 use Rattle.loop_model.specs.Journals.{Entry}
 use Rattle.loop_model.specs.Outs.{Out, exactly, first_of}
-use Rattle.loop_model.specs.Sessions.{Session}
 use Rattle.loop_model.specs.Visits.{Met, nothing_met, Visit, Tick, Read, Write, Expire, visited}
 use Rattle.loop_model.specs.Loops.{Plan, rules_of, Loop, most_live, with_sessions, visit_at, numbers, swept, Sweeps, before, until, next_user, one_less, begun, answering, answered_by, accepted, visited_at, happened, Halt, Course, asks, Turn, readied, turned_unless, went_unless, went, nothing_comes, run}
 use Rattle.loop_model.specs.Parts.{opened_by}

@@ -1,11 +1,11 @@
 -- A replay refuses no event of a journal.
-use Rattle.std.proofs.Common.{if◌then◌else◌, ◌≡◌, ℕ, zero, ◌+◌, ◌<◌, ◌≤◌, max, inl, inr, Bool, true, false, ◌&&◌, ◌||◌, not, List, [], ◌∷◌, ◌++◌, length, Option, Some, None, refl, sym, ◌∙◌, ap, subst, append-nil, append_assoc, arith, eqb-true, eq-eqb, true≢false}
+use Rattle.std.proofs.Common.{◌≡◌, ℕ, ◌+◌, ◌≤◌, max, inl, inr, Bool, true, false, ◌&&◌, ◌||◌, not, List, [], ◌∷◌, ◌++◌, length, Option, Some, None, refl, sym, ◌∙◌, ap, subst, append-nil, append_assoc, arith, eqb-true, true≢false}
 use Rattle.std.specs.Prelude.{nat_lt, ◌==◌, is_some}
 use Rattle.std.proofs.lemmas.Bool.{cases_Bool}
 use Rattle.std.proofs.Math.Nat.{le-max_left}
 use Rattle.er_settings.specs.Ranges.{AllAllowed}
 use Rattle.safety_automaton.specs.Keys.{key_at}
-use Rattle.end_model.specs.Ends.{End, Answer as AnswersWith}
+use Rattle.end_model.specs.Ends.{End}
 use Rattle.end_model.specs.Layers.{model}
 use Rattle.end_model.specs.Outcomes.{Outcome}
 use Rattle.er_end.specs.KeptEnds.{KEnd, kept_opened, waiting_in}
@@ -27,19 +27,19 @@ use Rattle.loop_model.specs.Outs.{first_of}
 use Rattle.loop_model.specs.Sessions.{Rules, Session, Given, Begins, Hears, Sends, Takes, Leaves, Ticks, Ends, Faults, Stalls, written, is_released, entry_of, end_after, outcomes_of, most_output, octets_in, breaks, joined, fed, Says, nothing_said, handled}
 use Rattle.loop_model.specs.Visits.{most_read, Met, Visit, visited, rests, served}
 use Rattle.loop_model.specs.Loops.{Plan, rules_of, Loop, most_live, with_sessions, visit_at, next_user, begun, answering, Caller, calling, called_by, called, Course, asks, Turn, run, Dialled, opens, dials_to, dials}
-use Rattle.loop_model.specs.Parts.{session_of, of, calls_at, opened_in, Rises, newest}
+use Rattle.loop_model.specs.Parts.{session_of, of, opened_in, Rises, newest}
 use Rattle.loop_model.specs.Laws.{IsServing, IsDialling}
 use Rattle.loop_model.specs.Recordings.{AreEvents, ReplaysTo, RecordingsReplay}
-use Rattle.loop_model.proofs.Projections.{of-append, opened_in-append as opens-append, rises_first, rises_rest, newest-append}
+use Rattle.loop_model.proofs.Projections.{opened_in-append as opens-append, rises_first, rises_rest, newest-append}
 use Rattle.loop_model.proofs.Steadies.{SteadyAt, Steady, Usual, steady_handled, follows_handled_at, Calls, CallsAt, Left, Stays, Closed, is_over, left_rests_at, left_visited_at}
-use Rattle.loop_model.proofs.Lives.{Own, Keeps, Fits, Apart, Knows, knows_none, moved, knows_moved, knows_turned, accepted_above, knows_opened, knows_away, same}
+use Rattle.loop_model.proofs.Lives.{Own, Keeps, Fits, Knows, knows_none, moved, knows_moved, knows_turned, accepted_above, knows_opened, knows_away, same}
 use Rattle.loop_model.proofs.Dialling.{first_handled, knows_called}
-use Rattle.loop_model.proofs.Owns.{Bare, Both, bare_both, calls_both, usual_calls, usual_calls_at}
+use Rattle.loop_model.proofs.Owns.{Bare, Both, calls_both, usual_calls, usual_calls_at}
 use Rattle.loop_model.proofs.Momentwise.{Momentwise, moment_run}
 use Rattle.loop_model.proofs.Printings as printings
 use Rattle.loop_model.proofs.Printings.{IsOfEnd, all_of_end}
 use Rattle.loop_model.proofs.Resting.{Sound, Sounds, Rests, sounds_calls, sounds_steadily, rests_calls, handled_none}
-use Rattle.loop_model.proofs.Taking.{PassesAs, Passes, AllPass, all_pass-append, UpTo, up_to-append, up_to_more, not_before, lines-append, opened_own, unnamed, opened_more, opened_in-append, few_live, not_many, are_taken, all_pass_plain, text_plain}
+use Rattle.loop_model.proofs.Taking.{PassesAs, AllPass, all_pass-append, UpTo, up_to-append, up_to_more, not_before, lines-append, opened_own, unnamed, opened_more, opened_in-append, few_live, not_many, are_taken, all_pass_plain, text_plain}
 
 -- ---- events of an end
 

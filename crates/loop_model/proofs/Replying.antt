@@ -1,8 +1,8 @@
 -- The users of all connections: each connection took the last user that was left, and its user speaks from that mind on.
-use Rattle.std.proofs.Common.{if◌then◌else◌, ◌≡◌, ℕ, ◌<◌, max, inl, inr, Bool, true, false, List, [], ◌∷◌, ◌++◌, Option, Some, None, refl, sym, ◌∙◌, ap, subst, append-nil, append_assoc, arith, true≢false, eqb-true, ne_eqb}
+use Rattle.std.proofs.Common.{if◌then◌else◌, ◌≡◌, ℕ, ◌<◌, inl, inr, Bool, true, false, List, [], ◌∷◌, ◌++◌, Option, Some, None, refl, sym, ◌∙◌, ap, subst, append-nil, append_assoc, eqb-true}
 use Rattle.std.specs.Prelude.{◌==◌}
 use Rattle.std.proofs.lemmas.Bool.{cases_Bool}
-use Rattle.er_end.specs.KeptEnds.{waiting_in, kept_opened}
+use Rattle.er_end.specs.KeptEnds.{kept_opened}
 use Rattle.er_end.specs.Keeping.{WaitsMove, OctetsBring, ReleaseStays, BreaksRelease, ReleasedWantNone, ReleasedTellNone}
 use Rattle.er_trace.specs.declared.event.Event.{Event}
 use Rattle.er_trace.specs.declared.event.Event.TheVariants as event
@@ -14,22 +14,21 @@ use Rattle.link_trait.specs.declared.wires.Conn.{Conn}
 use Rattle.link_trait.specs.declared.wires.Happening.TheVariants as happening
 use Rattle.loop_model.specs.Journals.{Entry}
 use Rattle.loop_model.specs.Outs.{first_of}
-use Rattle.loop_model.specs.Sessions.{Session, Given, Begins, entry_of, nothing_said, handled}
-use Rattle.loop_model.specs.Visits.{Met, Visit, visited, rests, served}
+use Rattle.loop_model.specs.Sessions.{Session, nothing_said, handled}
+use Rattle.loop_model.specs.Visits.{Met, Visit, visited, served}
 use Rattle.loop_model.specs.Loops.{Plan, rules_of, Loop, most_live, with_sessions, visit_at, next_user, other_users, begun, answering, Caller, calling, called_by, called, Course, asks, Turn, run, Dialled, opens, dials_to, dials}
-use Rattle.loop_model.specs.Parts.{session_of, of, calls_at, opened_in, Rises, newest}
+use Rattle.loop_model.specs.Parts.{session_of, of, opened_in, Rises, newest}
 use Rattle.loop_model.specs.Laws.{IsServing, IsDialling}
-use Rattle.loop_model.specs.Points.{speech_of, Leads, user_of, AreDeclined, IsSpoken, UsersReply}
+use Rattle.loop_model.specs.Points.{speech_of, user_of, AreDeclined, IsSpoken, UsersReply}
 use Rattle.loop_model.proofs.Projections.{of-append, opened_in-append as opens-append, rises_first, rises_rest, newest-append}
 use Rattle.loop_model.proofs.Steadies.{Calls, Left as LeftBy, Stays, Closed, steady_handled, left_served}
 use Rattle.loop_model.proofs.Lives.{Own, Keeps, LeftAt, own_left, Moved, Absent, Found, moved, Knows, knows_none, knows_moved, knows_turned, accepted_above, knows_opened, knows_away}
 use Rattle.loop_model.proofs.Dialling.{knows_called}
-use Rattle.loop_model.proofs.Owns.{Both, calls_both, own_steady, own_bare, own_reads, usual_calls}
+use Rattle.loop_model.proofs.Owns.{Both, calls_both, own_steady}
 use Rattle.loop_model.proofs.Momentwise.{Momentwise, moment_run}
-use Rattle.loop_model.proofs.Printings.{IsOfEnd}
 use Rattle.loop_model.proofs.Orders.{own_calls}
 use Rattle.loop_model.proofs.Replaying.{ArePlain, plain_visit, begins, any_usual, CallsSo, served_so}
-use Rattle.loop_model.proofs.Speaking.{Ready, Speaks, SpeaksTo, Spoke, leads-append, speaks_calls, called_speaks}
+use Rattle.loop_model.proofs.Speaking.{Ready, Speaks, Spoke, leads-append, speaks_calls, called_speaks}
 
 -- ---- which user
 

@@ -10,7 +10,7 @@ use Rattle.er_users.specs.Users.{Mind, Heard, Said, said}
 use Rattle.link_trait.specs.Wires.{Call, Reading, Gave, NotNow, End, Failed, Reads}
 use Rattle.loop_model.specs.Journals.{Entry}
 use Rattle.loop_model.specs.Outs.{runs, exactly, first_of}
-use Rattle.loop_model.specs.Sessions.{Rules, Session, Given, Begins, Hears, Sends, Takes, Leaves, Ticks, Ends, Faults, Stalls, event_of, most_output, is_released, end_after, outcomes_of, octets_in, breaks, joined, fed, heard_in, leave_of, sends_of, hears, silence, dealt, waiting, takes_all, parts, parted, Says, nothing_said, handled, poured, pours}
+use Rattle.loop_model.specs.Sessions.{Rules, Session, Given, Begins, Hears, Sends, Takes, Leaves, Ticks, Ends, Faults, Stalls, event_of, most_output, is_released, end_after, outcomes_of, octets_in, breaks, joined, fed, heard_in, leave_of, sends_of, hears, silence, dealt, waiting, takes_all, parts, Says, nothing_said, handled, poured, pours}
 use Rattle.loop_model.specs.Visits.{most_read, came}
 use Rattle.loop_model.proofs.Steadies.{Steady, Quiet, Calls, runs_lift}
 use Rattle.loop_model.proofs.Owns.{Bare, AllGiven, usual_calls}

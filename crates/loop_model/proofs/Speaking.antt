@@ -1,25 +1,21 @@
 -- What the users of the connections say.
-use Rattle.std.proofs.Common.{if◌then◌else◌, ◌≡◌, ℕ, zero, suc, ◌+◌, ◌<◌, max, inl, inr, Bool, true, false, ◌||◌, List, [], ◌∷◌, ◌++◌, length, drop, Option, Some, None, refl, sym, ◌∙◌, ap, subst, append-nil, append_assoc, arith, true≢false, eqb-true}
+use Rattle.std.proofs.Common.{◌≡◌, ℕ, ◌+◌, inl, inr, true, false, ◌||◌, List, [], ◌∷◌, ◌++◌, length, drop, Option, Some, None, refl, sym, ◌∙◌, ap, subst, append-nil, true≢false}
 use Rattle.std.specs.Prelude.{nat_lt, ◌==◌, is_some}
 use Rattle.std.proofs.lemmas.Bool.{cases_Bool}
 use Rattle.er_base.specs.declared.release.Release.{Release}
-use Rattle.er_end.specs.KeptEnds.{KEnd, tells, waiting_in, deadline_of, kept_opened}
-use Rattle.er_end.specs.Keeping.{accepted_in, left_by, WaitsMove, OctetsBring, ReleaseStays, BreaksRelease, ReleasedWantNone, ReleasedTellNone}
-use Rattle.er_trace.specs.declared.event.Event.{Event}
+use Rattle.er_end.specs.KeptEnds.{KEnd, tells, waiting_in, deadline_of}
+use Rattle.er_end.specs.Keeping.{accepted_in, WaitsMove, OctetsBring, ReleaseStays, BreaksRelease, ReleasedWantNone, ReleasedTellNone}
 use Rattle.er_trace.specs.declared.event.Event.TheVariants as event
 use Rattle.er_users.specs.Users.{Mind, Heard, Said, said}
-use Rattle.rand_core.specs.Stream.{next_u64}
 use Rattle.safety_automaton.specs.Keys.{key_at}
-use Rattle.trace_model.specs.Checks.{opens, role_of}
-use Rattle.link_trait.specs.Wires.{Call, Reading, Gave, NotNow, End, Failed, Reads, Writes, Closes, Dials, Turns}
-use Rattle.link_trait.specs.declared.wires.WriteAnswer.TheVariants as write
+use Rattle.link_trait.specs.Wires.{Call, Reading, Gave, NotNow, End, Failed}
 use Rattle.loop_model.specs.Journals.{Entry}
-use Rattle.loop_model.specs.Outs.{Out, runs, exactly, first_of}
-use Rattle.loop_model.specs.Sessions.{Rules, Session, Given, Begins, Hears, Sends, Takes, Leaves, Ticks, Ends, Faults, Stalls, event_of, written, is_released, end_after, outcomes_of, entry_of, most_output, octets_in, breaks, joined, fed, heard_in, leave_of, sends_of, replies, hears, silence, dealt, waiting, takes_all, parts, parted, Says, nothing_said, handled, poured, pours}
-use Rattle.loop_model.specs.Visits.{most_read, is_due, came}
-use Rattle.loop_model.specs.Points.{Speech, speech_of, texts_said, leave_said, speech_by, IsAnswer, Step, Leads, user_of, AreDeclined, IsSpoken, UsersReply}
-use Rattle.loop_model.proofs.Steadies.{Quiet, Calls, Usual, steady_handled, runs_lift}
-use Rattle.loop_model.proofs.Resting.{ended_waits, handled_none, parts_end, StaysGone, stays_gone}
+use Rattle.loop_model.specs.Outs.{runs, exactly, first_of}
+use Rattle.loop_model.specs.Sessions.{Rules, Session, Given, Begins, Hears, Sends, Takes, Leaves, Ticks, Ends, Faults, Stalls, event_of, written, is_released, end_after, outcomes_of, most_output, octets_in, joined, fed, heard_in, leave_of, sends_of, replies, hears, silence, dealt, waiting, takes_all, parts, parted, Says, nothing_said, handled, poured, pours}
+use Rattle.loop_model.specs.Visits.{is_due, came}
+use Rattle.loop_model.specs.Points.{Speech, speech_of, texts_said, leave_said, speech_by, IsAnswer, Step, Leads}
+use Rattle.loop_model.proofs.Steadies.{Calls, Usual, steady_handled, runs_lift}
+use Rattle.loop_model.proofs.Resting.{ended_waits, handled_none, StaysGone, stays_gone}
 
 pub leads-append : (a b c : Speech) (xs ys : List Entry) → Leads a xs b → Leads b ys c → Leads a (xs ++ ys) c
 leads-append a b c [] ys p q = subst (λ z. Leads z ys c) p q

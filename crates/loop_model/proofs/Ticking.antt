@@ -1,5 +1,5 @@
 -- In each turn those are ticked whose deadline has come.
-use Rattle.std.proofs.Common.{if◌then◌else◌, ◌≡◌, ℕ, ◌+◌, ◌<◌, ◌≤◌, max, inl, inr, Bool, true, false, ◌&&◌, ◌||◌, List, [], ◌∷◌, ◌++◌, length, drop, Option, Some, None, refl, sym, ◌∙◌, ap, subst, append-nil, append_assoc, arith, ne_eqb}
+use Rattle.std.proofs.Common.{if◌then◌else◌, ◌≡◌, ℕ, ◌+◌, ◌<◌, ◌≤◌, max, inl, inr, Bool, true, false, ◌&&◌, ◌||◌, List, [], ◌∷◌, ◌++◌, length, drop, Option, Some, None, refl, ◌∙◌, ap, subst, append-nil, append_assoc, arith, ne_eqb}
 use Rattle.std.specs.Prelude.{nat_lt, ◌==◌}
 use Rattle.std.proofs.lemmas.Bool.{cases_Bool}
 use Rattle.er_end.specs.KeptEnds.{KEnd, deadline_of}
@@ -10,9 +10,9 @@ use Rattle.link_trait.specs.declared.wires.WriteAnswer.TheVariants as write
 use Rattle.link_trait.specs.declared.wires.Happening.{Happening}
 use Rattle.link_trait.specs.declared.wires.Happening.TheVariants as happening
 use Rattle.loop_model.specs.Journals.{Entry}
-use Rattle.loop_model.specs.Outs.{Out, next, changed, acts, exactly, first_of}
+use Rattle.loop_model.specs.Outs.{Out, changed, acts, exactly, first_of}
 use Rattle.loop_model.specs.Sessions.{Rules, Session, Given, Begins, Hears, Sends, Takes, Leaves, Ticks, Ends, Faults, Stalls, is_released, most_output, written as written_as, outcomes_of, octets_in, joined, fed, Says, nothing_said, handled}
-use Rattle.loop_model.specs.Visits.{Flow, Going, PutOff, Failing, writes_if, writes_once, writes, Wrote, fault_unless, flowed, written_unless, written, settled, rests, rests_behind, Visit, Tick, Read, Write, Expire, Met, nothing_met, is_due, came, read_once, served, visited}
+use Rattle.loop_model.specs.Visits.{Flow, Going, PutOff, Failing, writes_if, writes_once, writes, Wrote, fault_unless, flowed, written_unless, written, settled, rests, rests_behind, Tick, Read, Write, Expire, Met, nothing_met, is_due, came, read_once, served, visited}
 use Rattle.loop_model.specs.Loops.{Plan, rules_of, Loop, most_live, visit_at, numbers, swept, Sweeps, before, next_user, answered_by, accepted, happened, Halt, Course, asks, Turn, readied, turned_unless, went_unless, went}
 use Rattle.loop_model.specs.Parts.{Rises}
 use Rattle.loop_model.specs.Turnings.{is_tick, ticked, due_at, TicksAreDue}

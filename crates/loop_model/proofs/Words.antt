@@ -1,17 +1,17 @@
 -- Each end that is opened has the next random word.
-use Rattle.std.proofs.Common.{◌≡◌, ℕ, max, inl, inr, List, [], ◌∷◌, ◌++◌, Option, Some, None, refl, sym, ◌∙◌, ap, subst, append_assoc, append-nil}
+use Rattle.std.proofs.Common.{◌≡◌, ℕ, List, [], ◌∷◌, ◌++◌, Option, Some, None, refl, sym, ◌∙◌, ap, subst, append_assoc}
 use Rattle.er_trace.specs.declared.event.Event.{Event}
 use Rattle.er_trace.specs.declared.event.Event.TheVariants as event
 use Rattle.er_users.specs.Users.{Mind}
 use Rattle.rand_core.specs.Stream.{Stream, next_u64}
-use Rattle.trace_model.specs.Checks.{Opens, Declines, Belongs, role_of}
+use Rattle.trace_model.specs.Checks.{Belongs, role_of}
 use Rattle.link_trait.specs.Wires.{Call}
 use Rattle.loop_model.specs.Journals.{Entry}
-use Rattle.loop_model.specs.Visits.{Met, Visit, visited, served}
-use Rattle.loop_model.specs.Loops.{Plan, rules_of, Loop, visit_at, next_user, begun, Caller, calling, called_by, called, Course, asks, Turn, run, Dialled, opens, dials_to, dials}
+use Rattle.loop_model.specs.Visits.{Met, visited, served}
+use Rattle.loop_model.specs.Loops.{Plan, rules_of, Loop, visit_at, next_user, begun, Caller, calling, called_by, called, Course, asks, run, Dialled, opens, dials_to, dials}
 use Rattle.loop_model.specs.Turnings.{word_of, words_of, AreNext, WordsAreNext}
 use Rattle.loop_model.proofs.Momentwise.{Momentwise, moment_run}
-use Rattle.loop_model.proofs.Replaying.{ArePlain, plain_visit, begins, CallsSo, served_so}
+use Rattle.loop_model.proofs.Replaying.{ArePlain, plain_visit, begins, served_so}
 
 words_of-append : (xs ys : List Entry) → words_of (xs ++ ys) ≡ words_of xs ++ words_of ys
 unfolding words_of

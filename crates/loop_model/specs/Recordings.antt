@@ -1,5 +1,5 @@
 -- The recording of a loop replays to itself: a replay refuses no event of the journal, and prints what the loop printed.
-use Rattle.std.specs.Prelude.{ℕ, ◌≡◌, List, ◌++◌, map}
+use Rattle.std.specs.Prelude.{◌≡◌, List, ◌++◌, map}
 use Rattle.safety_automaton.specs.Keys.{key_at}
 use Rattle.er_trace.specs.declared.entry.Entry.{Entry as Event_line}
 use Rattle.trace_model.specs.Printed as trace

@@ -1,5 +1,5 @@
 -- What holds of the events of each turn: ticks, ends of lines, random words, and what is closed.
-use Rattle.std.specs.Prelude.{ℕ, ◌≡◌, ◌≤◌, ◌==◌, max, Bool, true, false, ◌&&◌, ◌||◌, if◌then◌else◌, List, [], ◌∷◌, ◌++◌, length, Option, Some, None}
+use Rattle.std.specs.Prelude.{ℕ, ◌≡◌, ◌≤◌, ◌==◌, max, Bool, true, false, ◌&&◌, ◌||◌, if◌then◌else◌, List, [], ◌∷◌, ◌++◌, length, Some, None}
 use Rattle.rand_core.specs.Stream.{Stream, next_u64}
 use Rattle.er_end.specs.KeptEnds.{deadline_of}
 use Rattle.er_trace.specs.declared.event.Event.{Event}
