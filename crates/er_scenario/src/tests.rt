@@ -18,33 +18,18 @@ const KEYS: TripleKey = TripleKey {
     third: 0x4567_89AB_CDEF_0123,
 };
 
-// Appends a text, in which each K stands for 48 digits, each R for 16, and each semicolon for LF.
-fn put_spelled(text: &str, out: &mut Vec<u8>) -> Result<(), NoMemory> {
+// A text in which each K stands for 48 digits, each R for 16, and each semicolon for LF.
+fn spelled_out(alloc: Global, text: &str) -> Result<Vec<u8>, NoMemory> {
+    let mut octets = Vec::new(alloc);
     for octet in text.as_bytes() {
         match *octet {
-            b'K' => out.extend_from_slice(KEY.as_bytes())?,
-            b'R' => out.extend_from_slice(RANDOM.as_bytes())?,
-            b';' => out.push(b'\n')?,
-            other => out.push(other)?,
+            b'K' => octets.extend_from_slice(KEY.as_bytes())?,
+            b'R' => octets.extend_from_slice(RANDOM.as_bytes())?,
+            b';' => octets.push(b'\n')?,
+            other => octets.push(other)?,
         }
     }
-    Ok(())
-}
-
-fn spelled_out(alloc: Global, text: &str) -> Result<Vec<u8>, NoMemory> {
-    let mut out = Vec::new(alloc);
-    put_spelled(text, &mut out)?;
-    Ok(out)
-}
-
-// A drill of this level with these lines.
-fn drill(alloc: Global, level: &str, lines: &str) -> Result<Vec<u8>, NoMemory> {
-    let mut out = Vec::new(alloc);
-    out.extend_from_slice(b"drill 1 ")?;
-    put_spelled(level, &mut out)?;
-    out.push(b'\n')?;
-    put_spelled(lines, &mut out)?;
-    Ok(out)
+    Ok(octets)
 }
 
 // The line and the word of a text's fault.
@@ -62,171 +47,144 @@ fn fault_in(
 
 const SEALED_MESSAGE: &str = "drill 1 safe\nfixed 1 5 9 K K\nsend 1 e 41\npass 1 e\n";
 
-// Whether a line opens a link between two ends that are connected, has one octet sent, or passes a frame.
-fn is_fixed(numbered: &Numbered) -> bool {
-    match &numbered.step {
-        Step::Fixed {
-            link: 1,
-            engine: 5,
-            rbc: 9,
-            ke,
-            kr,
-        } => *ke == KEYS && *kr == KEYS,
-        _ => false,
-    }
-}
-
-fn is_sent(numbered: &Numbered) -> bool {
-    match &numbered.step {
-        Step::Send {
-            link: 1,
-            side: Side::E,
-            text,
-        } => text.as_slice() == b"A".as_slice(),
-        _ => false,
-    }
-}
-
-fn is_passed(numbered: &Numbered) -> bool {
-    matches!(
-        numbered.step,
-        Step::Pass {
-            link: 1,
-            side: Side::E
-        }
-    )
-}
-
-fn is_sealed_message(scenario: &Scenario) -> bool {
-    let [first, second, third] = scenario.steps.as_slice() else {
-        return false;
-    };
-    (first.line, second.line, third.line) == (2, 3, 4)
-        && is_fixed(first)
-        && is_sent(second)
-        && is_passed(third)
-}
-
-// Whether a scenario is printed so, behind what stands there.
-fn is_printed(alloc: Global, scenario: &Scenario, text: &[u8]) -> Result<bool, NoMemory> {
-    let mut out = Vec::new(alloc);
-    out.extend_from_slice(b"> ")?;
-    print(alloc, scenario, &mut out)?;
-    Ok(out.as_slice().strip_prefix(b"> ".as_slice()) == Some(text))
-}
-
 #[test]
 fn reads_and_prints_one_sealed_message(rt: HostRuntime) -> Result<(), Fail> {
     let text = spelled_out(rt.alloc(), SEALED_MESSAGE)?;
     let scenario = read(rt.alloc(), text.as_slice())?;
+    assert_eq!(rt; scenario.level, Level::Safe);
+    assert_eq!(rt; scenario.settings, Settings::usual());
+    assert!(rt; !scenario.show);
+    let [opening, sending, passing] = scenario.steps.as_slice() else {
+        return Ok(assert!(rt; false));
+    };
+    let Step::Fixed {
+        link: 1,
+        engine: 5,
+        rbc: 9,
+        ke,
+        kr,
+    } = &opening.step
+    else {
+        return Ok(assert!(rt; false));
+    };
+    assert_eq!(rt; *ke, KEYS);
+    assert_eq!(rt; *kr, KEYS);
+    let Step::Send {
+        link: 1,
+        side: Side::E,
+        text: message,
+    } = &sending.step
+    else {
+        return Ok(assert!(rt; false));
+    };
+    assert_eq!(rt; message.as_slice(), b"A".as_slice());
     assert!(rt;
-        scenario.level == Level::Safe && scenario.settings == Settings::usual() && !scenario.show
+        matches!(
+            passing.step,
+            Step::Pass {
+                link: 1,
+                side: Side::E
+            }
+        )
     );
-    assert!(rt; is_sealed_message(&scenario));
-    assert!(rt; is_printed(rt.alloc(), &scenario, text.as_slice())?);
+    assert_eq!(rt; (opening.line, sending.line, passing.line), (2, 3, 4));
+    let mut out = Vec::from_slice(rt.alloc(), b"> ".as_slice())?;
+    print(rt.alloc(), &scenario, &mut out)?;
+    let mut expected = Vec::from_slice(rt.alloc(), b"> ".as_slice())?;
+    expected.extend_from_slice(text.as_slice())?;
+    assert_eq!(rt; out.as_slice(), expected.as_slice());
     laws::printed_is_read();
     Ok(())
 }
 
-// Whether a line opens a link between two ends that aren't connected yet, the second one without a key, or with one.
-fn is_keyless(numbered: &Numbered) -> bool {
-    match &numbered.step {
-        Step::Link {
-            link: 1,
-            engine: 5,
-            rbc: 9,
-            ke,
-            kr: None,
-            ra,
-            rb,
-        } => { *ke == KEYS && (*ra, *rb) == (0x0123_4567_89AB_CDEF, 0xFEDC_BA98_7654_3210) }
-        _ => false,
-    }
-}
-
-fn is_keyed(numbered: &Numbered) -> bool {
-    match &numbered.step {
-        Step::Link {
-            link: 2,
-            engine: 7,
-            rbc: 8,
-            ke,
-            kr: Some(kr),
-            ra,
-            rb,
-        } => { *ke == KEYS && *kr == KEYS && (*ra, *rb) == (1, 0x0123_4567_89AB_CDEF) }
-        _ => false,
-    }
-}
-
-const TWO_LINKS: &str =
-    "drill 1 safe;link 1 5 9 K - R FEDCBA9876543210;link 2 7 8 K K 0000000000000001 R";
-
-fn is_two_links(scenario: &Scenario) -> bool {
-    let [first, second] = scenario.steps.as_slice() else {
-        return false;
-    };
-    is_keyless(first) && is_keyed(second)
-}
-
 #[test]
 fn reads_links_with_and_without_a_key(rt: HostRuntime) -> Result<(), Fail> {
-    let text = spelled_out(rt.alloc(), TWO_LINKS)?;
-    assert!(rt; is_two_links(&read(rt.alloc(), text.as_slice())?));
+    let lines = "drill 1 safe;link 1 5 9 K - R FEDCBA9876543210;link 2 7 8 K K 0000000000000001 R";
+    let text = spelled_out(rt.alloc(), lines)?;
+    let scenario = read(rt.alloc(), text.as_slice())?;
+    let [keyless, keyed] = scenario.steps.as_slice() else {
+        return Ok(assert!(rt; false));
+    };
+    let Step::Link {
+        link: 1,
+        engine: 5,
+        rbc: 9,
+        ke,
+        kr: None,
+        ra: 0x0123_4567_89AB_CDEF,
+        rb: 0xFEDC_BA98_7654_3210,
+    } = &keyless.step
+    else {
+        return Ok(assert!(rt; false));
+    };
+    assert_eq!(rt; *ke, KEYS);
+    let Step::Link {
+        link: 2,
+        engine: 7,
+        rbc: 8,
+        ke,
+        kr: Some(kr),
+        ra: 1,
+        rb: 0x0123_4567_89AB_CDEF,
+    } = &keyed.step
+    else {
+        return Ok(assert!(rt; false));
+    };
+    assert_eq!(rt; *ke, KEYS);
+    assert_eq!(rt; *kr, KEYS);
     Ok(())
 }
 
 // Each line as it is written and as it is printed, behind its header, by hand from the table of lines.
 const PRINTED: &str = "\
-safe|fixed 64 0 16777215 K K|fixed 64 0 16777215 K K;
-safe|link 64 0 16777215 K - 0000000000000000 FFFFFFFFffffffff|link 64 0 16777215 K - 0000000000000000 ffffffffffffffff;
-full|link 1 5 9 K K R 00000000000000aB|link 1 5 9 K K R 00000000000000ab;
-link|wire 64|wire 64;
-safe| send  1 e -  |send 1 e -;
-link|send 1 r 0aFf|send 1 r 0aff;
-safe|pass 1 e|pass 1 e;
-full|lose 2 r|lose 2 r;
-link|repeat 3 e|repeat 3 e;
-safe|alter 1 e 18446744073709551615 FF|alter 1 e 18446744073709551615 ff;
-full|put 1 r 00|put 1 r 00;
-safe|copy 1 e 64 r|copy 1 e 64 r;
-full|take 1 r|take 1 r;
-link|release 1 r 255|release 1 r 255;
-full|tick 1000000000000000|tick 1000000000000000;
-link|drain 1 100000|drain 1 100000;
-safe|set window 1|set window 1;
-safe|set credit 1|set credit 1;
-safe|set size 1024|set size 1024;
-safe|set t1 60000|set t1 60000;
-safe|set n2 10|set n2 10;
-safe|set setup 1000|set setup 1000;
-safe|set show 1|set show 1;
-safe|set window 1;set window 2;set n2 5|set window 2;
-safe|set show 1;set size 256;set show 0;set credit 3|set credit 3;set size 256;
-link|set n2 1;set modulo 128;set window 31|set modulo 128;set window 31;set n2 1;
+safe|fixed 64 0 16777215 K K|fixed 64 0 16777215 K K
+safe|link 64 0 16777215 K - 0000000000000000 FFFFFFFFffffffff|link 64 0 16777215 K - 0000000000000000 ffffffffffffffff
+full|link 1 5 9 K K R 00000000000000aB|link 1 5 9 K K R 00000000000000ab
+link|wire 64|wire 64
+safe| send  1 e -  |send 1 e -
+link|send 1 r 0aFf|send 1 r 0aff
+safe|pass 1 e|pass 1 e
+full|lose 2 r|lose 2 r
+link|repeat 3 e|repeat 3 e
+safe|alter 1 e 18446744073709551615 FF|alter 1 e 18446744073709551615 ff
+full|put 1 r 00|put 1 r 00
+safe|copy 1 e 64 r|copy 1 e 64 r
+full|take 1 r|take 1 r
+link|release 1 r 255|release 1 r 255
+full|tick 1000000000000000|tick 1000000000000000
+link|drain 1 100000|drain 1 100000
+safe|set window 1|set window 1
+safe|set credit 1|set credit 1
+safe|set size 1024|set size 1024
+safe|set t1 60000|set t1 60000
+safe|set n2 10|set n2 10
+safe|set setup 1000|set setup 1000
+safe|set show 1|set show 1
+safe|set window 1;set window 2;set n2 5|set window 2
+safe|set show 1;set size 256;set show 0;set credit 3|set credit 3;set size 256
+link|set n2 1;set modulo 128;set window 31|set modulo 128;set window 31;set n2 1
 link|set modulo 128;set window 31;set window 7;set modulo 8|
-safe|set modulo 128|set modulo 128;
-safe|# set window 9;;   ;pass 1 e;#|pass 1 e;";
-
-// Whether the lines of a row are printed as it says.
-fn is_row_printed(alloc: Global, row: &str) -> Result<bool, Fail> {
-    let Some((level, lines)) = row.split_once('|') else {
-        return Ok(false);
-    };
-    let Some((written, printed)) = lines.split_once('|') else {
-        return Ok(false);
-    };
-    let text = drill(alloc, level, written)?;
-    let scenario = read_by(alloc, Grammar::Whole, text.as_slice())?;
-    let mut out = Vec::new(alloc);
-    put_text(alloc, &scenario, &mut out)?;
-    Ok(out.as_slice() == drill(alloc, level, printed)?.as_slice())
-}
+safe|set modulo 128|set modulo 128
+safe|# set window 9;;   ;pass 1 e;#|pass 1 e";
 
 #[test]
 fn prints_each_line_as_it_is_written(rt: HostRuntime) -> Result<(), Fail> {
     for row in PRINTED.split('\n') {
-        assert!(rt; is_row_printed(rt.alloc(), row)?, "{row}");
+        let Some((level, lines)) = row.split_once('|') else {
+            return Ok(assert!(rt; false, "{row}"));
+        };
+        let Some((written, printed)) = lines.split_once('|') else {
+            return Ok(assert!(rt; false, "{row}"));
+        };
+        let text = format!(in rt.alloc(); "drill 1 {level};{written}")?;
+        let text = spelled_out(rt.alloc(), text.as_str())?;
+        let scenario = read_by(rt.alloc(), Grammar::Whole, text.as_slice())?;
+        let mut out = Vec::new(rt.alloc());
+        put_text(rt.alloc(), &scenario, &mut out)?;
+        let end = if printed.is_empty() { "" } else { ";" };
+        let expected = format!(in rt.alloc(); "drill 1 {level};{printed}{end}")?;
+        let expected = spelled_out(rt.alloc(), expected.as_str())?;
+        assert_eq!(rt; out.as_slice(), expected.as_slice(), "{row}");
     }
     Ok(())
 }
@@ -495,90 +453,102 @@ const FAULTS_OF_THE_WHOLE: &str = "\
 2 Number|drill 1 full;tick 01
 2 Value|drill 1 full;tick 1000000000000001";
 
-// Whether a row's text is refused as is written before it.
-fn is_row_refused(alloc: Global, grammar: Grammar, row: &str) -> Result<bool, Fail> {
-    let Some((expected, written)) = row.split_once('|') else {
-        return Ok(false);
-    };
-    let text = spelled_out(alloc, written)?;
-    let Some((line, why)) = fault_in(alloc, grammar, text.as_slice())? else {
-        return Ok(false);
-    };
-    Ok(format!(in alloc; "{line} {why:?}")?.as_str() == expected)
+// The first row of a table whose text isn't refused as is written before it.
+fn first_wrong(
+    alloc: Global,
+    grammar: Grammar,
+    rows: &'static str,
+) -> Result<Option<&'static str>, Fail> {
+    for row in rows.split('\n') {
+        let Some((expected, written)) = row.split_once('|') else {
+            return Ok(Some(row));
+        };
+        let text = spelled_out(alloc, written)?;
+        let Some((line, why)) = fault_in(alloc, grammar, text.as_slice())? else {
+            return Ok(Some(row));
+        };
+        let fault = format!(in alloc; "{line} {why:?}")?;
+        if fault.as_str() != expected {
+            return Ok(Some(row));
+        }
+    }
+    Ok(None)
 }
 
 #[test]
 fn refuses_each_fault_in_each_place(rt: HostRuntime) -> Result<(), Fail> {
-    for (grammar, rows) in [
-        (Grammar::Running, FAULTS),
-        (Grammar::Whole, FAULTS_OF_THE_WHOLE),
-    ] {
-        for row in rows.split('\n') {
-            assert!(rt; is_row_refused(rt.alloc(), grammar, row)?, "{row}");
-        }
-    }
+    let running = first_wrong(rt.alloc(), Grammar::Running, FAULTS)?;
+    assert_eq!(rt; running, None);
+    let whole = first_wrong(rt.alloc(), Grammar::Whole, FAULTS_OF_THE_WHOLE)?;
+    assert_eq!(rt; whole, None);
     Ok(())
-}
-
-// A drill that sends or puts so many octets.
-fn drill_of_octets(alloc: Global, word: &str, octets: usize) -> Result<Vec<u8>, NoMemory> {
-    let mut text = drill(alloc, "safe", word)?;
-    text.extend_from_slice(b" 1 e ")?;
-    for _ in 0..octets {
-        text.extend_from_slice(b"5a")?;
-    }
-    Ok(text)
 }
 
 #[test]
 fn takes_hex_words_of_4096_octets(rt: HostRuntime) -> Result<(), Fail> {
     for word in ["send", "put"] {
-        for (octets, fault) in [(4_096, None), (4_097, Some((2, Why::Value)))] {
-            let text = drill_of_octets(rt.alloc(), word, octets)?;
-            assert!(rt; fault_in(rt.alloc(), Grammar::Running, text.as_slice())? == fault);
+        let mut text = Vec::new(rt.alloc());
+        text.extend_from_slice(b"drill 1 safe\n")?;
+        text.extend_from_slice(word.as_bytes())?;
+        text.extend_from_slice(b" 1 e ")?;
+        for _ in 0..4_096 {
+            text.extend_from_slice(b"5a")?;
         }
+        assert_eq!(rt;
+            fault_in(rt.alloc(), Grammar::Running, text.as_slice())?,
+            None,
+            "{word}"
+        );
+        text.extend_from_slice(b"5a")?;
+        let fault = fault_in(rt.alloc(), Grammar::Running, text.as_slice())?;
+        assert_eq!(rt; fault, Some((2, Why::Value)), "{word}");
     }
     Ok(())
 }
 
 #[test]
 fn takes_files_of_16_mebibytes(rt: HostRuntime) -> Result<(), Fail> {
-    let mut text = drill(rt.alloc(), "safe", "")?;
+    let mut text = Vec::from_slice(rt.alloc(), b"drill 1 safe\n".as_slice())?;
     text.resize(16_777_216, b'\n')?;
-    assert!(rt; fault_in(rt.alloc(), Grammar::Running, text.as_slice())?.is_none());
+    assert_eq!(rt;
+        fault_in(rt.alloc(), Grammar::Running, text.as_slice())?,
+        None
+    );
     text.push(b'\n')?;
-    assert!(rt; fault_in(rt.alloc(), Grammar::Running, text.as_slice())? == Some((0, Why::Long)));
+    let fault = fault_in(rt.alloc(), Grammar::Running, text.as_slice())?;
+    assert_eq!(rt; fault, Some((0, Why::Long)));
     Ok(())
-}
-
-// A list of one step, of line 7.
-fn one_step(alloc: Global) -> Result<StepList, NoMemory> {
-    let mut list = Vec::new(alloc);
-    list.push(Numbered {
-        line: 7,
-        step: Step::Lose {
-            link: 1,
-            side: Side::R,
-        },
-    })?;
-    Ok(StepList::new(list))
 }
 
 #[test]
 fn keeps_a_list_of_steps(rt: HostRuntime) -> Result<(), Fail> {
-    let steps = one_step(rt.alloc())?;
-    let [numbered] = steps.as_slice() else {
+    let text = Octets::new(Vec::from_slice(rt.alloc(), b"A".as_slice())?);
+    let step = Step::Put {
+        link: 1,
+        side: Side::R,
+        text,
+    };
+    let mut list = Vec::new(rt.alloc());
+    list.push(Numbered { line: 7, step })?;
+    let scenario = Scenario {
+        level: Level::Safe,
+        settings: Settings::usual(),
+        show: true,
+        steps: StepList::new(list),
+    };
+    let [numbered] = scenario.steps.as_slice() else {
         return Ok(assert!(rt; false));
     };
+    assert_eq!(rt; numbered.line, 7);
     assert!(rt;
-        numbered.line == 7
-            && matches!(
-                numbered.step,
-                Step::Lose {
-                    link: 1,
-                    side: Side::R
-                }
-            )
+        matches!(
+            numbered.step,
+            Step::Put {
+                link: 1,
+                side: Side::R,
+                ..
+            }
+        )
     );
     Ok(())
 }
