@@ -1,5 +1,6 @@
 -- The octets of a read, given to an end part by part.
-use Rattle.std.proofs.Common.{◌≡◌, ◌≤◌, ◌<◌, ℕ, zero, suc, ◌+◌, ◌-◌, ◌==◌, Bool, true, false, ◌||◌, if◌then◌else◌, List, [], ◌∷◌, ◌++◌, length, take, drop, Option, Some, None, Result, Ok, Err, is_some, refl, sym, ◌∙◌, ap, subst, append-nil, append_assoc, cases_Bool, inl, inr, ◌⊎◌, arith, eqb-true, eqb-refl}
+use Rattle.std.proofs.Common.{◌≡◌, ◌≤◌, ◌<◌, ℕ, zero, suc, ◌+◌, ◌-◌, ◌==◌, Bool, true, false, ◌||◌, if◌then◌else◌, List, [], ◌∷◌, ◌++◌, length, take, drop, Option, Some, None, Result, Ok, Err, is_some, refl, sym, ◌∙◌, ap, subst, append-nil, append_assoc, ◌⊎◌, arith, eqb-true}
+use Rattle.std.proofs.lemmas.Bool.{cases_Bool}
 use Rattle.hdlc_frames.specs.Deframing as deframing
 use Rattle.hdlc_frames.specs.Deframing.{used_behind}
 use Rattle.er_end.specs.KeptEnds.{KEnd, used_of}

@@ -1,5 +1,6 @@
 -- What a take tells: the message, and the octets for the line.
-use Rattle.std.proofs.Common.{◌≡◌, ◌<◌, ℕ, zero, suc, ◌==◌, Bool, true, false, if◌then◌else◌, List, [], ◌∷◌, ◌++◌, length, slice_get, Option, Some, None, is_some, refl, sym, ap, ◌∙◌, append_assoc, append-nil, cases_Bool, inl, inr, arith, eqb-refl}
+use Rattle.std.proofs.Common.{◌≡◌, ◌<◌, ℕ, zero, suc, ◌==◌, Bool, true, false, if◌then◌else◌, List, [], ◌∷◌, ◌++◌, length, slice_get, Option, Some, None, is_some, Result, Ok, Err, OnOk, refl, sym, ap, ◌∙◌, append_assoc, append-nil, arith}
+use Rattle.std.proofs.lemmas.Bool.{cases_Bool}
 use Rattle.er_base.specs.LineTexts.{line_text}
 use Rattle.er_trace.specs.Texts.{outcome_words}
 use Rattle.end_model.specs.Outcomes.{Outcome, Taken, NothingToTake}
@@ -69,12 +70,33 @@ takes_none now k p =
     (quiet_outcomes (after_take now k).core (takes_quietly now k) ∙ ap if_octets (none_out now k p))
 
 -- the lines of a message and of octets
-pub taken_text : (conn : ℕ) (message out : List ℕ) (line : List ℕ)
+taken_text : (conn : ℕ) (message out : List ℕ) (line : List ℕ)
     → (line ++ outcomes_text conn (Taken message ∷ [])) ++ outcomes_text conn (if_octets out) ≡ line ++ outcomes_text conn (Taken message ∷ if_octets out)
 unfolding outcomes_text
 taken_text conn message out line =
     append_assoc line (outcomes_text conn (Taken message ∷ [])) (outcomes_text conn (if_octets out))
     ∙ ap (λ z. line ++ (z ++ outcomes_text conn (if_octets out))) (append-nil (line_text (outcome_words conn (told (Taken message)))))
 
-pub octets_taken : (message out : List ℕ) → octets_in (Taken message ∷ if_octets out) ≡ out
-octets_taken message out = octets_if out
+told_so : (now : ℕ) (k : KEnd) (message out : List ℕ) → message ≡ first_in (waiting_in k) → 0 < length (waiting_in k) → out ≡ (after_take now k).core.line.out
+    → Taken message ∷ if_octets out ≡ tells now end.Take k
+told_so now k message out is some o =
+    ap (λ z. Taken z ∷ if_octets out) is ∙ ap (λ z. Taken (first_in (waiting_in k)) ∷ if_octets z) o ∙ sym (takes_some now k some)
+
+pub some_text : (conn now : ℕ) (k : KEnd) (l1 l2 l3 message out : List ℕ) → message ≡ first_in (waiting_in k) → 0 < length (waiting_in k)
+    → out ≡ (after_take now k).core.line.out → l2 ≡ l1 ++ outcomes_text conn (Taken message ∷ []) → l3 ≡ l2 ++ outcomes_text conn (if_octets out)
+    → l3 ≡ l1 ++ outcomes_text conn (tells now end.Take k)
+some_text conn now k l1 l2 l3 message out is some o p q =
+    q ∙ ap (λ z. z ++ outcomes_text conn (if_octets out)) p ∙ taken_text conn message out l1
+    ∙ ap (λ z. l1 ++ outcomes_text conn z) (told_so now k message out is some o)
+
+pub some_octets : (now : ℕ) (k : KEnd) (message out : List ℕ) → message ≡ first_in (waiting_in k) → 0 < length (waiting_in k)
+    → out ≡ (after_take now k).core.line.out → out ≡ octets_in (tells now end.Take k)
+some_octets now k message out is some o = sym (octets_if out) ∙ ap octets_in (told_so now k message out is some o)
+
+pub some_heard : (now : ℕ) (k : KEnd) (message out : List ℕ) → message ≡ first_in (waiting_in k) → 0 < length (waiting_in k)
+    → out ≡ (after_take now k).core.line.out → (if is_text message then Some (Message message) else None) ≡ heard_in (tells now end.Take k)
+some_heard now k message out is some o = ap heard_in (told_so now k message out is some o)
+
+pub on_ok : {T E P : Type 0} (r : Result T E) → P → OnOk r P
+on_ok (Ok done) p = p
+on_ok (Err fault) p = tt

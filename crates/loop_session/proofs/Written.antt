@@ -1,18 +1,20 @@
 -- How the lines of events that were written are the text of what a part of the loop prints.
-use Rattle.std.proofs.Common.{if◌then◌else◌, ◌≡◌, ℕ, ◌≤◌, ◌+◌, nat_lt, Bool, true, false, not, ◌||◌, List, [], ◌∷◌, ◌++◌, length, Option, Some, None, Result, Ok, Err, refl, sym, ◌∙◌, ap, subst, append-nil, append_assoc, arith, eqb-true, cases_Bool, inl, inr}
+use Rattle.std.proofs.Common.{if◌then◌else◌, ◌≡◌, ℕ, ◌≤◌, ◌+◌, nat_lt, Bool, true, false, not, ◌||◌, List, [], ◌∷◌, ◌++◌, length, Option, Some, None, Result, Ok, Err, refl, sym, ◌∙◌, ap, subst, append-nil, append_assoc, arith, eqb-true}
+use Rattle.std.proofs.lemmas.Bool.{cases_Bool}
 use Rattle.std.specs.Prelude.{◌==◌}
 use Rattle.er_base.specs.LineTexts.{line_text}
 use Rattle.er_trace.specs.Texts.{entry_words}
 use Rattle.trace_model.specs.Printed.{outcomes_text}
 use Rattle.er_end.specs.KeptEnds.{KEnd, happens, tells}
-use Rattle.er_users.specs.Users.{Mind}
+use Rattle.er_users.specs.Saying.{Spoken}
+use Rattle.er_users.specs.Users.{Mind, Heard}
 use Rattle.link_trait.specs.Outside.{Grew, GrewPart, Rose}
 use Rattle.link_trait.specs.Growth.{grew_nothing, grew_then, part_then, part_more}
 use Rattle.loop_model.specs.Journals.{Entry, entry_text, text}
-use Rattle.loop_model.specs.Sessions.{Rules, Session, Given, Stalls, most_output, event_of, written, breaks, end_after, outcomes_of, octets_in, entry_of, stalled, joined, fed}
+use Rattle.loop_model.specs.Sessions.{Rules, Session, Given, Stalls, most_output, event_of, written, breaks, end_after, outcomes_of, octets_in, heard_in, entry_of, stalled, joined, fed}
 use Rattle.loop_session.specs.declared.loop_fault.LoopFault.{LoopFault}
 use Rattle.loop_session.specs.declared.loop_fault.LoopFault.TheVariants.{Wires, Sink, NoMemory}
-use Rattle.loop_session.specs.Giving.{too_many, joined_to, octets_of, behind, Gave}
+use Rattle.loop_session.specs.Giving.{too_many, joined_to, octets_of, behind, Gave, HeardSo, peer_heard}
 use Rattle.loop_session.specs.Parts.{Breaks, Puts, Printed, Prints, with_mind}
 
 pub nothing_put : (a : Option (List ℕ)) (f : ℕ) (line : List ℕ) → (length line == 0) ≡ true → Grew a a line × (f ≤ f)
@@ -134,10 +136,10 @@ not_false false p = p
 pub tell_breaks : (a b : Option (List ℕ)) (f g : ℕ) (r : Rules) (m : ℕ) (s now : Session) (e : Given) (line : List ℕ) (fits : Bool) (fault : LoopFault)
     → Gave r m s e now line fits → Breaks a b f g line fault → Breaks a b f g (text (with_mind now.mind (fed r m s e)).1) fault
 unfolding fed
-tell_breaks a b f g r m s now e line fits fault gave breaks =
+tell_breaks a b f g r m s now e line fits fault gave broke =
     let o = joined r m (record s { end = end_after r m s.end e; broken = s.broken || breaks e }) (octets_in (outcomes_of r m s.end e)) in
     breaks_more a b f g (entry_text (entry_of r m s e)) (text o.1) fault
-    (breaks_as a b f g line (entry_text (entry_of r m s e)) fault gave.text breaks)
+    (breaks_as a b f g line (entry_text (entry_of r m s e)) fault gave.text broke)
 
 pub tell_fits : (a b : Option (List ℕ)) (f g : ℕ) (r : Rules) (m : ℕ) (s now : Session) (e : Given) (line : List ℕ) (fits : Bool)
     → Gave r m s e now line fits → fits ≡ true → Grew a b line × (f ≤ g) → Printed a b f g now (with_mind now.mind (fed r m s e))
@@ -198,3 +200,30 @@ pub given_prints : (a b : Option (List ℕ)) (f g : ℕ) (r : Rules) (m : ℕ) (
     → mind ≡ s.mind → Prints a b f g new (with_mind mind (fed r m s e)) res → Prints a b f g new (fed r m s e) res
 given_prints a b f g r m s mind new e res same p =
     subst (λ (z : Session × List Entry). Prints a b f g new z res) (ap (λ (z : Option Mind). with_mind z (fed r m s e)) same ∙ same_mind r m s e) p
+
+pub heard_as : (r : Rules) (m : ℕ) (s s0 : Session) (g : Given) (mind : Option Mind) (spoken : Spoken) → s ≡ s0
+    → HeardSo s0.mind (heard_in (tells m (event_of r g) s0.end)) mind spoken → HeardSo s.mind (heard_in (outcomes_of r m s.end g)) mind spoken
+unfolding outcomes_of
+heard_as r m s s0 g mind spoken same heard = subst (λ (z : Session). HeardSo z.mind (heard_in (outcomes_of r m z.end g)) mind spoken) (sym same) heard
+
+pub told_as : (r : Rules) (m : ℕ) (s s0 : Session) (g : Given) (peer : Option ℕ) → s ≡ s0
+    → heard_in (tells m (event_of r g) s0.end) ≡ peer_heard peer → heard_in (outcomes_of r m s.end g) ≡ peer_heard peer
+unfolding outcomes_of
+told_as r m s s0 g peer same told = subst (λ (z : Session). heard_in (outcomes_of r m z.end g) ≡ peer_heard peer) (sym same) told
+
+-- the same lines, by another name
+pub gave_by : (r : Rules) (m : ℕ) (s : Session) (g : Given) (now : Session) (xs ys : List ℕ) (fits : Bool) → ys ≡ xs → Gave r m s g now xs fits → Gave r m s g now ys fits
+gave_by r m s g now xs ys fits p gave = subst (λ z. Gave r m s g now z fits) (sym p) gave
+
+-- the same, though the user has heard of it
+pub gave_mind : (r : Rules) (m : ℕ) (s now now0 : Session) (g : Given) (mind : Option Mind) (lines : List ℕ) (fits : Bool) → now ≡ now0
+    → Gave r m s g now lines fits → Gave r m s g (record now0 { mind = mind }) lines fits
+gave_mind r m s now now0 g mind lines fits same gave = record {
+  text = gave.text;
+  state = ap (λ (z : Session). let t : Session = record z { mind = mind } in t) (sym same ∙ gave.state);
+  fits = gave.fits;
+}
+
+pub heard_so : (mind0 mind1 : Option Mind) (h0 h : Option Heard) (now : Option Mind) (spoken : Spoken) → mind0 ≡ mind1 → h ≡ h0
+    → HeardSo mind0 h0 now spoken → HeardSo mind1 h now spoken
+heard_so mind0 mind1 h0 h now spoken p q heard = subst (λ z. HeardSo mind1 z now spoken) (sym q) (subst (λ z. HeardSo z h0 now spoken) p heard)

@@ -132,7 +132,7 @@ pub fn give_send(
 }
 
 /// The user takes the oldest message that waits, and hears it: whether the octets that the end gives fit.
-#[tactic(auto, using(crate::proofs::Takings::octets_taken, crate::proofs::Takings::heard_taken))]
+#[tactic(auto, using(crate::proofs::Takings::takes_none, crate::proofs::Hearings::heard_nothing))]
 pub fn give_take<U: SafeUser>(
     end: &mut End,
     user: &mut Option<U>,

@@ -2,7 +2,7 @@ use Rattle.std.proofs.Common.{◌≡◌, ◌≤◌, take}
 use Rattle.loop_model.specs.Outs.{runs}
 use Rattle.loop_model.specs.Sessions.{Rules, sends_of, fed}
 use Rattle.loop_session.specs.Parts.{Printed}
-use Rattle.loop_session.proofs.replying.Session.reply.Given as goal
+use Rattle.loop_session.proofs.session.Session.reply.Given as goal
 
 abbrev pub invariant-loop-k : goal.invariant-loop-k
 invariant-loop-k g l = record {

@@ -1,6 +1,6 @@
 use Rattle.std.proofs.Common.{◌≡◌, ◌≤◌, ◌-◌, length}
 use Rattle.loop_session.specs.Parts.{rules, Pouring}
-use Rattle.loop_session.proofs.events.Session.pour.Given as goal
+use Rattle.loop_session.proofs.session.Session.pour.Given as goal
 
 abbrev pub invariant-loop-at : goal.invariant-loop-at
 invariant-loop-at g l = record {

@@ -1,0 +1,13 @@
+use Rattle.std.proofs.Common.{◌∙◌, sym, refl, ap}
+use Rattle.loop_model.specs.Sessions.{Session, Ticks}
+use Rattle.loop_session.specs.Parts.{rules}
+use Rattle.loop_session.proofs.Written.{gave_of, told_as}
+use Rattle.loop_session.proofs.session.Session.tick.Goals as goal
+
+pub returns-clause-chooses : goal.returns-clause-chooses
+returns-clause-chooses g c = λ entries.
+    c.follow.ensures.chooses entries c.args.self.now Ticks
+    (gave_of (rules entries c.args.when.setup) c.args.when.moment c.args.self.now _ Ticks _ _ c.clear.new.self.items c.in_ok-came.came.fits
+    (sym c.self.view_is) refl refl c.in_ok-came.ensures.end c.clear.ensures.items c.in_ok-came.ensures.text c.in_ok-came.ensures.joins)
+    (ap (λ (z : Session). z.mind) c.self.view_is)
+    (told_as (rules entries c.args.when.setup) c.args.when.moment c.args.self.now _ Ticks _ (sym c.self.view_is) c.in_ok-came.ensures.heard)
