@@ -5,7 +5,9 @@ use Rattle.er_users.specs.Users.{Mind, Said}
 use Rattle.loop_model.specs.Journals.{Entry, text}
 use Rattle.loop_model.specs.Outs.{runs, exactly}
 use Rattle.loop_model.specs.Sessions.{Rules, Session, Given, Sends, Leaves, Takes, Says, sends_of, leave_of, heard_in, hears, silence, outcomes_of, fed, dealt, takes_all, waiting, handled, parted}
+use Rattle.er_base.specs.declared.no_memory.NoMemory.{NoMemory as Want}
 use Rattle.loop_session.specs.declared.loop_fault.LoopFault.{LoopFault}
+use Rattle.loop_session.specs.declared.loop_fault.LoopFault.TheVariants.{NoMemory}
 use Rattle.loop_session.specs.Giving.{HeardSo, events_of}
 use Rattle.loop_session.specs.Parts.{Breaks, Printed, Prints, Chose, BrokeOff, Chooses, WentSome, with_mind}
 use Rattle.loop_session.proofs.Written.{text_parts, breaks_as, breaks_first, breaks_then, printed_then, printed_nothing}
@@ -196,12 +198,12 @@ deal_broke a b i j r m s g mind spoken fault heard p = record {
 pub deal_chooses : (a b c : Option (List ℕ)) (i j k : ℕ) (r : Rules) (m : ℕ) (s t u : Session) (g : Given) (mind : Option Mind) (spoken : Spoken) (res : Result (Unit {0}) LoopFault)
     → HeardSo s.mind (heard_in (outcomes_of r m s.end g)) mind spoken → Printed a b i j t (with_mind mind (fed r m s g))
     → Prints b c j k u (runs (fed r m) t (events_of spoken)) res → Chooses a c i k u (dealt r m s g) res
+unfolding dealt
 deal_chooses a b c i j k r m s t u g mind spoken res heard p q = by_result res q
   where
     o : Session × List Entry
     o = with_mind mind (fed r m s g)
     is : dealt r m s g heard.free ≡ (let x = runs (fed r m) o.0 (events_of spoken) in (x.0, o.1 ++ x.1))
-    unfolding dealt
     is = ap (λ z. let x = runs (fed r m) (record (fed r m s g).0 { mind = z.0 }) z.1 in (x.0, (fed r m s g).1 ++ x.1)) heard.is
     by_result : (res : Result (Unit {0}) LoopFault) → Prints b c j k u (runs (fed r m) t (events_of spoken)) res → Chooses a c i k u (dealt r m s g) res
     by_result (Ok done) q = record {
@@ -266,3 +268,12 @@ handled_done a b c i j k r m s t u new g p q parts = record {
       let all = printed_then a b c i j k t u o (takes_all r m o.0 q.answers) p.is last in
       record { state = parts ∙ ap (λ (z : Session). parted r m z) last.state; printed = all.printed; later = all.later };
 }
+
+-- ---- want of memory
+
+pub wanted : {T S A : Type 0} (a : Option (List ℕ)) (i : ℕ) (new : S) (plain : A) (model : A → S × List Entry) (res : Result T LoopFault) (fault : LoopFault) (want : Want)
+    → res ≡ Err fault → fault ≡ NoMemory want → Chooses a a i i new model res
+wanted a i new plain model (Ok done) fault want p q = absurd cc
+wanted a i new plain model (Err other) fault want p q =
+    let same : other ≡ NoMemory want = cc in
+    record { answers = plain; breaks = subst (λ z. Breaks a a i i (text (model plain).1) z) (sym same) (let z : i ≤ i = omega arith in z) }

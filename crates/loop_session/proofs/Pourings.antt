@@ -1,5 +1,5 @@
 -- The octets of a read, given to an end part by part.
-use Rattle.std.proofs.Common.{◌≡◌, ◌≤◌, ◌<◌, ℕ, zero, suc, ◌+◌, ◌-◌, ◌==◌, Bool, true, false, ◌||◌, if◌then◌else◌, List, [], ◌∷◌, ◌++◌, length, take, drop, Option, Some, None, Result, Ok, Err, is_some, refl, sym, ◌∙◌, ap, subst, append-nil, append_assoc, ◌⊎◌, arith, eqb-true}
+use Rattle.std.proofs.Common.{◌≡◌, ◌≤◌, ◌<◌, ℕ, zero, suc, ◌+◌, ◌-◌, ◌==◌, Bool, true, false, ◌||◌, if◌then◌else◌, List, [], ◌∷◌, ◌++◌, length, take, drop, Option, Some, None, Result, Ok, Err, is_some, refl, sym, ◌∙◌, ap, subst, append-nil, append_assoc, ◌⊎◌, inl, inr, arith, eqb-true}
 use Rattle.std.proofs.lemmas.Bool.{cases_Bool}
 use Rattle.hdlc_frames.specs.Deframing as deframing
 use Rattle.hdlc_frames.specs.Deframing.{used_behind}
@@ -156,3 +156,19 @@ pouring_done r m octets at a b i j s t p idle =
           subst (λ z. Printed a b i j t (z.0.0, z.1)) (sym is)
           (record { state = ap (λ (z : Session × List ℕ). z.0) p.is.state; printed = p.is.printed; later = p.is.later });
     }
+
+pub idle_broken : (rest : List ℕ) (t : Session) → t.broken ≡ true → ((length rest == 0) || t.broken) ≡ true
+idle_broken rest t p = subst (λ z. ((length rest == 0) || z) ≡ true) (sym p) (or_true (length rest == 0))
+  where
+    or_true : (b : Bool) → (b || true) ≡ true
+    or_true true = refl
+    or_true false = refl
+
+none_left : (n : ℕ) (xs : List ℕ) → length xs ≤ n → drop n xs ≡ []
+none_left zero [] p = refl
+none_left zero (x ∷ xs) p = absurd (let z : ⊥ = omega (arith, p) in z)
+none_left (suc n) [] p = refl
+none_left (suc n) (x ∷ xs) p = none_left n xs (let z : length xs ≤ n = omega (arith, p) in z)
+
+pub idle_end : (n : ℕ) (xs : List ℕ) (t : Session) → length xs ≤ n → ((length (drop n xs) == 0) || t.broken) ≡ true
+idle_end n xs t p = ap (λ z. (length z == 0) || t.broken) (none_left n xs p)

@@ -1,5 +1,5 @@
 -- What a take tells: the message, and the octets for the line.
-use Rattle.std.proofs.Common.{◌≡◌, ◌<◌, ℕ, zero, suc, ◌==◌, Bool, true, false, if◌then◌else◌, List, [], ◌∷◌, ◌++◌, length, slice_get, Option, Some, None, is_some, Result, Ok, Err, OnOk, refl, sym, ap, ◌∙◌, append_assoc, append-nil, arith}
+use Rattle.std.proofs.Common.{◌≡◌, ◌<◌, ℕ, zero, suc, ◌==◌, Bool, true, false, if◌then◌else◌, List, [], ◌∷◌, ◌++◌, length, slice_get, Option, Some, None, is_some, Result, Ok, Err, OnOk, refl, sym, ap, ◌∙◌, append_assoc, append-nil, inl, inr, arith}
 use Rattle.std.proofs.lemmas.Bool.{cases_Bool}
 use Rattle.er_base.specs.LineTexts.{line_text}
 use Rattle.er_trace.specs.Texts.{outcome_words}
@@ -82,12 +82,13 @@ told_so : (now : ℕ) (k : KEnd) (message out : List ℕ) → message ≡ first_
 told_so now k message out is some o =
     ap (λ z. Taken z ∷ if_octets out) is ∙ ap (λ z. Taken (first_in (waiting_in k)) ∷ if_octets z) o ∙ sym (takes_some now k some)
 
-pub some_text : (conn now : ℕ) (k : KEnd) (l1 l2 l3 message out : List ℕ) → message ≡ first_in (waiting_in k) → 0 < length (waiting_in k)
+pub some_text : (conn now : ℕ) (k : KEnd) (front l1 l2 l3 message out : List ℕ) → l1 ≡ front → message ≡ first_in (waiting_in k) → 0 < length (waiting_in k)
     → out ≡ (after_take now k).core.line.out → l2 ≡ l1 ++ outcomes_text conn (Taken message ∷ []) → l3 ≡ l2 ++ outcomes_text conn (if_octets out)
-    → l3 ≡ l1 ++ outcomes_text conn (tells now end.Take k)
-some_text conn now k l1 l2 l3 message out is some o p q =
+    → l3 ≡ front ++ outcomes_text conn (tells now end.Take k)
+some_text conn now k front l1 l2 l3 message out begins is some o p q =
     q ∙ ap (λ z. z ++ outcomes_text conn (if_octets out)) p ∙ taken_text conn message out l1
     ∙ ap (λ z. l1 ++ outcomes_text conn z) (told_so now k message out is some o)
+    ∙ ap (λ z. z ++ outcomes_text conn (tells now end.Take k)) begins
 
 pub some_octets : (now : ℕ) (k : KEnd) (message out : List ℕ) → message ≡ first_in (waiting_in k) → 0 < length (waiting_in k)
     → out ≡ (after_take now k).core.line.out → out ≡ octets_in (tells now end.Take k)

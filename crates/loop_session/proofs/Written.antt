@@ -1,8 +1,9 @@
 -- How the lines of events that were written are the text of what a part of the loop prints.
-use Rattle.std.proofs.Common.{if◌then◌else◌, ◌≡◌, ℕ, ◌≤◌, ◌+◌, nat_lt, Bool, true, false, not, ◌||◌, List, [], ◌∷◌, ◌++◌, length, Option, Some, None, Result, Ok, Err, refl, sym, ◌∙◌, ap, subst, append-nil, append_assoc, arith, eqb-true}
+use Rattle.std.proofs.Common.{if◌then◌else◌, ◌≡◌, ℕ, ◌≤◌, ◌+◌, nat_lt, Bool, true, false, not, ◌||◌, List, [], ◌∷◌, ◌++◌, length, Option, Some, None, Result, Ok, Err, refl, sym, ◌∙◌, ap, subst, append-nil, append_assoc, inl, inr, arith, eqb-true}
 use Rattle.std.proofs.lemmas.Bool.{cases_Bool}
 use Rattle.std.specs.Prelude.{◌==◌}
 use Rattle.er_base.specs.LineTexts.{line_text}
+use Rattle.er_trace.specs.declared.event.Event.{Event}
 use Rattle.er_trace.specs.Texts.{entry_words}
 use Rattle.trace_model.specs.Printed.{outcomes_text}
 use Rattle.er_end.specs.KeptEnds.{KEnd, happens, tells}
@@ -227,3 +228,11 @@ gave_mind r m s now now0 g mind lines fits same gave = record {
 pub heard_so : (mind0 mind1 : Option Mind) (h0 h : Option Heard) (now : Option Mind) (spoken : Spoken) → mind0 ≡ mind1 → h ≡ h0
     → HeardSo mind0 h0 now spoken → HeardSo mind1 h now spoken
 heard_so mind0 mind1 h0 h now spoken p q heard = subst (λ z. HeardSo mind1 z now spoken) (sym q) (subst (λ z. HeardSo z h0 now spoken) p heard)
+
+-- the line of an event without outcomes
+pub event_line : (m conn : ℕ) (event : Event) (line before : List ℕ) → before ≡ [] → line ≡ before ++ line_text (entry_words m conn event)
+    → line ≡ text (record { moment = m; conn = conn; event = event; outcomes = [] } ∷ [])
+unfolding entry_text outcomes_text
+event_line m conn event line before p q =
+    q ∙ ap (λ z. z ++ line_text (entry_words m conn event)) p ∙ sym (append-nil (line_text (entry_words m conn event)))
+    ∙ sym (append-nil (line_text (entry_words m conn event) ++ []))

@@ -1,6 +1,6 @@
 //! Events at a session, each with all that follows it.
 
-ghost use Rattle.std.specs.Prelude.{◌≡◌, ◌≤◌, ◌<◌, List, length, drop, IfOk};
+ghost use Rattle.std.specs.Prelude.{◌≡◌, ◌≤◌, ◌<◌, ◌-◌, List, length, drop, IfOk};
 ghost use Rattle.safety_automaton.specs.Keys as keys;
 ghost use Rattle.er_end.specs.KeptEnds.{used_of};
 ghost use Rattle.loop_model.specs.Sessions.{Session as LoopSession, Given, Begins, Hears, Ticks, Ends, Faults, heard_in, outcomes_of, handled, pours};
@@ -20,7 +20,8 @@ use safety_automaton::KeyFinder;
 // What of a slice stands behind so many octets.
 fn behind(octets: &[u8], at: usize) -> &[u8]
     requires { at ≤ length octets.now }
-    ensures { result.now ≡ drop at octets.now }
+    ensures drops { result.now ≡ drop at octets.now }
+    ensures length { length result.now ≡ length octets.now - at }
 {
     &octets[at..]
 }
@@ -137,6 +138,7 @@ impl<U: SafeUser> Session<U> {
     }
 
     // Octets come, and the end uses them up to the first closed frame: how many.
+    #[tactic(auto, using(crate::proofs::Pourings::used_within, crate::proofs::Pourings::used_moves))]
     fn hear<K: KeyFinder, S: Sink>(
         &mut self,
         octets: &[u8],
@@ -150,13 +152,15 @@ impl<U: SafeUser> Session<U> {
         ensures chooses { Chooses (S.held sink.old) (S.held sink.new) (S.faults sink.old) (S.faults sink.new) self.new
             (handled (rules (K.entries keys.now) when.setup) when.moment self.old (Hears octets.now)) result }
         ensures used { IfOk result (λ used. used ≡ used_of self.old.end octets.now) }
+        ensures within { IfOk result (λ used. used ≤ length octets.now) }
+        ensures moves { IfOk result (λ used. 0 < length octets.now → 0 < used) }
         ensures number { self.new.number ≡ self.old.number }
         ensures later { S.faults sink.old ≤ S.faults sink.new }
     {
         scratch.line.clear();
-        let (used, came) = give_octets(keys, &mut self.end, self.number, when.moment, octets, &mut scratch.line, &mut self.output)?;
-        match self.follow(came, when, scratch, sink) {
-            Ok(()) => Ok(used),
+        let given = give_octets(keys, &mut self.end, self.number, when.moment, octets, &mut scratch.line, &mut self.output)?;
+        match self.follow(given.1, when, scratch, sink) {
+            Ok(()) => Ok(given.0),
             Err(fault) => Err(fault),
         }
     }
@@ -178,7 +182,10 @@ impl<U: SafeUser> Session<U> {
         ensures later { S.faults sink.old ≤ S.faults sink.new }
     {
         let mut at = 0;
-        while at < octets.len() && !self.broken {
+        while at < octets.len() {
+            if self.is_broken() {
+                return Ok(());
+            }
             match self.hear(behind(octets, at), keys, when, scratch, sink) {
                 Ok(used) => at += used,
                 Err(fault) => return Err(fault),

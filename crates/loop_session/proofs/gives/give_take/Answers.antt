@@ -8,7 +8,7 @@ pub returns-in_ok-tell_octets-in-Some-clause-text : goal.returns-in_ok-tell_octe
 returns-in_ok-tell_octets-in-Some-clause-text g c =
     let t = c.in-Some.ensures.taken in
     on_ok c.join_waiting.result
-    (some_text c.args.conn c.args.moment c.args.end.now _ _ c.tell_octets.new.out.items c.in-Some.taken.text.now c.in-Some.taken.out.now t.0 t.1 t.2
+    (some_text c.args.conn c.args.moment c.args.end.now _ _ _ c.tell_octets.new.out.items c.in-Some.taken.text.now c.in-Some.taken.out.now c.in_ok-put.ensures t.0 t.1 t.2
     c.in_ok-tell_taken-in-Some.ensures c.in_ok-tell_octets-in-Some.ensures)
 
 pub returns-in_ok-tell_octets-in-Some-clause-joins : goal.returns-in_ok-tell_octets-in-Some-clause-joins
