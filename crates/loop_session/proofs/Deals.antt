@@ -203,8 +203,10 @@ deal_chooses a b c i j k r m s t u g mind spoken res heard p q = by_result res q
   where
     o : Session × List Entry
     o = with_mind mind (fed r m s g)
+
     is : dealt r m s g heard.free ≡ (let x = runs (fed r m) o.0 (events_of spoken) in (x.0, o.1 ++ x.1))
     is = ap (λ z. let x = runs (fed r m) (record (fed r m s g).0 { mind = z.0 }) z.1 in (x.0, (fed r m s g).1 ++ x.1)) heard.is
+
     by_result : (res : Result (Unit {0}) LoopFault) → Prints b c j k u (runs (fed r m) t (events_of spoken)) res → Chooses a c i k u (dealt r m s g) res
     by_result (Ok done) q = record {
       answers = heard.free;

@@ -1,6 +1,7 @@
 -- The octets of a read, given to an end part by part.
 use Rattle.std.proofs.Common.{◌≡◌, ◌≤◌, ◌<◌, ℕ, zero, suc, ◌+◌, ◌-◌, ◌==◌, Bool, true, false, ◌||◌, if◌then◌else◌, List, [], ◌∷◌, ◌++◌, length, take, drop, Option, Some, None, Result, Ok, Err, is_some, refl, sym, ◌∙◌, ap, subst, append-nil, append_assoc, ◌⊎◌, inl, inr, arith, eqb-true}
 use Rattle.std.proofs.lemmas.Bool.{cases_Bool}
+use Rattle.hdlc_frames.specs.Framing.{frames_of}
 use Rattle.hdlc_frames.specs.Deframing as deframing
 use Rattle.hdlc_frames.specs.Deframing.{used_behind}
 use Rattle.er_end.specs.KeptEnds.{KEnd, used_of}
@@ -16,14 +17,14 @@ use Rattle.loop_session.proofs.Deals.{runs_none, runs_on, runs_then, printed_mor
 
 behind_within : (stream xs : List ℕ) → used_behind stream xs ≤ length xs
 behind_within stream [] = (let p : 0 ≤ 0 = omega arith in p)
-behind_within stream (x ∷ xs) = elim (cases_Bool (deframing.has_verdicts (deframing.frames_of (stream ++ x ∷ [])))) [
+behind_within stream (x ∷ xs) = elim (cases_Bool (deframing.has_verdicts (frames_of (stream ++ x ∷ [])))) [
   | inl p ↦ rw p (let q : 1 ≤ length (x ∷ xs) = omega arith in q)
   | inr p ↦ rw p (let q = behind_within (stream ++ x ∷ []) xs in let z : used_behind (stream ++ x ∷ []) xs + 1 ≤ length (x ∷ xs) = omega (arith, q) in z)
 ]
 
 behind_moves : (stream xs : List ℕ) → 0 < length xs → 0 < used_behind stream xs
 behind_moves stream [] p = p
-behind_moves stream (x ∷ xs) p = elim (cases_Bool (deframing.has_verdicts (deframing.frames_of (stream ++ x ∷ [])))) [
+behind_moves stream (x ∷ xs) p = elim (cases_Bool (deframing.has_verdicts (frames_of (stream ++ x ∷ [])))) [
   | inl q ↦ rw q (let z : 0 < 1 = omega arith in z)
   | inr q ↦ rw q (let z : 0 < used_behind (stream ++ x ∷ []) xs + 1 = omega arith in z)
 ]
@@ -56,8 +57,10 @@ drop_length (suc n) (x ∷ xs) p = (let q = drop_length n xs (let z : n ≤ leng
 -- ---- one part
 
 none_false : (xs : List ℕ) → 0 < length xs → (length xs == 0) ≡ false
-none_false [] p = absurd (let z : ⊥ = omega (arith, p) in z)
-none_false (x ∷ xs) p = refl
+none_false xs p = elim (cases_Bool (length xs == 0)) [
+  | inl q ↦ absurd (let z : ⊥ = omega (arith, eqb-true (length xs) 0 q, p) in z)
+  | inr q ↦ q
+]
 
 pour_is : (r : Rules) (m : ℕ) (t : Session) (rest : List ℕ) (says : Says) → 0 < length rest → t.broken ≡ false
     → poured r m (t, rest) says ≡ (let a = handled r m t (Hears rest) says in ((a.0, drop (used_of t.end rest) rest), a.1))

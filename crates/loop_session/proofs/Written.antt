@@ -124,7 +124,7 @@ stalls_is r m s g p = rw p refl
 -- its user isn't touched
 pub same_mind : (r : Rules) (m : ℕ) (s : Session) (g : Given) → with_mind s.mind (fed r m s g) ≡ fed r m s g
 unfolding fed joined
-same_mind r m s g = elim (cases_Bool (too_many s.output (octets_of r m s g))) [ | inl p ↦ rw p refl | inr p ↦ rw p refl ]
+same_mind r m s g = elim (cases_Bool (too_many s.output (octets_of r m s g))) [ inl p ↦ rw p refl | inr p ↦ rw p refl ]
 
 not_true : (b : Bool) → true ≡ not b → b ≡ false
 not_true true p = p

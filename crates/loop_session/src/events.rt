@@ -73,7 +73,13 @@ impl<U: SafeUser> Session<U> {
         ensures later { S.faults sink.old ≤ S.faults sink.new }
     {
         scratch.line.clear();
-        let came = give_tick(&mut self.end, self.number, when.moment, &mut scratch.line, &mut self.output)?;
+        let came = give_tick(
+            &mut self.end,
+            self.number,
+            when.moment,
+            &mut scratch.line,
+            &mut self.output,
+        )?;
         self.follow(came, when, scratch, sink)
     }
 
@@ -93,7 +99,14 @@ impl<U: SafeUser> Session<U> {
         ensures later { S.faults sink.old ≤ S.faults sink.new }
     {
         scratch.line.clear();
-        let came = give_start(&mut self.end, self.number, when.moment, call, &mut scratch.line, &mut self.output)?;
+        let came = give_start(
+            &mut self.end,
+            self.number,
+            when.moment,
+            call,
+            &mut scratch.line,
+            &mut self.output,
+        )?;
         self.follow(came, when, scratch, sink)
     }
 
@@ -112,7 +125,13 @@ impl<U: SafeUser> Session<U> {
         ensures later { S.faults sink.old ≤ S.faults sink.new }
     {
         scratch.line.clear();
-        let came = give_ended(&mut self.end, self.number, when.moment, &mut scratch.line, &mut self.output)?;
+        let came = give_ended(
+            &mut self.end,
+            self.number,
+            when.moment,
+            &mut scratch.line,
+            &mut self.output,
+        )?;
         self.broken = true;
         self.follow(came, when, scratch, sink)
     }
@@ -132,13 +151,18 @@ impl<U: SafeUser> Session<U> {
         ensures later { S.faults sink.old ≤ S.faults sink.new }
     {
         scratch.line.clear();
-        let came = give_fault(&mut self.end, self.number, when.moment, &mut scratch.line, &mut self.output)?;
+        let came = give_fault(
+            &mut self.end,
+            self.number,
+            when.moment,
+            &mut scratch.line,
+            &mut self.output,
+        )?;
         self.broken = true;
         self.follow(came, when, scratch, sink)
     }
 
     // Octets come, and the end uses them up to the first closed frame: how many.
-    #[tactic(auto, using(crate::proofs::Pourings::used_within, crate::proofs::Pourings::used_moves))]
     fn hear<K: KeyFinder, S: Sink>(
         &mut self,
         octets: &[u8],
@@ -158,7 +182,15 @@ impl<U: SafeUser> Session<U> {
         ensures later { S.faults sink.old ≤ S.faults sink.new }
     {
         scratch.line.clear();
-        let given = give_octets(keys, &mut self.end, self.number, when.moment, octets, &mut scratch.line, &mut self.output)?;
+        let given = give_octets(
+            keys,
+            &mut self.end,
+            self.number,
+            when.moment,
+            octets,
+            &mut scratch.line,
+            &mut self.output,
+        )?;
         match self.follow(given.1, when, scratch, sink) {
             Ok(()) => Ok(given.0),
             Err(fault) => Err(fault),

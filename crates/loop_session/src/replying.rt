@@ -69,7 +69,14 @@ impl<U: SafeUser> Session<U> {
         ensures later { S.faults sink.old ≤ S.faults sink.new }
     {
         line.clear();
-        let fits = give_send(&mut self.end, self.number, moment, text, line, &mut self.output)?;
+        let fits = give_send(
+            &mut self.end,
+            self.number,
+            moment,
+            text,
+            line,
+            &mut self.output,
+        )?;
         self.tell(fits, moment, line, sink)
     }
 
@@ -87,7 +94,14 @@ impl<U: SafeUser> Session<U> {
         ensures later { S.faults sink.old ≤ S.faults sink.new }
     {
         line.clear();
-        let fits = give_release(&mut self.end, self.number, moment, sub, line, &mut self.output)?;
+        let fits = give_release(
+            &mut self.end,
+            self.number,
+            moment,
+            sub,
+            line,
+            &mut self.output,
+        )?;
         self.tell(fits, moment, line, sink)
     }
 

@@ -19,7 +19,7 @@ returns-in-Err-clause-chooses g c =
     pouring_broke (rules (g.K.KeyFinder.entries c.args.keys.now) c.args.when.setup) c.args.when.moment c.args.octets.now c.loop-at.at (g.S.Sink.held c.args.sink.now) (g.S.Sink.held c.loop-at.sink) (g.S.Sink.held c.hear.new.sink) (g.S.Sink.faults c.args.sink.now) (g.S.Sink.faults c.loop-at.sink) (g.S.Sink.faults c.hear.new.sink)
     c.args.self.now c.loop-at.self c.in-Err.fault c.loop-at.invariant.pours less (sym c.is_broken.ensures ∙ c.if-is_broken.false)
     (subst (λ (z : List ℕ). BrokeOff (g.S.Sink.held c.loop-at.sink) (g.S.Sink.held c.hear.new.sink) (g.S.Sink.faults c.loop-at.sink) (g.S.Sink.faults c.hear.new.sink)
-        (handled (rules (g.K.KeyFinder.entries c.args.keys.now) c.args.when.setup) c.args.when.moment c.loop-at.self (Hears z)) c.in-Err.fault) c.behind.ensures.drops c.in-Err.ensures.chooses)
+    (handled (rules (g.K.KeyFinder.entries c.args.keys.now) c.args.when.setup) c.args.when.moment c.loop-at.self (Hears z)) c.in-Err.fault) c.behind.ensures.drops c.in-Err.ensures.chooses)
 
 pub loop-at-preserved : goal.loop-at-preserved
 loop-at-preserved g c =
@@ -28,7 +28,7 @@ loop-at-preserved g c =
     pouring_more (rules (g.K.KeyFinder.entries c.args.keys.now) c.args.when.setup) c.args.when.moment c.args.octets.now c.loop-at.at c.in-Ok.used (g.S.Sink.held c.args.sink.now) (g.S.Sink.held c.loop-at.sink) (g.S.Sink.held c.hear.new.sink) (g.S.Sink.faults c.args.sink.now) (g.S.Sink.faults c.loop-at.sink) (g.S.Sink.faults c.hear.new.sink)
     c.args.self.now c.loop-at.self c.hear.new.self c.loop-at.invariant.pours less (sym c.is_broken.ensures ∙ c.if-is_broken.false)
     (subst (λ (z : List ℕ). Chose (g.S.Sink.held c.loop-at.sink) (g.S.Sink.held c.hear.new.sink) (g.S.Sink.faults c.loop-at.sink) (g.S.Sink.faults c.hear.new.sink) c.hear.new.self
-        (handled (rules (g.K.KeyFinder.entries c.args.keys.now) c.args.when.setup) c.args.when.moment c.loop-at.self (Hears z))) c.behind.ensures.drops c.in-Ok.ensures.chooses)
+    (handled (rules (g.K.KeyFinder.entries c.args.keys.now) c.args.when.setup) c.args.when.moment c.loop-at.self (Hears z))) c.behind.ensures.drops c.in-Ok.ensures.chooses)
     (subst (λ (z : List ℕ). c.in-Ok.used ≡ used_of c.loop-at.self.end z) c.behind.ensures.drops c.in-Ok.ensures.used) in
     record {
       pours = next;
