@@ -16,6 +16,7 @@ use Rattle.loop_session.proofs.Deals.{runs_none, runs_on, runs_then, printed_mor
 -- ---- how many octets an end uses
 
 behind_within : (stream xs : List ℕ) → used_behind stream xs ≤ length xs
+unfolding used_behind
 behind_within stream [] = (let p : 0 ≤ 0 = omega arith in p)
 behind_within stream (x ∷ xs) = elim (cases_Bool (deframing.has_verdicts (frames_of (stream ++ x ∷ [])))) [
   | inl p ↦ rw p (let q : 1 ≤ length (x ∷ xs) = omega arith in q)
@@ -23,6 +24,7 @@ behind_within stream (x ∷ xs) = elim (cases_Bool (deframing.has_verdicts (fram
 ]
 
 behind_moves : (stream xs : List ℕ) → 0 < length xs → 0 < used_behind stream xs
+unfolding used_behind
 behind_moves stream [] p = p
 behind_moves stream (x ∷ xs) p = elim (cases_Bool (deframing.has_verdicts (frames_of (stream ++ x ∷ [])))) [
   | inl q ↦ rw q (let z : 0 < 1 = omega arith in z)
