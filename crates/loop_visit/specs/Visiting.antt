@@ -1,9 +1,10 @@
 -- Representation: what a visit leaves of a session: the session, or nothing where it was closed; no claim rests on it.
 use Rattle.std.specs.Prelude.{ℕ, Bool, true, false, List, [], ◌∷◌, Result, Ok, Err}
 use Rattle.safety_automaton.specs.Keys as keys
-use Rattle.loop_model.specs.Outs.{Out}
+use Rattle.loop_model.specs.Outs.{Out, next}
 use Rattle.loop_model.specs.Sessions.{Rules, Session}
 use Rattle.loop_model.specs.Visits as visits
+use Rattle.loop_model.specs.Visits.{Met, read_once, rests_behind}
 use Rattle.loop_session.specs.declared.loop_fault.LoopFault.{LoopFault}
 use Rattle.loop_visit.specs.declared.visit.Visit.{Visit}
 use Rattle.loop_visit.specs.declared.visit.Visit.TheVariants.{Tick, Read, Write, Expire}
@@ -25,3 +26,7 @@ left false s = []
 abbrev pub Visits : {A : Type 0} → Seen → Seen → Session → (A → Out (List Session)) → Result Bool LoopFault → Type 0
 Visits a b new model (Ok stays) = Did a b (left stays new) model
 Visits a b new model (Err fault) = Stopped a b model fault
+
+-- a read of a session that isn't released, and what follows it
+unfoldable pub reads : Rules → ℕ → Session → Met → Out (List Session)
+reads r m s a = next (read_once r m s a) (λ t. rests_behind a.reading r m t a.wrote)

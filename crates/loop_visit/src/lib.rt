@@ -7,4 +7,4 @@ mod reading;
 mod visit;
 mod writing;
 
-pub use visit::{Visit, begin_call, visit};
+pub use visit::{Visit, begin_call, visit_session};
