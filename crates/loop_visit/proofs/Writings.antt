@@ -21,7 +21,10 @@ use Rattle.loop_visit.proofs.Folds.{acts_none, acts_on, acts_then, exactly_fille
 
 made_still : {S : Type 0} (c : Option (List Call)) (u : ℕ) (s : S) → Made c c u u s (still s)
 made_still c u s = record {
-  state = refl; silent = refl; told = grew_nothing c; answered = tt;
+  state = refl;
+  silent = refl;
+  told = grew_nothing c;
+  answered = tt;
   counted = counts_none u u (let z : u ≤ u = omega arith in z);
 }
 
@@ -160,15 +163,14 @@ unfolding writes
 wrote_last c d e u v w s t a f p some q idle =
     let few = p.few in
     let less : length p.answers < length s.output = omega (arith, few, some) in
-    let rest = exactly (length s.output - (length p.answers + 1)) write.NotNow [] in
-    (
+    let rest = exactly (length s.output - (length p.answers + 1)) write.NotNow [] in (
       p.answers ++ a ∷ [],
       subst (λ z. Made c e u w (t, f) (acts writes_once (s, visits.Going) z)) (sym (exactly_next (length s.output) write.NotNow p.answers a less))
-      (subst (λ z. Made c e u w (t, f) z) (sym (acts_then writes_once (s, visits.Going) p.answers (a ∷ rest)))
-      (made_next c d e u v w (t, visits.Going) (t, f) (acts writes_once (s, visits.Going) p.answers) (λ x. acts writes_once x (a ∷ rest)) p.is
-      (subst (λ z. Made d e v w (t, f) z) (sym (acts_on writes_once (t, visits.Going) a rest))
-      (made_next d e e v w w (t, f) (t, f) (writes_once (t, visits.Going) a) (λ x. acts writes_once x rest) q
-      (subst (λ z. Made e e w w (t, f) z) (sym (idle_all (t, f) rest idle)) (made_still e w (t, f)))))))
+          (subst (λ z. Made c e u w (t, f) z) (sym (acts_then writes_once (s, visits.Going) p.answers (a ∷ rest)))
+          (made_next c d e u v w (t, visits.Going) (t, f) (acts writes_once (s, visits.Going) p.answers) (λ x. acts writes_once x (a ∷ rest)) p.is
+          (subst (λ z. Made d e v w (t, f) z) (sym (acts_on writes_once (t, visits.Going) a rest))
+          (made_next d e e v w w (t, f) (t, f) (writes_once (t, visits.Going) a) (λ x. acts writes_once x rest) q
+          (subst (λ z. Made e e w w (t, f) z) (sym (idle_all (t, f) rest idle)) (made_still e w (t, f))))))),
     )
 
 pub wrote_off : (c d e : Option (List Call)) (u v w : ℕ) (s t : Session) (number : ℕ) (piece : List ℕ) → WroteSome c d u v s t → number ≡ t.number → piece ≡ t.output

@@ -70,7 +70,12 @@ acted_next a b c mid new o f p q = behind (subst (λ z. Acted b c new (f z)) p.s
 
 pub acted_changed : {S T : Type 0} (a b : Seen) (g : S → T) (new : S) (o : Out S) → Acted a b new o → Acted a b (g new) (changed g o)
 acted_changed a b g new o p = record {
-  state = ap g p.state; printed = p.printed; later = p.later; told = p.told; answered = p.answered; counted = p.counted
+  state = ap g p.state;
+  printed = p.printed;
+  later = p.later;
+  told = p.told;
+  answered = p.answered;
+  counted = p.counted;
 }
 
 pub acted_prints : {S : Type 0} (h i : Option (List ℕ)) (j k : ℕ) (c : Option (List Call)) (u : ℕ) (new : S) (x : S × List Entry) → Printed h i j k new x → Acted (seen h j c u) (seen i k c u) new (prints x)
