@@ -1,16 +1,16 @@
 -- Parts of a session one behind another, once for each of a list.
 use Rattle.std.proofs.Common.{◌≡◌, ◌≤◌, ◌<◌, ℕ, zero, suc, ◌+◌, ◌-◌, List, [], ◌∷◌, ◌++◌, length, take, drop, slice_index_or, Option, Some, None, Result, Ok, Err, refl, sym, ◌∙◌, ap, subst, append-nil, append_assoc, arith}
 use Rattle.er_users.specs.Saying.{Spoken}
-use Rattle.er_users.specs.Users.{Mind, Said}
+use Rattle.er_users.specs.Users.{Mind}
 use Rattle.loop_model.specs.Journals.{Entry, text}
 use Rattle.loop_model.specs.Outs.{runs, exactly}
-use Rattle.loop_model.specs.Sessions.{Rules, Session, Given, Sends, Leaves, Takes, Says, sends_of, leave_of, heard_in, hears, silence, outcomes_of, fed, dealt, takes_all, waiting, handled, parted}
+use Rattle.loop_model.specs.Sessions.{Rules, Session, Given, Sends, Leaves, Takes, sends_of, leave_of, heard_in, hears, silence, outcomes_of, fed, dealt, takes_all, waiting, handled, parted}
 use Rattle.er_base.specs.declared.no_memory.NoMemory.{NoMemory as Want}
 use Rattle.loop_session.specs.declared.loop_fault.LoopFault.{LoopFault}
 use Rattle.loop_session.specs.declared.loop_fault.LoopFault.TheVariants.{NoMemory}
 use Rattle.loop_session.specs.Giving.{HeardSo, events_of}
 use Rattle.loop_session.specs.Parts.{Breaks, Printed, Prints, Chose, BrokeOff, Chooses, WentSome, with_mind}
-use Rattle.loop_session.proofs.Written.{text_parts, breaks_as, breaks_first, breaks_then, printed_then, printed_nothing}
+use Rattle.loop_session.proofs.Written.{breaks_first, breaks_then, printed_then, printed_nothing}
 
 -- ---- folds
 

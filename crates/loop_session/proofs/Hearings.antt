@@ -1,8 +1,8 @@
 -- What a user may have heard and said.
-use Rattle.std.proofs.Common.{◌≡◌, List, [], Option, Some, None, refl, ap, subst, sym}
+use Rattle.std.proofs.Common.{◌≡◌, Option, Some, None, ap, sym}
 use Rattle.er_users.specs.Saying.{Spoken, nothing}
-use Rattle.er_users.specs.Users.{Mind, Heard, Said, Hears, said}
-use Rattle.loop_model.specs.Sessions.{hears, silence, replies}
+use Rattle.er_users.specs.Users.{Mind, Heard, Said, Hears}
+use Rattle.loop_model.specs.Sessions.{silence, replies}
 use Rattle.loop_session.specs.Giving.{HeardSo, events_of}
 
 pub heard_nothing : (mind : Option Mind) (spoken : Spoken) → spoken ≡ nothing → HeardSo mind None mind spoken

@@ -1,11 +1,11 @@
 -- The octets of a read, given to an end part by part.
-use Rattle.std.proofs.Common.{◌≡◌, ◌≤◌, ◌<◌, ℕ, zero, suc, ◌+◌, ◌-◌, ◌==◌, Bool, true, false, ◌||◌, if◌then◌else◌, List, [], ◌∷◌, ◌++◌, length, take, drop, Option, Some, None, Result, Ok, Err, is_some, refl, sym, ◌∙◌, ap, subst, append-nil, append_assoc, ◌⊎◌, inl, inr, arith, eqb-true}
+use Rattle.std.proofs.Common.{◌≡◌, ◌≤◌, ◌<◌, ℕ, zero, suc, ◌+◌, ◌-◌, ◌==◌, Bool, true, false, ◌||◌, List, [], ◌∷◌, ◌++◌, length, drop, Option, is_some, refl, sym, ◌∙◌, ap, subst, append-nil, inl, inr, arith, eqb-true}
 use Rattle.std.proofs.lemmas.Bool.{cases_Bool}
 use Rattle.hdlc_frames.specs.Framing.{frames_of}
 use Rattle.hdlc_frames.specs.Deframing as deframing
 use Rattle.hdlc_frames.specs.Deframing.{used_behind}
 use Rattle.er_end.specs.KeptEnds.{KEnd, used_of}
-use Rattle.loop_model.specs.Journals.{Entry, text}
+use Rattle.loop_model.specs.Journals.{text}
 use Rattle.loop_model.specs.Outs.{runs, exactly}
 use Rattle.loop_model.specs.Sessions.{Rules, Session, Hears, Says, nothing_said, handled, poured, pours}
 use Rattle.loop_session.specs.declared.loop_fault.LoopFault.{LoopFault}

@@ -1,11 +1,11 @@
 -- What a take tells: the message, and the octets for the line.
-use Rattle.std.proofs.Common.{◌≡◌, ◌<◌, ℕ, zero, suc, ◌==◌, Bool, true, false, if◌then◌else◌, List, [], ◌∷◌, ◌++◌, length, slice_get, Option, Some, None, is_some, Result, Ok, Err, OnOk, refl, sym, ap, ◌∙◌, append_assoc, append-nil, inl, inr, arith}
+use Rattle.std.proofs.Common.{◌≡◌, ◌<◌, ℕ, zero, suc, ◌==◌, false, if◌then◌else◌, List, [], ◌∷◌, ◌++◌, length, slice_get, Option, Some, None, is_some, Result, Ok, Err, OnOk, refl, sym, ap, ◌∙◌, append_assoc, append-nil, inl, inr, arith}
 use Rattle.std.proofs.lemmas.Bool.{cases_Bool}
 use Rattle.er_base.specs.LineTexts.{line_text}
 use Rattle.er_trace.specs.Texts.{outcome_words}
 use Rattle.end_model.specs.Outcomes.{Outcome, Taken, NothingToTake}
 use Rattle.end_model.specs.Ends as end
-use Rattle.end_model.specs.Steps.{begins_at, used, offers, gives_next, goes_on, finishes, concludes, most_offers, if_taken, if_octets, outcomes_of}
+use Rattle.end_model.specs.Steps.{begins_at, offers, gives_next, goes_on, concludes, most_offers, if_taken, if_octets, outcomes_of}
 use Rattle.er_end.specs.Inboxes.{first_in}
 use Rattle.er_end.specs.KeptLayers.{KCore, kept}
 use Rattle.er_end.specs.KeptEnds.{KEnd, after_take, waiting_in, told_by, tells}

@@ -1,5 +1,5 @@
 -- How the lines of events that were written are the text of what a part of the loop prints.
-use Rattle.std.proofs.Common.{if◌then◌else◌, ◌≡◌, ℕ, ◌≤◌, ◌+◌, nat_lt, Bool, true, false, not, ◌||◌, List, [], ◌∷◌, ◌++◌, length, Option, Some, None, Result, Ok, Err, refl, sym, ◌∙◌, ap, subst, append-nil, append_assoc, inl, inr, arith, eqb-true}
+use Rattle.std.proofs.Common.{if◌then◌else◌, ◌≡◌, ℕ, ◌≤◌, Bool, true, false, not, ◌||◌, List, [], ◌∷◌, ◌++◌, length, Option, Result, Ok, Err, refl, sym, ◌∙◌, ap, subst, append-nil, append_assoc, inl, inr, arith, eqb-true}
 use Rattle.std.proofs.lemmas.Bool.{cases_Bool}
 use Rattle.std.specs.Prelude.{◌==◌}
 use Rattle.er_base.specs.LineTexts.{line_text}
@@ -9,13 +9,13 @@ use Rattle.trace_model.specs.Printed.{outcomes_text}
 use Rattle.er_end.specs.KeptEnds.{KEnd, happens, tells}
 use Rattle.er_users.specs.Saying.{Spoken}
 use Rattle.er_users.specs.Users.{Mind, Heard}
-use Rattle.link_trait.specs.Outside.{Grew, GrewPart, Rose}
+use Rattle.link_trait.specs.Outside.{Grew, Rose}
 use Rattle.link_trait.specs.Growth.{grew_nothing, grew_then, part_then, part_more}
 use Rattle.loop_model.specs.Journals.{Entry, entry_text, text}
-use Rattle.loop_model.specs.Sessions.{Rules, Session, Given, Stalls, most_output, event_of, written, breaks, end_after, outcomes_of, octets_in, heard_in, entry_of, stalled, joined, fed}
+use Rattle.loop_model.specs.Sessions.{Rules, Session, Given, Stalls, event_of, written, breaks, end_after, outcomes_of, octets_in, heard_in, entry_of, stalled, joined, fed}
 use Rattle.loop_session.specs.declared.loop_fault.LoopFault.{LoopFault}
 use Rattle.loop_session.specs.declared.loop_fault.LoopFault.TheVariants.{Wires, Sink, NoMemory}
-use Rattle.loop_session.specs.Giving.{too_many, joined_to, octets_of, behind, Gave, HeardSo, peer_heard}
+use Rattle.loop_session.specs.Giving.{too_many, joined_to, octets_of, Gave, HeardSo, peer_heard}
 use Rattle.loop_session.specs.Parts.{Breaks, Puts, Printed, Prints, with_mind}
 
 pub nothing_put : (a : Option (List ℕ)) (f : ℕ) (line : List ℕ) → (length line == 0) ≡ true → Grew a a line × (f ≤ f)

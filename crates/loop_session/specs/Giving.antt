@@ -1,6 +1,6 @@
 -- Representation: what the code makes of an event at an end: lines, octets that join those that wait, what the user hears; no claim rests
 -- on it.
-use Rattle.std.specs.Prelude.{◌≡◌, ℕ, ◌+◌, nat_lt, not, Bool, ◌||◌, if◌then◌else◌, List, ◌++◌, ◌∷◌, [], length, Option, Some, None, Result, Ok, Err}
+use Rattle.std.specs.Prelude.{◌≡◌, ℕ, ◌+◌, nat_lt, not, Bool, ◌||◌, if◌then◌else◌, List, ◌++◌, length, Option, Some, None, Result, Ok, Err}
 use Rattle.er_users.specs.Saying.{Spoken}
 use Rattle.er_users.specs.Users.{Mind, Heard, Connected, Said}
 use Rattle.loop_model.specs.Journals.{entry_text}

@@ -1,4 +1,4 @@
-use Rattle.std.proofs.Common.{◌∙◌, sym, refl, ap}
+use Rattle.std.proofs.Common.{sym, refl, ap}
 use Rattle.std.proofs.lemmas.Result.{err_from_is_err_and}
 use Rattle.loop_model.specs.Sessions.{Session, nothing_said, handled, Faults}
 use Rattle.loop_session.specs.Parts.{rules}

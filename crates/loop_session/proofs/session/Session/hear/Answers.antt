@@ -1,4 +1,4 @@
-use Rattle.std.proofs.Common.{◌∙◌, ◌≤◌, ◌<◌, ℕ, length, subst, sym, refl, ap}
+use Rattle.std.proofs.Common.{◌≤◌, ◌<◌, ℕ, length, subst, sym, refl, ap}
 use Rattle.std.proofs.lemmas.Result.{err_from_is_err_and}
 use Rattle.loop_model.specs.Sessions.{Session, Hears, nothing_said, handled}
 use Rattle.loop_session.specs.Parts.{rules}

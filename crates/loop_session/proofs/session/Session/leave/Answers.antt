@@ -1,4 +1,4 @@
-use Rattle.std.proofs.Common.{◌∙◌, sym, ap, refl}
+use Rattle.std.proofs.Common.{sym, ap, refl}
 use Rattle.loop_model.specs.Sessions.{Session, Leaves}
 use Rattle.loop_session.proofs.Written.{gave_of, given_prints}
 use Rattle.loop_session.proofs.session.Session.leave.Goals as goal

@@ -1,6 +1,6 @@
-use Rattle.std.proofs.Common.{◌≡◌, ◌≤◌, ◌<◌, ◌∙◌, ◌||◌, ◌==◌, rules as base, sym, refl, ap, subst, true, false, length, drop, List, ℕ, arith}
+use Rattle.std.proofs.Common.{◌≡◌, ◌≤◌, ◌<◌, ◌∙◌, rules as base, sym, refl, subst, length, drop, List, ℕ, arith}
 use Rattle.er_end.specs.KeptEnds.{used_of}
-use Rattle.loop_model.specs.Sessions.{Session, Hears, handled}
+use Rattle.loop_model.specs.Sessions.{Hears, handled}
 use Rattle.loop_session.specs.Parts.{rules, BrokeOff, Chose}
 use Rattle.loop_session.proofs.Pourings.{pouring_none, pouring_more, pouring_broke, pouring_done, idle_broken, idle_end}
 use Rattle.loop_session.proofs.session.Session.pour.Goals as goal

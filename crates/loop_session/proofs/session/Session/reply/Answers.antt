@@ -1,4 +1,4 @@
-use Rattle.std.proofs.Common.{◌≡◌, ◌≤◌, ◌<◌, ℕ, length, slice_index_or, refl, sym, ap, ◌∙◌, arith}
+use Rattle.std.proofs.Common.{◌≡◌, ◌<◌, length, slice_index_or, refl, sym, ap, ◌∙◌, arith}
 use Rattle.er_users.specs.Saying.{Spoken}
 use Rattle.loop_session.proofs.Deals.{reply_none, reply_more, reply_broke, reply_leaves}
 use Rattle.loop_session.proofs.session.Session.reply.Goals as goal

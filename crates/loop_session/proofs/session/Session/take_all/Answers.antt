@@ -1,4 +1,4 @@
-use Rattle.std.proofs.Common.{◌≡◌, ◌≤◌, ◌<◌, ℕ, length, refl, sym, ap, ◌∙◌, arith}
+use Rattle.std.proofs.Common.{◌≡◌, ◌<◌, length, refl, ap, ◌∙◌, arith}
 use Rattle.er_end.specs.KeptEnds.{waiting_in}
 use Rattle.loop_model.specs.Sessions.{Session, Takes, waiting, dealt}
 use Rattle.loop_session.proofs.Deals.{went_none, went_more, takes_done, takes_broke}

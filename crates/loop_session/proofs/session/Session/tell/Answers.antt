@@ -1,5 +1,3 @@
-use Rattle.std.proofs.Common.{subst, sym, ◌≡◌, ap}
-use Rattle.loop_session.specs.Giving.{Gave}
 use Rattle.loop_session.proofs.Written.{tell_breaks, tell_fits, tell_stalls, gave_by}
 use Rattle.loop_session.proofs.session.Session.tell.Goals as goal
 
