@@ -1,23 +1,22 @@
 -- What follows events: writing, closing; and the visits of a session.
-use Rattle.std.proofs.Common.{◌≡◌, ◌≤◌, ◌<◌, ℕ, zero, suc, ◌==◌, Bool, true, false, if◌then◌else◌, List, [], ◌∷◌, ◌++◌, length, take, Option, Some, None, IfSome, Result, Ok, Err, refl, sym, ◌∙◌, ap, subst, append-nil, arith}
+use Rattle.std.proofs.Common.{◌≡◌, ◌≤◌, ℕ, zero, suc, Bool, true, false, if◌then◌else◌, List, [], ◌∷◌, length, take, Option, Some, None, IfSome, Result, Ok, Err, refl, sym, ap, subst, arith}
 use Rattle.link_trait.specs.Outside.{Grew, Rose}
 use Rattle.link_trait.specs.Wires.{Call, Reads, Reading, Gave, NotNow, End, Failed, Lines, waiting, reading_of}
 use Rattle.link_trait.specs.declared.wires.ReadAnswer.{ReadAnswer}
 use Rattle.link_trait.specs.declared.wires.ReadAnswer.TheVariants as read
 use Rattle.er_end.specs.KeptEnds.{deadline_of}
-use Rattle.loop_model.specs.Journals.{Entry, text}
-use Rattle.loop_model.specs.Outs.{Out, still, next, prints, makes}
+use Rattle.loop_model.specs.Journals.{text}
+use Rattle.loop_model.specs.Outs.{next, prints, makes}
 use Rattle.loop_model.specs.Sessions.{Rules, Session, is_released, Given, Ticks, Ends, Faults, Says, nothing_said, handled, pours}
 use Rattle.loop_model.specs.Visits as visits
 use Rattle.loop_model.specs.Visits.{flowed, written_unless, written, fault_unless, writes, nothing_wrote, settled, rests, Met, nothing_met, came, read_once, rests_behind, served, visited, is_due, stays, closed, most_read}
 use Rattle.loop_session.specs.declared.loop_fault.LoopFault.{LoopFault}
 use Rattle.loop_session.specs.Parts.{Breaks, Printed, Chose, BrokeOff, Chooses}
-use Rattle.loop_visit.specs.declared.writing.Flow.{Flow}
 use Rattle.loop_visit.specs.declared.writing.Flow.TheVariants as flow
 use Rattle.loop_visit.specs.Acting.{Seen, seen, IsReadSo, Counts, Acted, BreaksAt, Did, Stopped, Does}
 use Rattle.loop_visit.specs.Sequels.{counts_other, counts_failed, acted_still, acted_next, acted_prints, acted_makes, breaks_first, breaks_next, breaks_prints}
 use Rattle.loop_visit.specs.Visiting.{left, Visits, reads}
-use Rattle.loop_visit.specs.Writing.{Made, Wrote, Settles, Expires, flow_of}
+use Rattle.loop_visit.specs.Writing.{Wrote, Settles, Expires}
 use Rattle.loop_visit.proofs.Writings.{acted_made}
 
 -- ---- writing

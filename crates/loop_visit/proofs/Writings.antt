@@ -1,5 +1,5 @@
 -- The output of a session, written call by call.
-use Rattle.std.proofs.Common.{◌≡◌, ◌≤◌, ◌<◌, ℕ, zero, suc, ◌+◌, ◌-◌, ◌==◌, Bool, true, false, ◌||◌, ◌&&◌, if◌then◌else◌, List, [], ◌∷◌, ◌++◌, length, drop, Option, Some, None, refl, sym, ◌∙◌, ap, subst, append-nil, append_assoc, inl, inr, arith, eqb-true}
+use Rattle.std.proofs.Common.{◌≡◌, ◌≤◌, ◌<◌, ℕ, zero, suc, ◌+◌, ◌-◌, ◌==◌, true, false, ◌||◌, ◌&&◌, List, [], ◌∷◌, ◌++◌, length, drop, Option, refl, sym, ◌∙◌, ap, subst, inl, inr, arith, eqb-true}
 use Rattle.std.proofs.lemmas.Bool.{cases_Bool}
 use Rattle.link_trait.specs.Outside.{Grew, Rose}
 use Rattle.link_trait.specs.Growth.{grew_nothing, grew_then}
@@ -12,7 +12,7 @@ use Rattle.loop_model.specs.Sessions.{Session, is_released}
 use Rattle.loop_model.specs.Visits as visits
 use Rattle.loop_model.specs.Visits.{Flow, after_write, writes_if, writes_once, writes, settled, closed, stays, is_due}
 use Rattle.loop_visit.specs.declared.writing.Flow.TheVariants as flow
-use Rattle.loop_visit.specs.Acting.{seen, IsAnsweredSo, IsWrittenSo, AreAnsweredSo, Counts, Acted}
+use Rattle.loop_visit.specs.Acting.{seen, IsAnsweredSo, IsWrittenSo, Counts, Acted}
 use Rattle.loop_visit.specs.Sequels.{answered_parts, counts_none, counts_other, counts_failed, counts_then}
 use Rattle.loop_visit.specs.Writing.{Made, WroteSome, Wrote, Settles, Expires}
 use Rattle.loop_visit.proofs.Folds.{acts_none, acts_on, acts_then, exactly_filled, exactly_next}

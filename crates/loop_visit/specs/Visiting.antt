@@ -1,6 +1,5 @@
 -- Representation: what a visit leaves of a session: the session, or nothing where it was closed; no claim rests on it.
 use Rattle.std.specs.Prelude.{ℕ, Bool, true, false, List, [], ◌∷◌, Result, Ok, Err}
-use Rattle.safety_automaton.specs.Keys as keys
 use Rattle.loop_model.specs.Outs.{Out, next}
 use Rattle.loop_model.specs.Sessions.{Rules, Session}
 use Rattle.loop_model.specs.Visits as visits

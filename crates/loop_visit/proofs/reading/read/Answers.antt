@@ -1,4 +1,4 @@
-use Rattle.std.proofs.Common.{rules as base, sym, ◌∙◌, ap}
+use Rattle.std.proofs.Common.{rules as base, ap}
 use Rattle.link_trait.specs.Wires.{reading_of}
 use Rattle.loop_model.specs.Visits.{most_read}
 use Rattle.loop_session.specs.Parts.{rules}

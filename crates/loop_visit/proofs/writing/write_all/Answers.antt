@@ -1,4 +1,4 @@
-use Rattle.std.proofs.Common.{rules, ◌<◌, ℕ, length, refl}
+use Rattle.std.proofs.Common.{rules, ◌<◌, length, refl}
 use Rattle.loop_visit.proofs.Writings.{wrote_off, wrote_failing}
 use Rattle.loop_visit.proofs.writing.write_all.Goals as goal
 
