@@ -1,2 +1,6 @@
+pub mod Deals
 pub mod Givings
+pub mod Hearings
+pub mod Pourings
+pub mod Takings
 pub mod Written

@@ -1,30 +1,58 @@
--- Representation: what the code makes of an event at an end: lines, and octets that join those that wait; no claim rests on it.
-use Rattle.std.specs.Prelude.{◌≡◌, ℕ, ◌+◌, nat_lt, not, Bool, if◌then◌else◌, List, ◌++◌, ◌∷◌, [], length, Option, Some, None, Result, Ok, Err}
-use Rattle.end_model.specs.Outcomes.{Outcome, ConnectedTo, Accepted, Taken, NothingToTake, Refused, WasReleased, Octets}
-use Rattle.loop_model.specs.Sessions.{most_output}
-use Rattle.loop_session.specs.declared.gives.Heard.{Heard}
+-- Representation: what the code makes of an event at an end: lines, octets that join those that wait, what the user hears; no claim rests
+-- on it.
+use Rattle.std.specs.Prelude.{◌≡◌, ℕ, ◌+◌, nat_lt, not, Bool, ◌||◌, if◌then◌else◌, List, ◌++◌, length, Option, Some, None, Result, Ok, Err}
+use Rattle.er_users.specs.Saying.{Spoken}
+use Rattle.er_users.specs.Users.{Mind, Heard, Connected, Said}
+use Rattle.loop_model.specs.Journals.{entry_text}
+use Rattle.loop_model.specs.Sessions.{Rules, Session, Given, most_output, breaks, end_after, outcomes_of, octets_in, entry_of, hears, sends_of, leave_of}
+use Rattle.loop_session.specs.declared.gives.Came.{Came}
 
 -- so many together are too many
 abbrev pub too_many : List ℕ → List ℕ → Bool
 too_many waits octets = nat_lt most_output (length waits + length octets)
 
 -- octets joined those that wait, unless there would be too many
+abbrev pub joined_to : List ℕ → List ℕ → List ℕ
+joined_to waits octets = if too_many waits octets then waits else waits ++ octets
+
 abbrev pub Joins : {E : Type 0} → Result Bool E → List ℕ → List ℕ → List ℕ → Type 0
-Joins (Ok fits) before now octets = (fits ≡ not (too_many before octets)) × (now ≡ (if too_many before octets then before else before ++ octets))
+Joins (Ok fits) before now octets = (fits ≡ not (too_many before octets)) × (now ≡ joined_to before octets)
 Joins (Err fault) before now octets = Unit {0}
 
--- the same of what came of octets
-abbrev pub JoinsHeard : {E : Type 0} → Result Heard E → List ℕ → List ℕ → List ℕ → Type 0
-JoinsHeard (Ok heard) before now octets = (heard.fits ≡ not (too_many before octets)) × (now ≡ (if too_many before octets then before else before ++ octets))
-JoinsHeard (Err fault) before now octets = Unit {0}
+-- the same of what came of an event
+abbrev pub JoinsCame : {E : Type 0} → Result Came E → List ℕ → List ℕ → List ℕ → Type 0
+JoinsCame (Ok came) before now octets = (came.fits ≡ not (too_many before octets)) × (now ≡ joined_to before octets)
+JoinsCame (Err fault) before now octets = Unit {0}
 
--- the peer with whom a connection came to stand, by the outcomes
-abbrev pub connected_in : List Outcome → Option ℕ
-connected_in [] = None
-connected_in (ConnectedTo peer ∷ outcomes) = Some peer
-connected_in (Accepted message ∷ outcomes) = connected_in outcomes
-connected_in (Taken message ∷ outcomes) = connected_in outcomes
-connected_in (NothingToTake ∷ outcomes) = connected_in outcomes
-connected_in (Refused refusal ∷ outcomes) = connected_in outcomes
-connected_in (WasReleased release ∷ outcomes) = connected_in outcomes
-connected_in (Octets octets ∷ outcomes) = connected_in outcomes
+-- what a user hears of a connection that came to stand with this peer
+abbrev pub peer_heard : Option ℕ → Option Heard
+peer_heard None = None
+peer_heard (Some peer) = Some (Connected peer)
+
+-- the octets for the line that came of an event
+abbrev pub octets_of : Rules → ℕ → Session → Given → List ℕ
+octets_of r m s g = octets_in (outcomes_of r m s.end g)
+
+-- a session behind an event that was given to its end, before it stalls, with this mind of its user
+abbrev pub behind : Rules → ℕ → Session → Given → Option Mind → Session
+behind r m s g mind = record s {
+  end = end_after r m s.end g;
+  mind = mind;
+  output = joined_to s.output (octets_of r m s g);
+  broken = s.broken || breaks g;
+}
+
+-- an event was given to the end of a session: the lines of it, and whether its octets fit
+pub record Gave (r : Rules) (m : ℕ) (s : Session) (g : Given) (now : Session) (lines : List ℕ) (all_fit : Bool) : Type 0 where
+  pub text : lines ≡ entry_text (entry_of r m s g)
+  pub state : now ≡ behind r m s g now.mind
+  pub fits : all_fit ≡ not (too_many s.output (octets_of r m s g))
+
+-- what a user said, as events
+abbrev pub events_of : Spoken → List Given
+events_of spoken = sends_of spoken.texts ++ leave_of spoken.leave
+
+-- a user that may have heard something has this mind then, and said this
+pub record HeardSo (mind : Option Mind) (heard : Option Heard) (now : Option Mind) (spoken : Spoken) : Type 0 where
+  pub free : Said
+  pub is : hears mind heard free ≡ (now, events_of spoken)

@@ -1,22 +1,24 @@
-//! Events given to the end of a connection: their lines, and the octets that the end gives.
+//! Events given to the end of a connection: their lines, the octets that the end gives, and what its user hears.
 
-ghost use Rattle.std.specs.Prelude.{◌≡◌, ◌≤◌, ◌++◌, ◌∷◌, [], take, Some, None, OnOk, IfOk};
+ghost use Rattle.std.specs.Prelude.{◌≡◌, ◌≤◌, ◌++◌, ◌∷◌, [], take, not, Some, None, OnOk, IfOk, option_map};
 ghost use Rattle.safety_automaton.specs.Keys.{key_at};
 ghost use Rattle.er_base.specs.LineTexts.{line_text};
 ghost use Rattle.er_trace.specs.Texts.{entry_words};
 ghost use Rattle.er_trace.specs.declared.event.Event.TheVariants as event;
-ghost use Rattle.end_model.specs.Ends.{Start, Come, Send, Leave, Tick, Ended, Fault, Stalled};
+ghost use Rattle.end_model.specs.Ends.{Start, Come, Send, Take, Leave, Tick, Ended, Fault, Stalled};
 ghost use Rattle.er_end.specs.KeptEnds.{happens, tells, used_of};
 ghost use Rattle.trace_model.specs.Printed.{outcomes_text};
-ghost use Rattle.loop_model.specs.Sessions.{octets_in};
-ghost use Rattle.loop_session.specs.Giving.{Joins, JoinsHeard, connected_in};
+ghost use Rattle.loop_model.specs.Sessions.{octets_in, heard_in};
+ghost use Rattle.loop_session.specs.Giving.{Joins, JoinsCame, too_many, joined_to, peer_heard, HeardSo};
 
+use crate::hearing::hear_message;
 use crate::join::join_waiting;
 use bytes::BytesMut;
-use end_lines::{tell, tell_refused};
+use end_lines::{tell, tell_empty, tell_octets, tell_refused, tell_taken};
 use er_base::NoMemory;
 use er_end::End;
 use er_trace::{Entry, Event, print_entry, print_octets, print_send};
+use er_users::{Replies, SafeUser};
 use safety_automaton::KeyFinder;
 
 /// What an engine calls with.
@@ -28,6 +30,15 @@ pub struct Called {
     pub rbc: u32,
     /// The engine's random number.
     pub rb: u64,
+}
+
+/// What came of an event.
+#[derive(Clone, Copy, Debug, PartialEq, Eq)]
+pub struct Came {
+    /// The peer's ETCS number, where the connection came to stand.
+    pub connected: Option<u32>,
+    /// Whether the octets that the end gave joined those that wait.
+    pub fits: bool,
 }
 
 // The line of an event.
@@ -44,27 +55,32 @@ fn put(moment: u64, conn: u64, event: Event, line: &mut Vec<u8>) -> Result<(), N
 }
 
 /// A moment has come.
-#[tactic(auto, using(crate::proofs::Givings::octets_told))]
+#[tactic(auto, using(crate::proofs::Givings::octets_told, crate::proofs::Givings::heard_told))]
 pub fn give_tick(
     end: &mut End,
     conn: u64,
     moment: u64,
     line: &mut Vec<u8>,
     output: &mut BytesMut,
-) -> Result<bool, NoMemory>
+) -> Result<Came, NoMemory>
     requires { moment ≤ 1000000000000000 }
     ensures end { OnOk result (end.new ≡ happens moment Tick end.old) }
     ensures text { OnOk result (line.new.items
         ≡ (line.old.items ++ line_text (entry_words moment conn event.Tick)) ++ outcomes_text conn (tells moment Tick end.old)) }
-    ensures joins { Joins result output.old.items output.new.items (octets_in (tells moment Tick end.old)) }
+    ensures joins { JoinsCame result output.old.items output.new.items (octets_in (tells moment Tick end.old)) }
+    ensures heard { IfOk result (λ came. heard_in (tells moment Tick end.old) ≡ peer_heard came.connected) }
 {
     put(moment, conn, Event::Tick, line)?;
     let deeds = end.tick(moment);
     tell(conn, &deeds, line)?;
-    join_waiting(output, deeds.out)
+    let fits = join_waiting(output, deeds.out)?;
+    Ok(Came {
+        connected: deeds.connected,
+        fits,
+    })
 }
 
-/// The user releases, with this sub-reason.
+/// The user releases, with this sub-reason: whether the octets that the end gives fit.
 #[tactic(auto, using(crate::proofs::Givings::octets_told))]
 pub fn give_release(
     end: &mut End,
@@ -86,7 +102,7 @@ pub fn give_release(
     join_waiting(output, deeds.out)
 }
 
-/// The user sends a message. Where it is refused, no octets join those that wait.
+/// The user sends a message: whether the octets that the end gives fit. Where it is refused, no octets join those that wait.
 #[tactic(auto, using(crate::proofs::Givings::octets_told))]
 pub fn give_send(
     end: &mut End,
@@ -115,6 +131,40 @@ pub fn give_send(
     }
 }
 
+/// The user takes the oldest message that waits, and hears it: whether the octets that the end gives fit.
+#[tactic(auto, using(crate::proofs::Takings::takes_none, crate::proofs::Hearings::heard_nothing))]
+pub fn give_take<U: SafeUser>(
+    end: &mut End,
+    user: &mut Option<U>,
+    conn: u64,
+    moment: u64,
+    replies: &mut Replies,
+    line: &mut Vec<u8>,
+    output: &mut BytesMut,
+) -> Result<bool, NoMemory>
+    requires { moment ≤ 1000000000000000 }
+    ensures end { OnOk result (end.new ≡ happens moment Take end.old) }
+    ensures text { OnOk result (line.new.items
+        ≡ (line.old.items ++ line_text (entry_words moment conn event.Take)) ++ outcomes_text conn (tells moment Take end.old)) }
+    ensures joins { Joins result output.old.items output.new.items (octets_in (tells moment Take end.old)) }
+    ensures heard { OnOk result (HeardSo (option_map U.mind user.old) (heard_in (tells moment Take end.old)) (option_map U.mind user.new) replies.new) }
+{
+    put(moment, conn, Event::Take, line)?;
+    match end.take(moment) {
+        Some(taken) => {
+            tell_taken(conn, taken.text, line)?;
+            tell_octets(conn, taken.out, line)?;
+            hear_message(user, taken.text, replies);
+            join_waiting(output, taken.out)
+        }
+        None => {
+            replies.clear();
+            tell_empty(conn, line)?;
+            join_waiting(output, b"")
+        }
+    }
+}
+
 /// The line stalled: octets that were to join those that wait are dropped.
 pub fn give_stalled(
     end: &mut End,
@@ -131,47 +181,57 @@ pub fn give_stalled(
 }
 
 /// The line ended.
-#[tactic(auto, using(crate::proofs::Givings::octets_told))]
+#[tactic(auto, using(crate::proofs::Givings::octets_told, crate::proofs::Givings::heard_told))]
 pub fn give_ended(
     end: &mut End,
     conn: u64,
     moment: u64,
     line: &mut Vec<u8>,
     output: &mut BytesMut,
-) -> Result<bool, NoMemory>
+) -> Result<Came, NoMemory>
     ensures end { OnOk result (end.new ≡ happens moment Ended end.old) }
     ensures text { OnOk result (line.new.items
         ≡ (line.old.items ++ line_text (entry_words moment conn event.Ended)) ++ outcomes_text conn (tells moment Ended end.old)) }
-    ensures joins { Joins result output.old.items output.new.items (octets_in (tells moment Ended end.old)) }
+    ensures joins { JoinsCame result output.old.items output.new.items (octets_in (tells moment Ended end.old)) }
+    ensures heard { IfOk result (λ came. heard_in (tells moment Ended end.old) ≡ peer_heard came.connected) }
 {
     put(moment, conn, Event::Ended, line)?;
     let deeds = end.ended();
     tell(conn, &deeds, line)?;
-    join_waiting(output, deeds.out)
+    let fits = join_waiting(output, deeds.out)?;
+    Ok(Came {
+        connected: deeds.connected,
+        fits,
+    })
 }
 
 /// The line failed.
-#[tactic(auto, using(crate::proofs::Givings::octets_told))]
+#[tactic(auto, using(crate::proofs::Givings::octets_told, crate::proofs::Givings::heard_told))]
 pub fn give_fault(
     end: &mut End,
     conn: u64,
     moment: u64,
     line: &mut Vec<u8>,
     output: &mut BytesMut,
-) -> Result<bool, NoMemory>
+) -> Result<Came, NoMemory>
     ensures end { OnOk result (end.new ≡ happens moment Fault end.old) }
     ensures text { OnOk result (line.new.items
         ≡ (line.old.items ++ line_text (entry_words moment conn event.Fault)) ++ outcomes_text conn (tells moment Fault end.old)) }
-    ensures joins { Joins result output.old.items output.new.items (octets_in (tells moment Fault end.old)) }
+    ensures joins { JoinsCame result output.old.items output.new.items (octets_in (tells moment Fault end.old)) }
+    ensures heard { IfOk result (λ came. heard_in (tells moment Fault end.old) ≡ peer_heard came.connected) }
 {
     put(moment, conn, Event::Fault, line)?;
     let deeds = end.fault();
     tell(conn, &deeds, line)?;
-    join_waiting(output, deeds.out)
+    let fits = join_waiting(output, deeds.out)?;
+    Ok(Came {
+        connected: deeds.connected,
+        fits,
+    })
 }
 
 /// The end of an engine begins: its station sends the set-up frame.
-#[tactic(auto, using(crate::proofs::Givings::octets_told))]
+#[tactic(auto, using(crate::proofs::Givings::octets_told, crate::proofs::Givings::heard_told))]
 pub fn give_start(
     end: &mut End,
     conn: u64,
@@ -179,12 +239,13 @@ pub fn give_start(
     call: &Called,
     line: &mut Vec<u8>,
     output: &mut BytesMut,
-) -> Result<bool, NoMemory>
+) -> Result<Came, NoMemory>
     requires { moment ≤ 1000000000000000 }
     ensures end { OnOk result (end.new ≡ happens moment Start end.old) }
     ensures text { OnOk result (line.new.items
         ≡ (line.old.items ++ line_text (entry_words moment conn (event.Call call.now.engine call.now.rbc call.now.rb))) ++ outcomes_text conn (tells moment Start end.old)) }
-    ensures joins { Joins result output.old.items output.new.items (octets_in (tells moment Start end.old)) }
+    ensures joins { JoinsCame result output.old.items output.new.items (octets_in (tells moment Start end.old)) }
+    ensures heard { IfOk result (λ came. heard_in (tells moment Start end.old) ≡ peer_heard came.connected) }
 {
     let event = Event::Call {
         engine: call.engine,
@@ -194,18 +255,11 @@ pub fn give_start(
     put(moment, conn, event, line)?;
     let deeds = end.start(moment);
     tell(conn, &deeds, line)?;
-    join_waiting(output, deeds.out)
-}
-
-/// What came of octets: how many were used, whether the connection came to stand, with which peer, and whether what the end gave fits.
-#[derive(Clone, Copy, Debug, PartialEq, Eq)]
-pub struct Heard {
-    /// The octets that the end used.
-    pub used: usize,
-    /// The peer's ETCS number, where the connection came to stand.
-    pub connected: Option<u32>,
-    /// Whether the octets that the end gave joined those that wait.
-    pub fits: bool,
+    let fits = join_waiting(output, deeds.out)?;
+    Ok(Came {
+        connected: deeds.connected,
+        fits,
+    })
 }
 
 // The first octets of a piece, so many where there are as many.
@@ -219,8 +273,8 @@ fn front(piece: &[u8], used: usize) -> &[u8]
     }
 }
 
-/// Octets come, and the end uses them up to the first closed frame.
-#[tactic(auto, using(crate::proofs::Givings::octets_told, crate::proofs::Givings::connected_told))]
+/// Octets come, and the end uses them up to the first closed frame: how many.
+#[tactic(auto, using(crate::proofs::Givings::octets_told, crate::proofs::Givings::heard_told))]
 pub fn give_octets<K: KeyFinder>(
     keys: &K,
     end: &mut End,
@@ -229,23 +283,24 @@ pub fn give_octets<K: KeyFinder>(
     piece: &[u8],
     line: &mut Vec<u8>,
     output: &mut BytesMut,
-) -> Result<Heard, NoMemory>
+) -> Result<(usize, Came), NoMemory>
     requires { moment ≤ 1000000000000000 }
     ensures end { OnOk result (end.new ≡ happens moment (Come (key_at (K.entries keys.now)) piece.now) end.old) }
     ensures text { OnOk result (line.new.items
         ≡ (line.old.items ++ line_text (entry_words moment conn (event.Octets (take (used_of end.old piece.now) piece.now))))
         ++ outcomes_text conn (tells moment (Come (key_at (K.entries keys.now)) piece.now) end.old)) }
-    ensures joins { JoinsHeard result output.old.items output.new.items (octets_in (tells moment (Come (key_at (K.entries keys.now)) piece.now) end.old)) }
-    ensures used { IfOk result (λ heard. heard.used ≡ used_of end.old piece.now) }
-    ensures connected { IfOk result (λ heard. heard.connected ≡ connected_in (tells moment (Come (key_at (K.entries keys.now)) piece.now) end.old)) }
+    ensures joins { IfOk result (λ came. (came.1.fits ≡ not (too_many output.old.items (octets_in (tells moment (Come (key_at (K.entries keys.now)) piece.now) end.old))))
+        × (output.new.items ≡ joined_to output.old.items (octets_in (tells moment (Come (key_at (K.entries keys.now)) piece.now) end.old)))) }
+    ensures used { IfOk result (λ came. came.0 ≡ used_of end.old piece.now) }
+    ensures heard { IfOk result (λ came. heard_in (tells moment (Come (key_at (K.entries keys.now)) piece.now) end.old) ≡ peer_heard came.1.connected) }
 {
     let (used, deeds) = end.octets(keys, moment, piece);
     print_octets(moment, conn, front(piece, used), line)?;
     tell(conn, &deeds, line)?;
     let fits = join_waiting(output, deeds.out)?;
-    Ok(Heard {
-        used,
+    let came = Came {
         connected: deeds.connected,
         fits,
-    })
+    };
+    Ok((used, came))
 }

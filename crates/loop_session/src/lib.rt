@@ -1,18 +1,25 @@
 //! The session of one connection in a readiness loop: its end, its user, and the octets that wait to be written (this profile).
 //!
-//! Each event is given to the end, its line and those of its outcomes are made, and its octets join those that wait. The definitions
-//! stand in `loop_model`.
+//! Each event is given to the end, its lines are written, and its octets join those that wait. The user hears of it, and what the user
+//! says follows as events. The definitions stand in `loop_model`. Here no wires are called: `loop_visit` does that.
 #![tactic(auto)]
 
+mod event_lines;
+mod events;
 mod gives;
+mod hearing;
 mod join;
 mod loop_fault;
+mod parting;
+mod replying;
+mod scratch;
 mod session;
+mod when;
 
-pub use gives::{
-    Called, Heard, give_ended, give_fault, give_octets, give_release, give_send, give_stalled,
-    give_start, give_tick,
-};
-pub use join::{MOST_OUTPUT, join_waiting};
+pub use event_lines::{write_event, write_lines};
+pub use gives::Called;
+pub use join::MOST_OUTPUT;
 pub use loop_fault::LoopFault;
+pub use scratch::Scratch;
 pub use session::Session;
+pub use when::When;

@@ -1,26 +1,27 @@
-//! A session and its events.
+//! A session, and what is asked of it.
 
-ghost use Rattle.std.specs.Prelude.{◌≡◌, ◌≤◌, ◌+◌, ◌^◌, ◌-◌};
-ghost use Rattle.loop_model.specs.Sessions.{Rules, Ticks, stalled, fed};
-ghost use Rattle.loop_session.specs.Parts.{Puts, Prints};
+ghost use Rattle.std.specs.Prelude.{◌≡◌, ◌≤◌, drop, length, true};
+ghost use Rattle.end_model.specs.Steps.{first_of as first_moment};
+ghost use Rattle.er_end.specs.KeptEnds.{deadline_of};
+ghost use Rattle.loop_model.specs.Sessions.{is_released};
+ghost use Rattle.loop_model.specs.Visits.{wakes};
+ghost use Rattle.loop_model.specs.Loops.{begun};
 
-use crate::gives::{give_stalled, give_tick};
-use crate::loop_fault::LoopFault;
 use bytes::BytesMut;
 use er_end::End;
 use er_users::SafeUser;
-use link_trait::Sink;
+use std::alloc::Global;
 use std::marker::Model;
 
 /// The session of one connection: its end, its user until that heard of the release, and the octets that wait to be written.
 #[derive(Drop)]
 pub struct Session<U: SafeUser> {
-    number: u64,
-    end: End,
-    user: Option<U>,
-    output: BytesMut,
-    broken: bool,
-    closing: Option<u64>,
+    pub(crate) number: u64,
+    pub(crate) end: End,
+    pub(crate) user: Option<U>,
+    pub(crate) output: BytesMut,
+    pub(crate) broken: bool,
+    pub(crate) closing: Option<u64>,
 }
 
 impl<U: SafeUser> Model for Session<U> {
@@ -32,57 +33,96 @@ impl<U: SafeUser> Model for Session<U> {
     ghost view = { λ s. record { number = s.number; end = s.end; mind = option_map U.mind s.user; output = s.output.items; broken = s.broken; closing = s.closing } };
 }
 
-// Writes the lines of an event.
-#[tactic(auto, using(crate::proofs::Written::nothing_put))]
-fn write_lines<S: Sink>(lines: &[u8], sink: &mut S) -> Result<(), LoopFault>
-    ensures { Puts (S.held sink.old) (S.held sink.new) (S.faults sink.old) (S.faults sink.new) lines.now result }
+// The first of two moments.
+fn first_of(one: Option<u64>, other: Option<u64>) -> Option<u64>
+    ensures { result ≡ first_moment one other }
 {
-    if lines.is_empty() {
-        return Ok(());
-    }
-    match sink.write(lines) {
-        Ok(()) => Ok(()),
-        Err(_failed) => Err(LoopFault::Sink),
-    }
+    let Some(one) = one else {
+        return other;
+    };
+    let Some(other) = other else {
+        return Some(one);
+    };
+    Some(one.min(other))
 }
 
 impl<U: SafeUser> Session<U> {
-    // The session stalls.
-    #[tactic(auto)]
-    fn stall<S: Sink>(
-        &mut self,
-        moment: u64,
-        line: &mut Vec<u8>,
-        sink: &mut S,
-    ) -> Result<(), LoopFault>
-        ensures { (r : Rules) → Prints (S.held sink.old) (S.held sink.new) (S.faults sink.old) (S.faults sink.new) self.new (stalled r moment self.old) result }
+    /// The session of a connection that was opened, with this end and this user.
+    pub fn begin(alloc: Global, number: u64, end: End, user: U) -> Session<U>
+        ensures { result ≡ begun number end (U.mind user) }
     {
-        line.clear();
-        give_stalled(&mut self.end, self.number, moment, line)?;
-        self.broken = true;
-        write_lines(line.as_slice(), sink)
+        Session {
+            number,
+            end,
+            user: Some(user),
+            output: BytesMut::new(alloc),
+            broken: false,
+            closing: None,
+        }
     }
 
-    /// A moment has come.
-    #[tactic(auto)]
-    pub fn tick<S: Sink>(
-        &mut self,
-        moment: u64,
-        line: &mut Vec<u8>,
-        sink: &mut S,
-    ) -> Result<(), LoopFault>
-        requires { moment ≤ 1000000000000000 }
-        ensures { (r : Rules) → Prints (S.held sink.old) (S.held sink.new) (S.faults sink.old) (S.faults sink.new) self.new (fed r moment self.old Ticks) result }
+    /// The number of its connection.
+    pub fn number(&self) -> u64
+        ensures { result ≡ self.now.number }
     {
-        line.clear();
-        let fits = give_tick(&mut self.end, self.number, moment, line, &mut self.output)?;
-        match write_lines(line.as_slice(), sink) {
-            Ok(()) => {}
-            Err(fault) => return Err(fault),
-        }
-        if fits {
-            return Ok(());
-        }
-        self.stall(moment, line, sink)
+        self.number
+    }
+
+    /// The octets that wait to be written.
+    pub fn output(&self) -> &[u8]
+        ensures { result.now ≡ self.now.output }
+    {
+        self.output.as_slice()
+    }
+
+    /// Whether the connection is to be closed as soon as the events at hand are done, and nothing more is to be written to it.
+    pub fn is_broken(&self) -> bool
+        ensures { result ≡ self.now.broken }
+    {
+        self.broken
+    }
+
+    /// Whether its end was released.
+    pub fn is_released(&self) -> bool
+        ensures { result ≡ is_released self.now }
+    {
+        self.end.released().is_some()
+    }
+
+    /// The moment at which its end wants a tick.
+    pub fn deadline(&self) -> Option<u64>
+        ensures { result ≡ deadline_of self.now.end }
+    {
+        self.end.deadline()
+    }
+
+    /// The moment at which its connection is closed at the latest, once the end was released.
+    pub fn closing(&self) -> Option<u64>
+        ensures { result ≡ self.now.closing }
+    {
+        self.closing
+    }
+
+    /// The moment at which the session is to be visited next: the first of the deadline of its end and, once that was released, its
+    /// closing moment.
+    pub fn wakes(&self) -> Option<u64>
+        ensures { result ≡ wakes self.now }
+    {
+        first_of(self.end.deadline(), self.closing)
+    }
+
+    /// So many of the octets that wait were written.
+    pub fn wrote(&mut self, count: usize)
+        requires { count ≤ length self.old.output }
+        ensures { self.new ≡ record self.old { output = drop count self.old.output } }
+    {
+        self.output.advance(count);
+    }
+
+    /// The connection is to be closed as soon as the events at hand are done.
+    pub fn break_off(&mut self)
+        ensures { self.new ≡ record self.old { broken = true } }
+    {
+        self.broken = true;
     }
 }

@@ -2,8 +2,8 @@ use Rattle.std.proofs.Common.{◌∙◌, sym}
 use Rattle.loop_session.proofs.Written.{stall_prints}
 use Rattle.loop_session.proofs.session.Session.stall.Goals as goal
 
-pub returns : goal.returns
-returns g c = λ r.
+pub returns-clause-prints : goal.returns-clause-prints
+returns-clause-prints g c = λ r.
     stall_prints (g.S.Sink.held c.args.sink.now) (g.S.Sink.held c.write_lines.new.sink) (g.S.Sink.faults c.args.sink.now) (g.S.Sink.faults c.write_lines.new.sink)
     r c.args.moment c.args.self.now _ c.give_stalled.new.end c.as_slice.result.now c.clear.new.self.items c.write_lines.result
-    (sym c.self.view_is) c.in_ok-give_stalled.ensures.end c.clear.ensures.items (c.as_slice.ensures.value ∙ c.in_ok-give_stalled.ensures.text) c.write_lines.ensures
+    (sym c.self.view_is) c.in_ok-give_stalled.ensures.end c.clear.ensures.items (c.as_slice.ensures.value ∙ c.in_ok-give_stalled.ensures.text) c.write_lines.ensures.puts

@@ -1,0 +1,281 @@
+-- Parts of a session one behind another, once for each of a list.
+use Rattle.std.proofs.Common.{◌≡◌, ◌≤◌, ◌<◌, ℕ, zero, suc, ◌+◌, ◌-◌, List, [], ◌∷◌, ◌++◌, length, take, drop, slice_index_or, Option, Some, None, Result, Ok, Err, refl, sym, ◌∙◌, ap, subst, append-nil, append_assoc, arith}
+use Rattle.er_users.specs.Saying.{Spoken}
+use Rattle.er_users.specs.Users.{Mind}
+use Rattle.loop_model.specs.Journals.{Entry, text}
+use Rattle.loop_model.specs.Outs.{runs, exactly}
+use Rattle.loop_model.specs.Sessions.{Rules, Session, Given, Sends, Leaves, Takes, sends_of, leave_of, heard_in, hears, silence, outcomes_of, fed, dealt, takes_all, waiting, handled, parted}
+use Rattle.er_base.specs.declared.no_memory.NoMemory.{NoMemory as Want}
+use Rattle.loop_session.specs.declared.loop_fault.LoopFault.{LoopFault}
+use Rattle.loop_session.specs.declared.loop_fault.LoopFault.TheVariants.{NoMemory}
+use Rattle.loop_session.specs.Giving.{HeardSo, events_of}
+use Rattle.loop_session.specs.Parts.{Breaks, Printed, Prints, Chose, BrokeOff, Chooses, WentSome, with_mind}
+use Rattle.loop_session.proofs.Written.{breaks_first, breaks_then, printed_then, printed_nothing}
+
+-- ---- folds
+
+pub runs_then : {S A : Type 0} (f : S → A → S × List Entry) (s : S) (xs ys : List A)
+    → runs f s (xs ++ ys) ≡ (let a = runs f s xs in let b = runs f a.0 ys in (b.0, a.1 ++ b.1))
+unfolding runs
+runs_then f s [] ys = refl
+runs_then f s (x ∷ xs) ys =
+    let a = f s x in
+    ap (λ z. (z.0, a.1 ++ z.1)) (runs_then f a.0 xs ys)
+    ∙ ap (λ z. ((runs f (runs f a.0 xs).0 ys).0, z)) (sym (append_assoc a.1 (runs f a.0 xs).1 (runs f (runs f a.0 xs).0 ys).1))
+
+pub runs_none : {S A : Type 0} (f : S → A → S × List Entry) (s : S) → runs f s [] ≡ (s, [])
+unfolding runs
+runs_none f s = refl
+
+pub runs_on : {S A : Type 0} (f : S → A → S × List Entry) (s : S) (x : A) (xs : List A)
+    → runs f s (x ∷ xs) ≡ (let a = f s x in let b = runs f a.0 xs in (b.0, a.1 ++ b.1))
+unfolding runs
+runs_on f s x xs = refl
+
+runs_one : {S A : Type 0} (f : S → A → S × List Entry) (s : S) (x : A) → runs f s (x ∷ []) ≡ f s x
+unfolding runs
+runs_one f s x = let a = f s x in ap (λ z. (a.0, z)) (append-nil a.1)
+
+-- one more was done behind those that were
+pub printed_more : {S A : Type 0} (a b c : Option (List ℕ)) (i j k : ℕ) (f : S → A → S × List Entry) (s t u : S) (xs : List A) (x : A)
+    → Printed a b i j t (runs f s xs) → Printed b c j k u (f t x) → Printed a c i k u (runs f s (xs ++ x ∷ []))
+printed_more a b c i j k f s t u xs x p q =
+    let there : f t x ≡ runs f (runs f s xs).0 (x ∷ []) = ap (λ z. f z x) p.state ∙ sym (runs_one f (runs f s xs).0 x) in
+    subst (λ z. Printed a c i k u z) (sym (runs_then f s xs (x ∷ [])))
+    (printed_then a b c i j k t u (runs f s xs) (runs f (runs f s xs).0 (x ∷ [])) p (subst (λ z. Printed b c j k u z) there q))
+
+-- one broke off behind those that were done
+pub breaks_more_of : {S A : Type 0} (a b c : Option (List ℕ)) (i j k : ℕ) (f : S → A → S × List Entry) (s t : S) (xs ys : List A) (x : A) (fault : LoopFault)
+    → Printed a b i j t (runs f s xs) → Breaks b c j k (text (f t x).1) fault → Breaks a c i k (text (runs f s (xs ++ x ∷ ys)).1) fault
+breaks_more_of a b c i j k f s t xs ys x fault p q =
+    let o = runs f s xs in
+    let on : runs f o.0 (x ∷ ys) ≡ (let z = f o.0 x in let w = runs f z.0 ys in (w.0, z.1 ++ w.1)) = runs_on f o.0 x ys in
+    let first : Breaks b c j k (text (f o.0 x).1) fault = subst (λ z. Breaks b c j k (text (f z x).1) fault) p.state q in
+    let more = breaks_first b c j k (f o.0 x).1 (runs f (f o.0 x).0 ys).1 fault first in
+    let all : Breaks b c j k (text (runs f o.0 (x ∷ ys)).1) fault = subst (λ z. Breaks b c j k (text z.1) fault) (sym on) more in
+    subst (λ z. Breaks a c i k (text z.1) fault) (sym (runs_then f s xs (x ∷ ys))) (breaks_then a b c i j k t o (runs f o.0 (x ∷ ys)).1 fault p all)
+
+-- ---- exactly so many answers
+
+pub exactly_more : {A : Type 0} (n k : ℕ) (plain : A) (xs ys : List A) → n ≡ length xs + k → exactly n plain (xs ++ ys) ≡ xs ++ exactly k plain ys
+unfolding exactly
+exactly_more n k plain [] ys p = ap (λ z. exactly z plain ys) (let q : n ≡ k = omega (arith, p) in q)
+exactly_more zero k plain (x ∷ xs) ys p = absurd (let q : ⊥ = omega (arith, p) in q)
+exactly_more (suc n) k plain (x ∷ xs) ys p = ap (λ z. x ∷ z) (exactly_more n k plain xs ys (let q : n ≡ length xs + k = omega (arith, p) in q))
+
+exactly_none : {A : Type 0} (plain : A) (xs : List A) → exactly zero plain xs ≡ []
+unfolding exactly
+exactly_none plain xs = refl
+
+exactly_one : {A : Type 0} (k : ℕ) (plain x : A) → exactly (suc k) plain (x ∷ []) ≡ x ∷ exactly k plain []
+unfolding exactly
+exactly_one k plain x = refl
+
+pub exactly_all : {A : Type 0} (n : ℕ) (plain : A) (xs : List A) → length xs ≡ n → exactly n plain xs ≡ xs
+exactly_all n plain xs p =
+    ap (λ z. exactly n plain z) (sym (append-nil xs))
+    ∙ exactly_more n zero plain xs [] (let q : n ≡ length xs + 0 = omega (arith, p) in q)
+    ∙ ap (λ z. xs ++ z) (exactly_none plain []) ∙ append-nil xs
+
+-- one more than were there, and there is room for it
+pub exactly_next : {A : Type 0} (n : ℕ) (plain : A) (xs : List A) (x : A) → length xs < n → exactly n plain (xs ++ x ∷ []) ≡ xs ++ x ∷ exactly (n - (length xs + 1)) plain []
+exactly_next n plain xs x p =
+    exactly_more n (suc (n - (length xs + 1))) plain xs (x ∷ []) (let q : n ≡ length xs + suc (n - (length xs + 1)) = omega (arith, p) in q)
+    ∙ ap (λ z. xs ++ z) (exactly_one (n - (length xs + 1)) plain x)
+
+length_more : {A : Type 0} (xs : List A) (x : A) → length (xs ++ x ∷ []) ≡ length xs + 1
+length_more [] x = refl
+length_more (y ∷ xs) x = (let q : length (xs ++ x ∷ []) ≡ length xs + 1 = length_more xs x in omega (arith, q))
+
+-- ---- a part once for each of so many answers
+
+pub went_none : {S A : Type 0} (a : Option (List ℕ)) (i : ℕ) (f : S → A → S × List Entry) (s : S) → WentSome 0 a a i i f s s
+went_none a i f s = record { answers = []; many = refl; is = subst (λ z. Printed a a i i s z) (sym (runs_none f s)) (printed_nothing a i s) }
+
+pub went_more : {S A : Type 0} (n : ℕ) (a b c : Option (List ℕ)) (i j k : ℕ) (f : S → A → S × List Entry) (s t u : S)
+    → WentSome n a b i j f s t → Chose b c j k u (f t) → WentSome (n + 1) a c i k f s u
+went_more n a b c i j k f s t u p q = record {
+  answers = p.answers ++ q.answers ∷ [];
+  many = length_more p.answers q.answers ∙ ap (λ z. z + 1) p.many;
+  is = printed_more a b c i j k f s t u p.answers q.answers p.is q.is;
+}
+
+pub went_all : {S A : Type 0} (n : ℕ) (a b : Option (List ℕ)) (i j : ℕ) (f : S → A → S × List Entry) (s t : S) (plain : A)
+    → WentSome n a b i j f s t → Chose a b i j t (λ answers. runs f s (exactly n plain answers))
+went_all n a b i j f s t plain p = record {
+  answers = p.answers;
+  is = subst (λ z. Printed a b i j t (runs f s z)) (sym (exactly_all n plain p.answers p.many)) p.is;
+}
+
+pub went_broke : {S A : Type 0} (n m : ℕ) (a b c : Option (List ℕ)) (i j k : ℕ) (f : S → A → S × List Entry) (s t : S) (plain : A) (fault : LoopFault)
+    → m < n → WentSome m a b i j f s t → BrokeOff b c j k (f t) fault → BrokeOff a c i k (λ answers. runs f s (exactly n plain answers)) fault
+went_broke n m a b c i j k f s t plain fault few p q =
+    let less : length p.answers < n = (let z : length p.answers ≡ m = p.many in omega (arith, z, few)) in
+    record {
+      answers = p.answers ++ q.answers ∷ [];
+      breaks =
+          subst (λ z. Breaks a c i k (text (runs f s z).1) fault) (sym (exactly_next n plain p.answers q.answers less))
+          (breaks_more_of a b c i j k f s t p.answers (exactly (n - (length p.answers + 1)) plain []) q.answers fault p.is q.breaks);
+    }
+
+-- ---- replies
+
+-- a text behind those before it
+next_text : (k : ℕ) (texts : List (List ℕ)) (text other : List ℕ) → k < length texts → text ≡ slice_index_or texts k other
+    → sends_of texts ≡ sends_of (take k texts) ++ Sends text ∷ sends_of (drop (suc k) texts)
+next_text k [] text other p q = absurd (let z : ⊥ = omega (arith, p) in z)
+next_text zero (x ∷ texts) text other p q = ap (λ z. Sends z ∷ sends_of texts) (sym q)
+next_text (suc k) (x ∷ texts) text other p q = ap (λ z. Sends x ∷ z) (next_text k texts text other (let z : k < length texts = omega (arith, p) in z) q)
+
+more_texts : (k : ℕ) (texts : List (List ℕ)) (text other : List ℕ) → k < length texts → text ≡ slice_index_or texts k other
+    → sends_of (take (suc k) texts) ≡ sends_of (take k texts) ++ Sends text ∷ []
+more_texts k [] text other p q = absurd (let z : ⊥ = omega (arith, p) in z)
+more_texts zero (x ∷ texts) text other p q = ap (λ z. Sends z ∷ []) (sym q)
+more_texts (suc k) (x ∷ texts) text other p q = ap (λ z. Sends x ∷ z) (more_texts k texts text other (let z : k < length texts = omega (arith, p) in z) q)
+
+all_texts : (texts : List (List ℕ)) (n : ℕ) → n ≡ length texts → take n texts ≡ texts
+all_texts [] n p = (let z : n ≡ 0 = omega (arith, p) in ap (λ k. take k []) z)
+all_texts (x ∷ texts) zero p = absurd (let z : ⊥ = omega (arith, p) in z)
+all_texts (x ∷ texts) (suc n) p = ap (λ z. x ∷ z) (all_texts texts n (let z : n ≡ length texts = omega (arith, p) in z))
+
+pub reply_none : (a : Option (List ℕ)) (i : ℕ) (r : Rules) (m : ℕ) (s : Session) (texts : List (List ℕ)) → Printed a a i i s (runs (fed r m) s (sends_of (take 0 texts)))
+reply_none a i r m s texts = subst (λ z. Printed a a i i s z) (sym (runs_none (fed r m) s)) (printed_nothing a i s)
+
+pub reply_more : (a b c : Option (List ℕ)) (i j k : ℕ) (r : Rules) (m : ℕ) (s t u : Session) (n : ℕ) (texts : List (List ℕ)) (text other : List ℕ)
+    → n < length texts → text ≡ slice_index_or texts n other
+    → Printed a b i j t (runs (fed r m) s (sends_of (take n texts))) → Printed b c j k u (fed r m t (Sends text))
+    → Printed a c i k u (runs (fed r m) s (sends_of (take (n + 1) texts)))
+reply_more a b c i j k r m s t u n texts text other few is p q =
+    let plus : n + 1 ≡ suc n = omega arith in
+    subst (λ z. Printed a c i k u (runs (fed r m) s z))
+    (sym (more_texts n texts text other few is) ∙ ap (λ z. sends_of (take z texts)) (sym plus))
+    (printed_more a b c i j k (fed r m) s t u (sends_of (take n texts)) (Sends text) p q)
+
+pub reply_broke : (a b c : Option (List ℕ)) (i j k : ℕ) (r : Rules) (m : ℕ) (s t : Session) (n : ℕ) (spoken : Spoken) (said other : List ℕ) (fault : LoopFault)
+    → n < length spoken.texts → said ≡ slice_index_or spoken.texts n other
+    → Printed a b i j t (runs (fed r m) s (sends_of (take n spoken.texts))) → Breaks b c j k (text (fed r m t (Sends said)).1) fault
+    → Breaks a c i k (text (runs (fed r m) s (events_of spoken)).1) fault
+reply_broke a b c i j k r m s t n spoken said other fault few is p q =
+    let front = sends_of (take n spoken.texts) in
+    let back = sends_of (drop (suc n) spoken.texts) ++ leave_of spoken.leave in
+    subst (λ z. Breaks a c i k (text (runs (fed r m) s z).1) fault)
+    (sym (append_assoc front (Sends said ∷ sends_of (drop (suc n) spoken.texts)) (leave_of spoken.leave))
+    ∙ ap (λ z. z ++ leave_of spoken.leave) (sym (next_text n spoken.texts said other few is)))
+    (breaks_more_of a b c i j k (fed r m) s t front back (Sends said) fault p q)
+
+pub reply_stays : (a b : Option (List ℕ)) (i j : ℕ) (r : Rules) (m : ℕ) (s t : Session) (n : ℕ) (spoken : Spoken) → n ≡ length spoken.texts → spoken.leave ≡ None
+    → Printed a b i j t (runs (fed r m) s (sends_of (take n spoken.texts))) → Printed a b i j t (runs (fed r m) s (events_of spoken))
+reply_stays a b i j r m s t n spoken all none p =
+    subst (λ z. Printed a b i j t (runs (fed r m) s z))
+    (ap sends_of (all_texts spoken.texts n all) ∙ sym (append-nil (sends_of spoken.texts)) ∙ ap (λ z. sends_of spoken.texts ++ leave_of z) (sym none)) p
+
+pub reply_leaves : (a b c : Option (List ℕ)) (i j k : ℕ) (r : Rules) (m : ℕ) (s t u : Session) (n : ℕ) (spoken : Spoken) (sub : ℕ) (res : Result (Unit {0}) LoopFault)
+    → n ≡ length spoken.texts → spoken.leave ≡ Some sub
+    → Printed a b i j t (runs (fed r m) s (sends_of (take n spoken.texts))) → Prints b c j k u (fed r m t (Leaves sub)) res
+    → Prints a c i k u (runs (fed r m) s (events_of spoken)) res
+reply_leaves a b c i j k r m s t u n spoken sub res all leaves p q =
+    subst (λ z. Prints a c i k u (runs (fed r m) s z) res)
+    (ap (λ z. z ++ Leaves sub ∷ []) (ap sends_of (all_texts spoken.texts n all)) ∙ ap (λ z. sends_of spoken.texts ++ leave_of z) (sym leaves))
+    (last res q)
+  where
+    last : (res : Result (Unit {0}) LoopFault) → Prints b c j k u (fed r m t (Leaves sub)) res
+        → Prints a c i k u (runs (fed r m) s (sends_of (take n spoken.texts) ++ Leaves sub ∷ [])) res
+    last (Ok done) q = printed_more a b c i j k (fed r m) s t u (sends_of (take n spoken.texts)) (Leaves sub) p q
+    last (Err fault) q = breaks_more_of a b c i j k (fed r m) s t (sends_of (take n spoken.texts)) [] (Leaves sub) fault p q
+
+-- ---- an event of which the user hears, and its replies
+
+pub deal_broke : (a b : Option (List ℕ)) (i j : ℕ) (r : Rules) (m : ℕ) (s : Session) (g : Given) (mind : Option Mind) (spoken : Spoken) (fault : LoopFault)
+    → HeardSo s.mind (heard_in (outcomes_of r m s.end g)) mind spoken → Breaks a b i j (text (with_mind mind (fed r m s g)).1) fault → BrokeOff a b i j (dealt r m s g) fault
+unfolding dealt
+deal_broke a b i j r m s g mind spoken fault heard p = record {
+  answers = heard.free;
+  breaks =
+      let e = hears s.mind (heard_in (outcomes_of r m s.end g)) heard.free in
+      breaks_first a b i j (fed r m s g).1 (runs (fed r m) (record (fed r m s g).0 { mind = e.0 }) e.1).1 fault p;
+}
+
+pub deal_chooses : (a b c : Option (List ℕ)) (i j k : ℕ) (r : Rules) (m : ℕ) (s t u : Session) (g : Given) (mind : Option Mind) (spoken : Spoken) (res : Result (Unit {0}) LoopFault)
+    → HeardSo s.mind (heard_in (outcomes_of r m s.end g)) mind spoken → Printed a b i j t (with_mind mind (fed r m s g))
+    → Prints b c j k u (runs (fed r m) t (events_of spoken)) res → Chooses a c i k u (dealt r m s g) res
+unfolding dealt
+deal_chooses a b c i j k r m s t u g mind spoken res heard p q = by_result res q
+  where
+    o : Session × List Entry
+    o = with_mind mind (fed r m s g)
+
+    is : dealt r m s g heard.free ≡ (let x = runs (fed r m) o.0 (events_of spoken) in (x.0, o.1 ++ x.1))
+    is = ap (λ z. let x = runs (fed r m) (record (fed r m s g).0 { mind = z.0 }) z.1 in (x.0, (fed r m s g).1 ++ x.1)) heard.is
+
+    by_result : (res : Result (Unit {0}) LoopFault) → Prints b c j k u (runs (fed r m) t (events_of spoken)) res → Chooses a c i k u (dealt r m s g) res
+    by_result (Ok done) q = record {
+      answers = heard.free;
+      is =
+          subst (λ z. Printed a c i k u z) (sym is)
+          (printed_then a b c i j k t u o (runs (fed r m) o.0 (events_of spoken)) p (subst (λ z. Printed b c j k u (runs (fed r m) z (events_of spoken))) p.state q));
+    }
+    by_result (Err fault) q = record {
+      answers = heard.free;
+      breaks =
+          subst (λ z. Breaks a c i k (text z.1) fault) (sym is)
+          (breaks_then a b c i j k t o (runs (fed r m) o.0 (events_of spoken)).1 fault p
+          (subst (λ z. Breaks b c j k (text (runs (fed r m) z (events_of spoken)).1) fault) p.state q));
+    }
+
+-- ---- takes
+
+pub takes_done : (a b : Option (List ℕ)) (i j : ℕ) (r : Rules) (m : ℕ) (s t : Session) (n : ℕ) → n ≡ waiting s
+    → WentSome n a b i j (λ x free. dealt r m x Takes free) s t → Chose a b i j t (takes_all r m s)
+unfolding takes_all
+takes_done a b i j r m s t n all p =
+    let x = went_all (waiting s) a b i j (λ y free. dealt r m y Takes free) s t silence (subst (λ z. WentSome z a b i j (λ y free. dealt r m y Takes free) s t) all p) in
+    record { answers = x.answers; is = x.is }
+
+pub takes_broke : (a b c : Option (List ℕ)) (i j k : ℕ) (r : Rules) (m : ℕ) (s t : Session) (n : ℕ) (fault : LoopFault) → n < waiting s
+    → WentSome n a b i j (λ x free. dealt r m x Takes free) s t → BrokeOff b c j k (dealt r m t Takes) fault → BrokeOff a c i k (takes_all r m s) fault
+unfolding takes_all
+takes_broke a b c i j k r m s t n fault few p q =
+    let x = went_broke (waiting s) n a b c i j k (λ y free. dealt r m y Takes free) s t silence fault few p (record { answers = q.answers; breaks = q.breaks }) in
+    record { answers = x.answers; breaks = x.breaks }
+
+-- ---- an event with all that follows it
+
+pub handled_first : (a b : Option (List ℕ)) (i j : ℕ) (r : Rules) (m : ℕ) (s : Session) (g : Given) (fault : LoopFault) → BrokeOff a b i j (dealt r m s g) fault
+    → BrokeOff a b i j (handled r m s g) fault
+unfolding handled
+handled_first a b i j r m s g fault p = record {
+  answers = record { first = p.answers; rest = [] };
+  breaks = (let o = dealt r m s g p.answers in breaks_first a b i j o.1 (takes_all r m o.0 []).1 fault p.breaks);
+}
+
+pub handled_then : (a b c : Option (List ℕ)) (i j k : ℕ) (r : Rules) (m : ℕ) (s t : Session) (g : Given) (fault : LoopFault)
+    → Chose a b i j t (dealt r m s g) → BrokeOff b c j k (takes_all r m t) fault → BrokeOff a c i k (handled r m s g) fault
+unfolding handled
+handled_then a b c i j k r m s t g fault p q = record {
+  answers = record { first = p.answers; rest = q.answers };
+  breaks =
+      let o = dealt r m s g p.answers in
+      breaks_then a b c i j k t o (takes_all r m o.0 q.answers).1 fault p.is
+      (subst (λ z. Breaks b c j k (text (takes_all r m z q.answers).1) fault) p.is.state q.breaks);
+}
+
+pub handled_done : (a b c : Option (List ℕ)) (i j k : ℕ) (r : Rules) (m : ℕ) (s t u new : Session) (g : Given)
+    → Chose a b i j t (dealt r m s g) → Chose b c j k u (takes_all r m t) → new ≡ parted r m u → Chose a c i k new (handled r m s g)
+unfolding handled
+handled_done a b c i j k r m s t u new g p q parts = record {
+  answers = record { first = p.answers; rest = q.answers };
+  is =
+      let o = dealt r m s g p.answers in
+      let last : Printed b c j k u (takes_all r m o.0 q.answers) = subst (λ z. Printed b c j k u (takes_all r m z q.answers)) p.is.state q.is in
+      let all = printed_then a b c i j k t u o (takes_all r m o.0 q.answers) p.is last in
+      record { state = parts ∙ ap (λ (z : Session). parted r m z) last.state; printed = all.printed; later = all.later };
+}
+
+-- ---- want of memory
+
+pub wanted : {T S A : Type 0} (a : Option (List ℕ)) (i : ℕ) (new : S) (plain : A) (model : A → S × List Entry) (res : Result T LoopFault) (fault : LoopFault) (want : Want)
+    → res ≡ Err fault → fault ≡ NoMemory want → Chooses a a i i new model res
+wanted a i new plain model (Ok done) fault want p q = absurd cc
+wanted a i new plain model (Err other) fault want p q =
+    let same : other ≡ NoMemory want = cc in
+    record { answers = plain; breaks = subst (λ z. Breaks a a i i (text (model plain).1) z) (sym same) (let z : i ≤ i = omega arith in z) }

@@ -1,0 +1,20 @@
+use Rattle.std.proofs.Common.{sym, refl, ap}
+use Rattle.std.proofs.lemmas.Result.{err_from_is_err_and}
+use Rattle.loop_model.specs.Sessions.{Session, nothing_said, handled, Ends}
+use Rattle.loop_session.specs.Parts.{rules}
+use Rattle.loop_session.proofs.Written.{gave_of, told_as}
+use Rattle.loop_session.proofs.Deals.{wanted}
+use Rattle.loop_session.proofs.session.Session.ended.Goals as goal
+
+pub returns-clause-chooses : goal.returns-clause-chooses
+returns-clause-chooses g c = λ entries.
+    c.follow.ensures.chooses entries c.args.self.now Ends
+    (gave_of (rules entries c.args.when.setup) c.args.when.moment c.args.self.now _ Ends _ _ c.clear.new.self.items c.in_ok-came.came.fits
+    (sym c.self.view_is) refl refl c.in_ok-came.ensures.end c.clear.ensures.items c.in_ok-came.ensures.text c.in_ok-came.ensures.joins)
+    (ap (λ (z : Session). z.mind) c.self.view_is)
+    (told_as (rules entries c.args.when.setup) c.args.when.moment c.args.self.now _ Ends _ (sym c.self.view_is) c.in_ok-came.ensures.heard)
+
+pub returns-in_err-came-clause-chooses : goal.returns-in_err-came-clause-chooses
+returns-in_err-came-clause-chooses g c = λ entries.
+    let p = err_from_is_err_and c.from_residual.result c.from_residual.ensures.1 in
+    wanted (g.S.Sink.held c.args.sink.now) (g.S.Sink.faults c.args.sink.now) _ nothing_said (handled (rules entries c.args.when.setup) c.args.when.moment c.args.self.now Ends) c.from_residual.result p.0 _ p.1 p.2

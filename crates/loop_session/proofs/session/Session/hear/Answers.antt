@@ -1,0 +1,39 @@
+use Rattle.std.proofs.Common.{◌≤◌, ◌<◌, ℕ, length, subst, sym, refl, ap}
+use Rattle.std.proofs.lemmas.Result.{err_from_is_err_and}
+use Rattle.loop_model.specs.Sessions.{Session, Hears, nothing_said, handled}
+use Rattle.loop_session.specs.Parts.{rules}
+use Rattle.loop_session.proofs.Written.{gave_of, told_as}
+use Rattle.loop_session.proofs.Deals.{wanted}
+use Rattle.loop_session.proofs.Pourings.{used_within, used_moves}
+use Rattle.loop_session.proofs.session.Session.hear.Goals as goal
+
+pub returns-in_err-given-clause-chooses : goal.returns-in_err-given-clause-chooses
+returns-in_err-given-clause-chooses g c =
+    let p = err_from_is_err_and c.from_residual.result c.from_residual.ensures.1 in
+    wanted (g.S.Sink.held c.args.sink.now) (g.S.Sink.faults c.args.sink.now) _ nothing_said (handled (rules (g.K.KeyFinder.entries c.args.keys.now) c.args.when.setup) c.args.when.moment c.args.self.now (Hears c.args.octets.now)) c.from_residual.result p.0 _ p.1 p.2
+
+pub returns-in-Ok-clause-chooses : goal.returns-in-Ok-clause-chooses
+returns-in-Ok-clause-chooses g c =
+    let entries = g.K.KeyFinder.entries c.args.keys.now in
+    c.in-Ok.ensures.chooses entries c.args.self.now (Hears c.args.octets.now)
+    (gave_of (rules entries c.args.when.setup) c.args.when.moment c.args.self.now _ (Hears c.args.octets.now) _ _ c.clear.new.self.items c.in_ok-given.given.1.fits
+    (sym c.self.view_is) refl refl c.in_ok-given.ensures.end c.clear.ensures.items c.in_ok-given.ensures.text c.in_ok-given.ensures.joins)
+    (ap (λ (z : Session). z.mind) c.self.view_is)
+    (told_as (rules entries c.args.when.setup) c.args.when.moment c.args.self.now _ (Hears c.args.octets.now) _ (sym c.self.view_is) c.in_ok-given.ensures.heard)
+
+pub returns-in-Err-clause-chooses : goal.returns-in-Err-clause-chooses
+returns-in-Err-clause-chooses g c =
+    let entries = g.K.KeyFinder.entries c.args.keys.now in
+    c.in-Err.ensures.chooses entries c.args.self.now (Hears c.args.octets.now)
+    (gave_of (rules entries c.args.when.setup) c.args.when.moment c.args.self.now _ (Hears c.args.octets.now) _ _ c.clear.new.self.items c.in_ok-given.given.1.fits
+    (sym c.self.view_is) refl refl c.in_ok-given.ensures.end c.clear.ensures.items c.in_ok-given.ensures.text c.in_ok-given.ensures.joins)
+    (ap (λ (z : Session). z.mind) c.self.view_is)
+    (told_as (rules entries c.args.when.setup) c.args.when.moment c.args.self.now _ (Hears c.args.octets.now) _ (sym c.self.view_is) c.in_ok-given.ensures.heard)
+
+pub returns-in-Ok-clause-within : goal.returns-in-Ok-clause-within
+returns-in-Ok-clause-within g c =
+    subst (λ (n : ℕ). n ≤ length c.args.octets.now) (sym c.in_ok-given.ensures.used) (used_within c.self.inside.end c.args.octets.now)
+
+pub returns-in-Ok-clause-moves : goal.returns-in-Ok-clause-moves
+returns-in-Ok-clause-moves g c = λ some.
+    subst (λ (n : ℕ). 0 < n) (sym c.in_ok-given.ensures.used) (used_moves c.self.inside.end c.args.octets.now some)

@@ -1,0 +1,12 @@
+use Rattle.std.proofs.Common.{sym, ap, refl}
+use Rattle.loop_model.specs.Sessions.{Session, Leaves}
+use Rattle.loop_session.proofs.Written.{gave_of, given_prints}
+use Rattle.loop_session.proofs.session.Session.leave.Goals as goal
+
+pub returns-clause-prints : goal.returns-clause-prints
+returns-clause-prints g c = λ r.
+    given_prints (g.S.Sink.held c.args.sink.now) (g.S.Sink.held c.tell.new.sink) (g.S.Sink.faults c.args.sink.now) (g.S.Sink.faults c.tell.new.sink)
+    r c.args.moment c.args.self.now _ c.tell.new.self (Leaves c.args.sub) c.tell.result (ap (λ (z : Session). z.mind) c.self.view_is)
+    (c.tell.ensures.prints r c.args.self.now (Leaves c.args.sub)
+    (gave_of r c.args.moment c.args.self.now _ (Leaves c.args.sub) _ _ c.clear.new.self.items c.in_ok-fits.fits
+    (sym c.self.view_is) refl refl c.in_ok-fits.ensures.end c.clear.ensures.items c.in_ok-fits.ensures.text c.in_ok-fits.ensures.joins))

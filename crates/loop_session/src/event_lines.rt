@@ -1,0 +1,48 @@
+//! Lines of events, written to a sink.
+
+ghost use Rattle.std.specs.Prelude.{◌≤◌, [], ◌∷◌};
+ghost use Rattle.loop_model.specs.Journals.{text};
+ghost use Rattle.loop_session.specs.Parts.{Puts};
+
+use crate::loop_fault::LoopFault;
+use crate::scratch::Scratch;
+use er_trace::{Entry, Event, print_entry};
+use link_trait::Sink;
+
+/// Writes the lines of events, where there are any.
+#[tactic(auto, using(crate::proofs::Written::nothing_put))]
+pub fn write_lines<S: Sink>(lines: &[u8], sink: &mut S) -> Result<(), LoopFault>
+    ensures puts { Puts (S.held sink.old) (S.held sink.new) (S.faults sink.old) (S.faults sink.new) lines.now result }
+    ensures later { S.faults sink.old ≤ S.faults sink.new }
+{
+    if lines.is_empty() {
+        return Ok(());
+    }
+    match sink.write(lines) {
+        Ok(()) => Ok(()),
+        Err(_failed) => Err(LoopFault::Sink),
+    }
+}
+
+/// Writes the line of an event that has no outcome.
+pub fn write_event<S: Sink>(
+    moment: u64,
+    conn: u64,
+    event: Event,
+    scratch: &mut Scratch,
+    sink: &mut S,
+) -> Result<(), LoopFault>
+    ensures puts { Puts (S.held sink.old) (S.held sink.new) (S.faults sink.old) (S.faults sink.new)
+        (text (record { moment = moment; conn = conn; event = event; outcomes = [] } ∷ [])) result }
+    ensures later { S.faults sink.old ≤ S.faults sink.new }
+{
+    let entry = Entry {
+        line: 0,
+        moment,
+        conn,
+        event,
+    };
+    scratch.line.clear();
+    print_entry(&entry, &mut scratch.line)?;
+    write_lines(scratch.line.as_slice(), sink)
+}

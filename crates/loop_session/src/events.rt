@@ -1,0 +1,228 @@
+//! Events at a session, each with all that follows it.
+
+ghost use Rattle.std.specs.Prelude.{◌≡◌, ◌≤◌, ◌<◌, ◌-◌, List, length, drop, IfOk};
+ghost use Rattle.safety_automaton.specs.Keys as keys;
+ghost use Rattle.er_end.specs.KeptEnds.{used_of};
+ghost use Rattle.loop_model.specs.Sessions.{Session as LoopSession, Given, Begins, Hears, Ticks, Ends, Faults, heard_in, outcomes_of, handled, pours};
+ghost use Rattle.loop_session.specs.Giving.{Gave, peer_heard};
+ghost use Rattle.loop_session.specs.Parts.{rules, Chooses};
+
+use crate::gives::{Called, Came, give_ended, give_fault, give_octets, give_start, give_tick};
+use crate::hearing::hear_connected;
+use crate::loop_fault::LoopFault;
+use crate::scratch::Scratch;
+use crate::session::Session;
+use crate::when::When;
+use er_users::SafeUser;
+use link_trait::Sink;
+use safety_automaton::KeyFinder;
+
+// What of a slice stands behind so many octets.
+fn behind(octets: &[u8], at: usize) -> &[u8]
+    requires { at ≤ length octets.now }
+    ensures drops { result.now ≡ drop at octets.now }
+    ensures length { length result.now ≡ length octets.now - at }
+{
+    &octets[at..]
+}
+
+impl<U: SafeUser> Session<U> {
+    // What follows an event: the user hears of it and replies, the messages that wait are taken, and a released session parts from
+    // its user.
+    fn follow<S: Sink>(
+        &mut self,
+        came: Came,
+        when: When,
+        scratch: &mut Scratch,
+        sink: &mut S,
+    ) -> Result<(), LoopFault>
+        requires moment { when.moment ≤ 1000000000000000 }
+        requires setup { when.setup ≤ 600000 }
+        ensures chooses { (entries : List keys.Entry) (s : LoopSession) (g : Given)
+            → Gave (rules entries when.setup) when.moment s g self.old scratch.old.line.items came.fits
+            → self.old.mind ≡ s.mind → heard_in (outcomes_of (rules entries when.setup) when.moment s.end g) ≡ peer_heard came.connected
+            → Chooses (S.held sink.old) (S.held sink.new) (S.faults sink.old) (S.faults sink.new) self.new (handled (rules entries when.setup) when.moment s g) result }
+        ensures number { self.new.number ≡ self.old.number }
+        ensures later { S.faults sink.old ≤ S.faults sink.new }
+    {
+        hear_connected(&mut self.user, came.connected, &mut scratch.replies);
+        match self.answer(came.fits, when.moment, scratch, sink) {
+            Ok(()) => {}
+            Err(fault) => return Err(fault),
+        }
+        match self.take_all(when.moment, scratch, sink) {
+            Ok(()) => {}
+            Err(fault) => return Err(fault),
+        }
+        self.part(when);
+        Ok(())
+    }
+
+    /// A moment has come.
+    pub fn tick<S: Sink>(
+        &mut self,
+        when: When,
+        scratch: &mut Scratch,
+        sink: &mut S,
+    ) -> Result<(), LoopFault>
+        requires moment { when.moment ≤ 1000000000000000 }
+        requires setup { when.setup ≤ 600000 }
+        ensures chooses { (entries : List keys.Entry) → Chooses (S.held sink.old) (S.held sink.new) (S.faults sink.old) (S.faults sink.new) self.new
+            (handled (rules entries when.setup) when.moment self.old Ticks) result }
+        ensures number { self.new.number ≡ self.old.number }
+        ensures later { S.faults sink.old ≤ S.faults sink.new }
+    {
+        scratch.line.clear();
+        let came = give_tick(
+            &mut self.end,
+            self.number,
+            when.moment,
+            &mut scratch.line,
+            &mut self.output,
+        )?;
+        self.follow(came, when, scratch, sink)
+    }
+
+    /// The end of an engine begins: its station sends the set-up frame.
+    pub fn call<S: Sink>(
+        &mut self,
+        call: &Called,
+        when: When,
+        scratch: &mut Scratch,
+        sink: &mut S,
+    ) -> Result<(), LoopFault>
+        requires moment { when.moment ≤ 1000000000000000 }
+        requires setup { when.setup ≤ 600000 }
+        ensures chooses { (entries : List keys.Entry) → Chooses (S.held sink.old) (S.held sink.new) (S.faults sink.old) (S.faults sink.new) self.new
+            (handled (rules entries when.setup) when.moment self.old (Begins call.now.engine call.now.rbc call.now.rb)) result }
+        ensures number { self.new.number ≡ self.old.number }
+        ensures later { S.faults sink.old ≤ S.faults sink.new }
+    {
+        scratch.line.clear();
+        let came = give_start(
+            &mut self.end,
+            self.number,
+            when.moment,
+            call,
+            &mut scratch.line,
+            &mut self.output,
+        )?;
+        self.follow(came, when, scratch, sink)
+    }
+
+    /// The line ended: the connection is to be closed.
+    pub fn ended<S: Sink>(
+        &mut self,
+        when: When,
+        scratch: &mut Scratch,
+        sink: &mut S,
+    ) -> Result<(), LoopFault>
+        requires moment { when.moment ≤ 1000000000000000 }
+        requires setup { when.setup ≤ 600000 }
+        ensures chooses { (entries : List keys.Entry) → Chooses (S.held sink.old) (S.held sink.new) (S.faults sink.old) (S.faults sink.new) self.new
+            (handled (rules entries when.setup) when.moment self.old Ends) result }
+        ensures number { self.new.number ≡ self.old.number }
+        ensures later { S.faults sink.old ≤ S.faults sink.new }
+    {
+        scratch.line.clear();
+        let came = give_ended(
+            &mut self.end,
+            self.number,
+            when.moment,
+            &mut scratch.line,
+            &mut self.output,
+        )?;
+        self.broken = true;
+        self.follow(came, when, scratch, sink)
+    }
+
+    /// The line failed: the connection is to be closed.
+    pub fn fault<S: Sink>(
+        &mut self,
+        when: When,
+        scratch: &mut Scratch,
+        sink: &mut S,
+    ) -> Result<(), LoopFault>
+        requires moment { when.moment ≤ 1000000000000000 }
+        requires setup { when.setup ≤ 600000 }
+        ensures chooses { (entries : List keys.Entry) → Chooses (S.held sink.old) (S.held sink.new) (S.faults sink.old) (S.faults sink.new) self.new
+            (handled (rules entries when.setup) when.moment self.old Faults) result }
+        ensures number { self.new.number ≡ self.old.number }
+        ensures later { S.faults sink.old ≤ S.faults sink.new }
+    {
+        scratch.line.clear();
+        let came = give_fault(
+            &mut self.end,
+            self.number,
+            when.moment,
+            &mut scratch.line,
+            &mut self.output,
+        )?;
+        self.broken = true;
+        self.follow(came, when, scratch, sink)
+    }
+
+    // Octets come, and the end uses them up to the first closed frame: how many.
+    fn hear<K: KeyFinder, S: Sink>(
+        &mut self,
+        octets: &[u8],
+        keys: &K,
+        when: When,
+        scratch: &mut Scratch,
+        sink: &mut S,
+    ) -> Result<usize, LoopFault>
+        requires moment { when.moment ≤ 1000000000000000 }
+        requires setup { when.setup ≤ 600000 }
+        ensures chooses { Chooses (S.held sink.old) (S.held sink.new) (S.faults sink.old) (S.faults sink.new) self.new
+            (handled (rules (K.entries keys.now) when.setup) when.moment self.old (Hears octets.now)) result }
+        ensures used { IfOk result (λ used. used ≡ used_of self.old.end octets.now) }
+        ensures within { IfOk result (λ used. used ≤ length octets.now) }
+        ensures moves { IfOk result (λ used. 0 < length octets.now → 0 < used) }
+        ensures number { self.new.number ≡ self.old.number }
+        ensures later { S.faults sink.old ≤ S.faults sink.new }
+    {
+        scratch.line.clear();
+        let given = give_octets(
+            keys,
+            &mut self.end,
+            self.number,
+            when.moment,
+            octets,
+            &mut scratch.line,
+            &mut self.output,
+        )?;
+        match self.follow(given.1, when, scratch, sink) {
+            Ok(()) => Ok(given.0),
+            Err(fault) => Err(fault),
+        }
+    }
+
+    /// The octets of a read come: they are given to the end frame by frame, until the session breaks off.
+    pub fn pour<K: KeyFinder, S: Sink>(
+        &mut self,
+        octets: &[u8],
+        keys: &K,
+        when: When,
+        scratch: &mut Scratch,
+        sink: &mut S,
+    ) -> Result<(), LoopFault>
+        requires moment { when.moment ≤ 1000000000000000 }
+        requires setup { when.setup ≤ 600000 }
+        ensures chooses { Chooses (S.held sink.old) (S.held sink.new) (S.faults sink.old) (S.faults sink.new) self.new
+            (pours (rules (K.entries keys.now) when.setup) when.moment self.old octets.now) result }
+        ensures number { self.new.number ≡ self.old.number }
+        ensures later { S.faults sink.old ≤ S.faults sink.new }
+    {
+        let mut at = 0;
+        while at < octets.len() {
+            if self.is_broken() {
+                return Ok(());
+            }
+            match self.hear(behind(octets, at), keys, when, scratch, sink) {
+                Ok(used) => at += used,
+                Err(fault) => return Err(fault),
+            }
+        }
+        Ok(())
+    }
+}

@@ -1,0 +1,200 @@
+//! What follows an event that was given to the end of a session: its lines are written, and what the user said follows as events.
+
+ghost use Rattle.std.specs.Prelude.{◌≡◌, ◌≤◌};
+ghost use Rattle.loop_model.specs.Outs.{runs};
+ghost use Rattle.loop_model.specs.Sessions.{Rules, Session as LoopSession, Given, Sends, Leaves, Takes, heard_in, outcomes_of, stalled, fed, dealt, takes_all};
+ghost use Rattle.loop_session.specs.Giving.{Gave, HeardSo, events_of};
+ghost use Rattle.loop_session.specs.Parts.{Prints, Chooses, with_mind};
+
+use crate::event_lines::write_lines;
+use crate::gives::{give_release, give_send, give_stalled, give_take};
+use crate::loop_fault::LoopFault;
+use crate::scratch::Scratch;
+use crate::session::Session;
+use er_users::SafeUser;
+use link_trait::Sink;
+
+impl<U: SafeUser> Session<U> {
+    // The session stalls.
+    fn stall<S: Sink>(
+        &mut self,
+        moment: u64,
+        line: &mut Vec<u8>,
+        sink: &mut S,
+    ) -> Result<(), LoopFault>
+        ensures prints { (r : Rules) → Prints (S.held sink.old) (S.held sink.new) (S.faults sink.old) (S.faults sink.new) self.new (stalled r moment self.old) result }
+        ensures number { self.new.number ≡ self.old.number }
+        ensures later { S.faults sink.old ≤ S.faults sink.new }
+    {
+        line.clear();
+        give_stalled(&mut self.end, self.number, moment, line)?;
+        self.broken = true;
+        write_lines(line.as_slice(), sink)
+    }
+
+    // The lines of an event are written, and the session stalls where octets didn't fit.
+    fn tell<S: Sink>(
+        &mut self,
+        fits: bool,
+        moment: u64,
+        line: &mut Vec<u8>,
+        sink: &mut S,
+    ) -> Result<(), LoopFault>
+        ensures prints { (r : Rules) (s : LoopSession) (g : Given) → Gave r moment s g self.old line.old.items fits
+            → Prints (S.held sink.old) (S.held sink.new) (S.faults sink.old) (S.faults sink.new) self.new (with_mind self.old.mind (fed r moment s g)) result }
+        ensures number { self.new.number ≡ self.old.number }
+        ensures later { S.faults sink.old ≤ S.faults sink.new }
+    {
+        match write_lines(line.as_slice(), sink) {
+            Ok(()) => {}
+            Err(fault) => return Err(fault),
+        }
+        if fits {
+            return Ok(());
+        }
+        self.stall(moment, line, sink)
+    }
+
+    // The user sends a message.
+    fn send<S: Sink>(
+        &mut self,
+        text: &[u8],
+        moment: u64,
+        line: &mut Vec<u8>,
+        sink: &mut S,
+    ) -> Result<(), LoopFault>
+        requires { moment ≤ 1000000000000000 }
+        ensures prints { (r : Rules) → Prints (S.held sink.old) (S.held sink.new) (S.faults sink.old) (S.faults sink.new) self.new (fed r moment self.old (Sends text.now)) result }
+        ensures number { self.new.number ≡ self.old.number }
+        ensures later { S.faults sink.old ≤ S.faults sink.new }
+    {
+        line.clear();
+        let fits = give_send(
+            &mut self.end,
+            self.number,
+            moment,
+            text,
+            line,
+            &mut self.output,
+        )?;
+        self.tell(fits, moment, line, sink)
+    }
+
+    // The user leaves, with this sub-reason.
+    fn leave<S: Sink>(
+        &mut self,
+        sub: u8,
+        moment: u64,
+        line: &mut Vec<u8>,
+        sink: &mut S,
+    ) -> Result<(), LoopFault>
+        requires { moment ≤ 1000000000000000 }
+        ensures prints { (r : Rules) → Prints (S.held sink.old) (S.held sink.new) (S.faults sink.old) (S.faults sink.new) self.new (fed r moment self.old (Leaves sub)) result }
+        ensures number { self.new.number ≡ self.old.number }
+        ensures later { S.faults sink.old ≤ S.faults sink.new }
+    {
+        line.clear();
+        let fits = give_release(
+            &mut self.end,
+            self.number,
+            moment,
+            sub,
+            line,
+            &mut self.output,
+        )?;
+        self.tell(fits, moment, line, sink)
+    }
+
+    // What the user said follows as events: its texts, then its release.
+    fn reply<S: Sink>(
+        &mut self,
+        moment: u64,
+        scratch: &mut Scratch,
+        sink: &mut S,
+    ) -> Result<(), LoopFault>
+        requires { moment ≤ 1000000000000000 }
+        ensures prints { (r : Rules) → Prints (S.held sink.old) (S.held sink.new) (S.faults sink.old) (S.faults sink.new) self.new
+            (runs (fed r moment) self.old (events_of scratch.old.replies)) result }
+        ensures number { self.new.number ≡ self.old.number }
+        ensures later { S.faults sink.old ≤ S.faults sink.new }
+    {
+        for k in 0..scratch.replies.len() {
+            match self.send(scratch.replies.text(k), moment, &mut scratch.line, sink) {
+                Ok(()) => {}
+                Err(fault) => return Err(fault),
+            }
+        }
+        match scratch.replies.leaving() {
+            None => Ok(()),
+            Some(sub) => self.leave(sub, moment, &mut scratch.line, sink),
+        }
+    }
+
+    // What follows an event of which the user may have heard: its lines, and the replies.
+    pub(crate) fn answer<S: Sink>(
+        &mut self,
+        fits: bool,
+        moment: u64,
+        scratch: &mut Scratch,
+        sink: &mut S,
+    ) -> Result<(), LoopFault>
+        requires { moment ≤ 1000000000000000 }
+        ensures chooses { (r : Rules) (s : LoopSession) (g : Given) → Gave r moment s g self.old scratch.old.line.items fits
+            → HeardSo s.mind (heard_in (outcomes_of r moment s.end g)) self.old.mind scratch.old.replies
+            → Chooses (S.held sink.old) (S.held sink.new) (S.faults sink.old) (S.faults sink.new) self.new (dealt r moment s g) result }
+        ensures number { self.new.number ≡ self.old.number }
+        ensures later { S.faults sink.old ≤ S.faults sink.new }
+    {
+        match self.tell(fits, moment, &mut scratch.line, sink) {
+            Ok(()) => {}
+            Err(fault) => return Err(fault),
+        }
+        self.reply(moment, scratch, sink)
+    }
+
+    // The oldest message that waits is taken, and the user hears it.
+    fn take<S: Sink>(
+        &mut self,
+        moment: u64,
+        scratch: &mut Scratch,
+        sink: &mut S,
+    ) -> Result<(), LoopFault>
+        requires { moment ≤ 1000000000000000 }
+        ensures chooses { (r : Rules) → Chooses (S.held sink.old) (S.held sink.new) (S.faults sink.old) (S.faults sink.new) self.new (dealt r moment self.old Takes) result }
+        ensures number { self.new.number ≡ self.old.number }
+        ensures later { S.faults sink.old ≤ S.faults sink.new }
+    {
+        scratch.line.clear();
+        let fits = give_take(
+            &mut self.end,
+            &mut self.user,
+            self.number,
+            moment,
+            &mut scratch.replies,
+            &mut scratch.line,
+            &mut self.output,
+        )?;
+        self.answer(fits, moment, scratch, sink)
+    }
+
+    // The messages that wait are taken.
+    pub(crate) fn take_all<S: Sink>(
+        &mut self,
+        moment: u64,
+        scratch: &mut Scratch,
+        sink: &mut S,
+    ) -> Result<(), LoopFault>
+        requires { moment ≤ 1000000000000000 }
+        ensures chooses { (r : Rules) → Chooses (S.held sink.old) (S.held sink.new) (S.faults sink.old) (S.faults sink.new) self.new (takes_all r moment self.old) result }
+        ensures number { self.new.number ≡ self.old.number }
+        ensures later { S.faults sink.old ≤ S.faults sink.new }
+    {
+        for _ in 0..self.end.waiting() {
+            match self.take(moment, scratch, sink) {
+                Ok(()) => {}
+                Err(fault) => return Err(fault),
+            }
+        }
+        Ok(())
+    }
+}

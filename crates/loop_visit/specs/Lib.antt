@@ -1,0 +1,4 @@
+pub mod Acting
+pub mod Sequels
+pub mod Visiting
+pub mod Writing

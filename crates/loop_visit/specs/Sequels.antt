@@ -1,0 +1,168 @@
+-- One part of the loop behind another: lemmas on how parts end, for the proofs of the layers above.
+use Rattle.std.proofs.Common.{◌≡◌, ◌≤◌, ℕ, ◌+◌, ◌-◌, ◌^◌, min, true, false, List, [], ◌∷◌, ◌++◌, Option, refl, sym, ◌∙◌, ap, subst, append_assoc, arith}
+use Rattle.link_trait.specs.Outside.{Grew, GrewPart, Rose}
+use Rattle.link_trait.specs.Growth.{grew_nothing, grew_then, part_then, part_more}
+use Rattle.link_trait.specs.Wires.{Call}
+use Rattle.loop_model.specs.Journals.{Entry, entry_text, text}
+use Rattle.loop_model.specs.Outs.{Out, still, next, changed, prints, makes}
+use Rattle.loop_model.specs.Laws.{is_failed, failures}
+use Rattle.loop_session.specs.declared.loop_fault.LoopFault.{LoopFault}
+use Rattle.loop_session.specs.declared.loop_fault.LoopFault.TheVariants.{Wires, Sink, NoMemory}
+use Rattle.loop_session.specs.Parts.{Breaks, Printed}
+use Rattle.loop_visit.specs.Acting.{Seen, seen, IsAnsweredSo, AreAnsweredSo, Counts, Acted, Began, BreaksAt}
+
+-- ---- texts, answers and counts of both
+
+pub text_parts : (xs ys : List Entry) → text (xs ++ ys) ≡ text xs ++ text ys
+text_parts [] ys = refl
+text_parts (x ∷ xs) ys = ap (λ z. entry_text x ++ z) (text_parts xs ys) ∙ sym (append_assoc (entry_text x) (text xs) (text ys))
+
+pub answered_parts : (xs ys : List Call) → AreAnsweredSo xs → AreAnsweredSo ys → AreAnsweredSo (xs ++ ys)
+answered_parts [] ys p q = q
+answered_parts (x ∷ xs) ys p q = (p.0, answered_parts xs ys p.1 q)
+
+pub failures_parts : (xs ys : List Call) → failures (xs ++ ys) ≡ failures xs + failures ys
+unfolding failures
+failures_parts [] ys = (let p : failures ys ≡ 0 + failures ys = omega arith in p)
+failures_parts (x ∷ xs) ys = (let p = failures_parts xs ys in omega (arith, p))
+
+pub counts_none : (f g : ℕ) → f ≤ g → Counts f g []
+unfolding failures
+counts_none f g p = omega (arith, p)
+
+-- a call that didn't fail
+pub counts_other : (f g : ℕ) (call : Call) → is_failed call ≡ false → f ≤ g → Counts f g (call ∷ [])
+unfolding failures
+counts_other f g call p q = rw p (let z : min (f + (0 + 0)) (2 ^ 64 - 1) ≤ g = omega (arith, q) in z)
+
+-- a call that failed
+pub counts_failed : (f g : ℕ) (call : Call) → is_failed call ≡ true → Rose f g → Counts f g (call ∷ [])
+unfolding failures
+counts_failed f g call p q = rw p (let z : min (f + (1 + 0)) (2 ^ 64 - 1) ≤ g = omega (arith, q) in z)
+
+pub counts_then : (f g h : ℕ) (xs ys : List Call) → Counts f g xs → Counts g h ys → Counts f h (xs ++ ys)
+counts_then f g h xs ys p q = (let z = failures_parts xs ys in omega (arith, z, p, q))
+
+-- ---- parts that were done
+
+pub acted_still : {S : Type 0} (a : Seen) (s : S) → Acted a a s (still s)
+acted_still a s = record {
+  state = refl;
+  printed = grew_nothing a.held;
+  later = omega arith;
+  told = grew_nothing a.calls;
+  answered = tt;
+  counted = counts_none a.failed a.failed (let z : a.failed ≤ a.failed = omega arith in z);
+}
+
+pub acted_next : {S T : Type 0} (a b c : Seen) (mid : S) (new : T) (o : Out S) (f : S → Out T) → Acted a b mid o → Acted b c new (f mid) → Acted a c new (next o f)
+acted_next a b c mid new o f p q = behind (subst (λ z. Acted b c new (f z)) p.state q)
+  where
+    behind : Acted b c new (f o.state) → Acted a c new (next o f)
+    behind q = record {
+      state = q.state;
+      printed = subst (λ z. Grew a.held c.held z) (sym (text_parts o.entries (f o.state).entries)) (grew_then a.held b.held c.held (text o.entries) (text (f o.state).entries) p.printed q.printed);
+      later = (let x : a.sunk ≤ b.sunk = p.later in let y : b.sunk ≤ c.sunk = q.later in omega (arith, x, y));
+      told = grew_then a.calls b.calls c.calls o.calls (f o.state).calls p.told q.told;
+      answered = answered_parts o.calls (f o.state).calls p.answered q.answered;
+      counted = counts_then a.failed b.failed c.failed o.calls (f o.state).calls p.counted q.counted;
+    }
+
+pub acted_changed : {S T : Type 0} (a b : Seen) (g : S → T) (new : S) (o : Out S) → Acted a b new o → Acted a b (g new) (changed g o)
+acted_changed a b g new o p = record {
+  state = ap g p.state;
+  printed = p.printed;
+  later = p.later;
+  told = p.told;
+  answered = p.answered;
+  counted = p.counted;
+}
+
+pub acted_prints : {S : Type 0} (h i : Option (List ℕ)) (j k : ℕ) (c : Option (List Call)) (u : ℕ) (new : S) (x : S × List Entry) → Printed h i j k new x → Acted (seen h j c u) (seen i k c u) new (prints x)
+acted_prints h i j k c u new x p = record {
+  state = p.state;
+  printed = p.printed;
+  later = p.later;
+  told = grew_nothing c;
+  answered = tt;
+  counted = counts_none u u (let z : u ≤ u = omega arith in z);
+}
+
+pub acted_makes : {S : Type 0} (h : Option (List ℕ)) (j : ℕ) (c d : Option (List Call)) (u v : ℕ) (s : S) (call : Call)
+    → Grew c d (call ∷ []) → IsAnsweredSo call → Counts u v (call ∷ []) → Acted (seen h j c u) (seen h j d v) s (makes call s)
+acted_makes h j c d u v s call told answered counted = record {
+  state = refl;
+  printed = grew_nothing h;
+  later = omega arith;
+  told = told;
+  answered = (answered, tt);
+  counted = counted;
+}
+
+-- ---- parts that broke off
+
+-- with calls that would have come behind
+pub began_more : (a b : Seen) (xs ys : List Call) → Began a b xs → Began a b (xs ++ ys)
+began_more a b xs ys p = record {
+  part = p.part;
+  rest = p.rest ++ ys;
+  is = sym (append_assoc p.part p.rest ys) ∙ ap (λ z. z ++ ys) p.is;
+  told = p.told;
+  answered = p.answered;
+  counted = p.counted;
+}
+
+-- behind calls that were made
+pub began_then : (a b c : Seen) (xs ys : List Call) → Grew a.calls b.calls xs → AreAnsweredSo xs → Counts a.failed b.failed xs → Began b c ys → Began a c (xs ++ ys)
+began_then a b c xs ys told answered counted q = record {
+  part = xs ++ q.part;
+  rest = q.rest;
+  is = append_assoc xs q.part q.rest ∙ ap (λ z. xs ++ z) q.is;
+  told = grew_then a.calls b.calls c.calls xs q.part told q.told;
+  answered = answered_parts xs q.part answered q.answered;
+  counted = counts_then a.failed b.failed c.failed xs q.part counted q.counted;
+}
+
+pub began_none : (a b : Seen) (all : List Call) → a.calls ≡ b.calls → a.failed ≤ b.failed → Began a b all
+began_none a b all same few = record {
+  part = [];
+  rest = all;
+  is = refl;
+  told = subst (λ z. Grew a.calls z []) same (grew_nothing a.calls);
+  answered = tt;
+  counted = counts_none a.failed b.failed few;
+}
+
+-- the first of two parts broke off
+pub breaks_first : {S T : Type 0} (a b : Seen) (o : Out S) (f : S → Out T) (fault : LoopFault) → BreaksAt a b o fault → BreaksAt a b (next o f) fault
+breaks_first a b o f Wires p = p
+breaks_first a b o f Sink p = (
+  subst (λ z. GrewPart a.held b.held z) (sym (text_parts o.entries (f o.state).entries)) (part_more a.held b.held (text o.entries) (text (f o.state).entries) p.0),
+  began_more a b o.calls (f o.state).calls p.1,
+  p.2,
+)
+breaks_first a b o f (NoMemory want) p = p
+
+-- the second of two parts broke off
+pub breaks_next : {S T : Type 0} (a b c : Seen) (mid : S) (o : Out S) (f : S → Out T) (fault : LoopFault) → Acted a b mid o → BreaksAt b c (f mid) fault → BreaksAt a c (next o f) fault
+breaks_next a b c mid o f fault p q = behind fault (subst (λ z. BreaksAt b c (f z) fault) p.state q)
+  where
+    behind : (fault : LoopFault) → BreaksAt b c (f o.state) fault → BreaksAt a c (next o f) fault
+    behind Wires q = q
+    behind Sink q = (
+      subst (λ z. GrewPart a.held c.held z) (sym (text_parts o.entries (f o.state).entries)) (part_then a.held b.held c.held (text o.entries) (text (f o.state).entries) p.printed q.0),
+      began_then a b c o.calls (f o.state).calls p.told p.answered p.counted q.1,
+      (let x : a.sunk ≤ b.sunk = p.later in let y : Rose b.sunk c.sunk = q.2 in omega (arith, x, y)),
+    )
+    behind (NoMemory want) q = (let x : a.sunk ≤ b.sunk = p.later in let y : b.sunk ≤ c.sunk = q in omega (arith, x, y))
+
+pub breaks_changed : {S T : Type 0} (a b : Seen) (g : S → T) (o : Out S) (fault : LoopFault) → BreaksAt a b o fault → BreaksAt a b (changed g o) fault
+breaks_changed a b g o Wires p = p
+breaks_changed a b g o Sink p = p
+breaks_changed a b g o (NoMemory want) p = p
+
+pub breaks_prints : {S : Type 0} (h i : Option (List ℕ)) (j k : ℕ) (c : Option (List Call)) (u : ℕ) (x : S × List Entry) (fault : LoopFault) → Breaks h i j k (text x.1) fault
+    → BreaksAt (seen h j c u) (seen i k c u) (prints x) fault
+breaks_prints h i j k c u x Wires p = p
+breaks_prints h i j k c u x Sink p = (p.0, began_none (seen h j c u) (seen i k c u) [] refl (let z : u ≤ u = omega arith in z), p.1)
+breaks_prints h i j k c u x (NoMemory want) p = p

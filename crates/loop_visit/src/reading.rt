@@ -1,0 +1,93 @@
+//! A session is read from, and what follows that.
+
+ghost use Rattle.std.specs.Prelude.{◌≡◌, ◌≢◌, ◌≤◌, ℕ, length, take, true, false};
+ghost use Rattle.link_trait.specs.Wires.{reading_of};
+ghost use Rattle.loop_model.specs.Visits.{came, read_once, rests_behind};
+ghost use Rattle.loop_model.specs.Outs.{next};
+ghost use Rattle.loop_session.specs.Parts.{rules, Chooses};
+ghost use Rattle.loop_visit.specs.Acting.{seen};
+ghost use Rattle.loop_visit.specs.Visiting.{Visits, reads};
+
+use crate::writing::rest;
+use er_users::SafeUser;
+use link_trait::{Conn, ReadAnswer, Sink, Wires};
+use loop_session::{LoopFault, Scratch, Session, When};
+use safety_automaton::KeyFinder;
+
+// The most octets that one read asks for.
+const MOST_READ: usize = 4_096;
+
+// The first octets of a slice.
+fn front(octets: &[u8], count: usize) -> &[u8]
+    requires { count ≤ length octets.now }
+    ensures { result.now ≡ take count octets.now }
+{
+    &octets[..count]
+}
+
+// Whether a read gave nothing yet.
+fn gave_nothing(answer: ReadAnswer) -> bool
+    ensures yes { result ≡ true → answer ≡ ReadAnswer.NotNow }
+    ensures no { result ≡ false → answer ≢ ReadAnswer.NotNow }
+{
+    matches!(answer, ReadAnswer::NotNow)
+}
+
+// What comes of a read, by its answer: octets are given to the end, an end of the line and a fault are events.
+fn take_in<U: SafeUser, K: KeyFinder, S: Sink>(
+    session: &mut Session<U>,
+    answer: ReadAnswer,
+    octets: &[u8],
+    keys: &K,
+    when: When,
+    scratch: &mut Scratch,
+    sink: &mut S,
+) -> Result<(), LoopFault>
+    requires moment { when.moment ≤ 1000000000000000 }
+    requires setup { when.setup ≤ 600000 }
+    requires fits { (n : ℕ) → answer ≡ ReadAnswer.Some n → (1 ≤ n) × (n ≤ length octets.now) }
+    ensures chooses { Chooses (S.held sink.old) (S.held sink.new) (S.faults sink.old) (S.faults sink.new) session.new
+        (came (reading_of answer octets.now) (rules (K.entries keys.now) when.setup) when.moment session.old) result }
+    ensures number { session.new.number ≡ session.old.number }
+    ensures later { S.faults sink.old ≤ S.faults sink.new }
+{
+    match answer {
+        ReadAnswer::Some(count) => session.pour(front(octets, count), keys, when, scratch, sink),
+        ReadAnswer::NotNow => Ok(()),
+        ReadAnswer::End => session.ended(when, scratch, sink),
+        ReadAnswer::Failed => session.fault(when, scratch, sink),
+    }
+}
+
+/// One read, and what follows it. Whether the session stays.
+pub(crate) fn read<U: SafeUser, K: KeyFinder, W: Wires, S: Sink>(
+    session: &mut Session<U>,
+    keys: &K,
+    when: When,
+    scratch: &mut Scratch,
+    wires: &mut W,
+    sink: &mut S,
+) -> Result<bool, LoopFault>
+    requires moment { when.moment ≤ 1000000000000000 }
+    requires setup { when.setup ≤ 600000 }
+    ensures does { Visits (seen (S.held sink.old) (S.faults sink.old) (W.calls wires.old) (W.faults wires.old))
+        (seen (S.held sink.new) (S.faults sink.new) (W.calls wires.new) (W.faults wires.new))
+        session.new (reads (rules (K.entries keys.now) when.setup) when.moment session.old) result }
+    ensures number { session.new.number ≡ session.old.number }
+    ensures sunk { S.faults sink.old ≤ S.faults sink.new }
+    ensures count { W.faults wires.old ≤ W.faults wires.new }
+    ensures opened { W.opened wires.new ≡ W.opened wires.old }
+    ensures listening { W.listening wires.new ≡ W.listening wires.old }
+    ensures turn_count { W.turn_faults wires.new ≡ W.turn_faults wires.old }
+{
+    let mut octets = [0; MOST_READ];
+    let answer = wires.read(Conn(session.number()), &mut octets);
+    match take_in(session, answer, &octets, keys, when, scratch, sink) {
+        Ok(()) => {}
+        Err(fault) => return Err(fault),
+    }
+    if gave_nothing(answer) {
+        return Ok(true);
+    }
+    rest(session, when, scratch, wires, sink)
+}

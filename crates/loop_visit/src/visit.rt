@@ -1,0 +1,149 @@
+//! Visits of one session.
+
+ghost use Rattle.std.specs.Prelude.{◌≡◌, ◌≤◌, List};
+ghost use Rattle.loop_model.specs.Sessions.{Begins};
+ghost use Rattle.safety_automaton.specs.Keys as keys;
+ghost use Rattle.loop_model.specs.Visits.{visited, served, is_due, Tick as VisitTick};
+ghost use Rattle.loop_session.specs.Parts.{rules};
+ghost use Rattle.loop_visit.specs.Acting.{seen};
+ghost use Rattle.loop_visit.specs.Visiting.{visit_of, Visits};
+ghost use Rattle.loop_visit.specs.Writing.{Expires};
+
+use crate::reading::read;
+use crate::writing::rest;
+use er_users::SafeUser;
+use link_trait::{Conn, Sink, Wires};
+use loop_session::{Called, LoopFault, Scratch, Session, When};
+use safety_automaton::KeyFinder;
+
+/// Why a session is visited.
+#[derive(Clone, Copy, Debug, PartialEq, Eq)]
+pub enum Visit {
+    /// It is ticked, where its deadline has come.
+    Tick,
+    /// It is read from, where it isn't released.
+    Read,
+    /// What waits is written.
+    Write,
+    /// It is closed, where its closing moment has come.
+    Expire,
+}
+
+// A moment has come.
+fn is_due(moment: u64, at: Option<u64>) -> bool
+    ensures { result ≡ is_due moment at }
+{
+    let Some(at) = at else {
+        return false;
+    };
+    at <= moment
+}
+
+// A session is ticked, where the deadline of its end has come.
+fn tick<U: SafeUser, W: Wires, S: Sink>(
+    session: &mut Session<U>,
+    when: When,
+    scratch: &mut Scratch,
+    wires: &mut W,
+    sink: &mut S,
+) -> Result<bool, LoopFault>
+    requires moment { when.moment ≤ 1000000000000000 }
+    requires setup { when.setup ≤ 600000 }
+    ensures does { (entries : List keys.Entry) → Visits (seen (S.held sink.old) (S.faults sink.old) (W.calls wires.old) (W.faults wires.old))
+        (seen (S.held sink.new) (S.faults sink.new) (W.calls wires.new) (W.faults wires.new))
+        session.new (visited (rules entries when.setup) when.moment VisitTick session.old) result }
+    ensures number { session.new.number ≡ session.old.number }
+    ensures sunk { S.faults sink.old ≤ S.faults sink.new }
+    ensures count { W.faults wires.old ≤ W.faults wires.new }
+    ensures opened { W.opened wires.new ≡ W.opened wires.old }
+    ensures listening { W.listening wires.new ≡ W.listening wires.old }
+    ensures turn_count { W.turn_faults wires.new ≡ W.turn_faults wires.old }
+{
+    if is_due(when.moment, session.deadline()) {
+        match session.tick(when, scratch, sink) {
+            Ok(()) => {}
+            Err(fault) => return Err(fault),
+        }
+        return rest(session, when, scratch, wires, sink);
+    }
+    Ok(true)
+}
+
+// A session is closed, where its closing moment has come. Whether it stays.
+fn expire<U: SafeUser, W: Wires>(session: &Session<U>, when: When, wires: &mut W) -> bool
+    ensures expires { Expires (W.calls wires.old) (W.calls wires.new) (W.faults wires.old) (W.faults wires.new) when.moment session.now result }
+    ensures count { W.faults wires.old ≤ W.faults wires.new }
+    ensures opened { W.opened wires.new ≡ W.opened wires.old }
+    ensures listening { W.listening wires.new ≡ W.listening wires.old }
+    ensures turn_count { W.turn_faults wires.new ≡ W.turn_faults wires.old }
+{
+    if is_due(when.moment, session.closing()) {
+        wires.close(Conn(session.number()));
+        return false;
+    }
+    true
+}
+
+/// A session is visited, with all that follows. Whether it stays: else its connection was closed.
+pub fn visit_session<U: SafeUser, K: KeyFinder, W: Wires, S: Sink>(
+    session: &mut Session<U>,
+    visit: Visit,
+    keys: &K,
+    when: When,
+    scratch: &mut Scratch,
+    wires: &mut W,
+    sink: &mut S,
+) -> Result<bool, LoopFault>
+    requires moment { when.moment ≤ 1000000000000000 }
+    requires setup { when.setup ≤ 600000 }
+    ensures does { Visits (seen (S.held sink.old) (S.faults sink.old) (W.calls wires.old) (W.faults wires.old))
+        (seen (S.held sink.new) (S.faults sink.new) (W.calls wires.new) (W.faults wires.new))
+        session.new (visited (rules (K.entries keys.now) when.setup) when.moment (visit_of visit) session.old) result }
+    ensures number { session.new.number ≡ session.old.number }
+    ensures sunk { S.faults sink.old ≤ S.faults sink.new }
+    ensures count { W.faults wires.old ≤ W.faults wires.new }
+    ensures opened { W.opened wires.new ≡ W.opened wires.old }
+    ensures listening { W.listening wires.new ≡ W.listening wires.old }
+    ensures turn_count { W.turn_faults wires.new ≡ W.turn_faults wires.old }
+{
+    match visit {
+        Visit::Tick => tick(session, when, scratch, wires, sink),
+        Visit::Read => {
+            if session.is_released() {
+                return Ok(true);
+            }
+            read(session, keys, when, scratch, wires, sink)
+        }
+        Visit::Write => rest(session, when, scratch, wires, sink),
+        Visit::Expire => Ok(expire(session, when, wires)),
+    }
+}
+
+/// The end of an engine that calls begins in its session, with all that follows. Whether it stays: else its connection was closed.
+pub fn begin_call<U: SafeUser, K: KeyFinder, W: Wires, S: Sink>(
+    session: &mut Session<U>,
+    call: &Called,
+    keys: &K,
+    when: When,
+    scratch: &mut Scratch,
+    wires: &mut W,
+    sink: &mut S,
+) -> Result<bool, LoopFault>
+    requires moment { when.moment ≤ 1000000000000000 }
+    requires setup { when.setup ≤ 600000 }
+    ensures does { Visits (seen (S.held sink.old) (S.faults sink.old) (W.calls wires.old) (W.faults wires.old))
+        (seen (S.held sink.new) (S.faults sink.new) (W.calls wires.new) (W.faults wires.new))
+        session.new (served (rules (K.entries keys.now) when.setup) when.moment session.old (Begins call.now.engine call.now.rbc call.now.rb)) result }
+    ensures number { session.new.number ≡ session.old.number }
+    ensures sunk { S.faults sink.old ≤ S.faults sink.new }
+    ensures count { W.faults wires.old ≤ W.faults wires.new }
+    ensures opened { W.opened wires.new ≡ W.opened wires.old }
+    ensures listening { W.listening wires.new ≡ W.listening wires.old }
+    ensures turn_count { W.turn_faults wires.new ≡ W.turn_faults wires.old }
+{
+    match session.call(call, when, scratch, sink) {
+        Ok(()) => {}
+        Err(fault) => return Err(fault),
+    }
+    rest(session, when, scratch, wires, sink)
+}

@@ -1,0 +1,135 @@
+//! The output of a session is written, and what follows that.
+
+ghost use Rattle.std.specs.Prelude.{◌≡◌, ◌≤◌, ◌||◌, ◌&&◌, ◌==◌, List, length, not, true, false};
+ghost use Rattle.safety_automaton.specs.Keys as keys;
+ghost use Rattle.loop_model.specs.Sessions.{is_released};
+ghost use Rattle.loop_model.specs.Visits.{written, settled, rests};
+ghost use Rattle.loop_session.specs.Parts.{rules};
+ghost use Rattle.loop_visit.specs.Acting.{seen, Does};
+ghost use Rattle.loop_visit.specs.Visiting.{left, Visits};
+ghost use Rattle.loop_visit.specs.Writing.{Wrote, Settles};
+
+use er_users::SafeUser;
+use link_trait::{Conn, Sink, Wires, WriteAnswer};
+use loop_session::{LoopFault, Scratch, Session, When};
+
+// How a writing went.
+enum Flow {
+    // Nothing waits any more.
+    Going,
+    // There is no room.
+    PutOff,
+    // A write failed.
+    Failing,
+}
+
+// The output is written until nothing waits, or there is no room, or a write fails.
+#[tactic(auto, using(crate::proofs::Writings::wrote_none, crate::proofs::Writings::wrote_more, crate::proofs::Writings::wrote_all))]
+fn write_all<U: SafeUser, W: Wires>(session: &mut Session<U>, wires: &mut W) -> Flow
+    ensures wrote { Wrote (W.calls wires.old) (W.calls wires.new) (W.faults wires.old) (W.faults wires.new) session.old session.new result }
+    ensures number { session.new.number ≡ session.old.number }
+    ensures count { W.faults wires.old ≤ W.faults wires.new }
+    ensures opened { W.opened wires.new ≡ W.opened wires.old }
+    ensures listening { W.listening wires.new ≡ W.listening wires.old }
+    ensures turn_count { W.turn_faults wires.new ≡ W.turn_faults wires.old }
+{
+    while !session.output().is_empty() {
+        match wires.write(Conn(session.number()), session.output()) {
+            WriteAnswer::Some(count) => session.wrote(count),
+            WriteAnswer::NotNow => return Flow::PutOff,
+            WriteAnswer::Failed => return Flow::Failing,
+        }
+    }
+    Flow::Going
+}
+
+// The output is written, where the session didn't break off. A write that fails is the event `fault`, but for a session that is released.
+fn write_out<U: SafeUser, W: Wires, S: Sink>(
+    session: &mut Session<U>,
+    when: When,
+    scratch: &mut Scratch,
+    wires: &mut W,
+    sink: &mut S,
+) -> Result<(), LoopFault>
+    requires moment { when.moment ≤ 1000000000000000 }
+    requires setup { when.setup ≤ 600000 }
+    ensures does { (entries : List keys.Entry) → Does (seen (S.held sink.old) (S.faults sink.old) (W.calls wires.old) (W.faults wires.old))
+        (seen (S.held sink.new) (S.faults sink.new) (W.calls wires.new) (W.faults wires.new))
+        session.new (written (rules entries when.setup) when.moment session.old) result }
+    ensures number { session.new.number ≡ session.old.number }
+    ensures sunk { S.faults sink.old ≤ S.faults sink.new }
+    ensures count { W.faults wires.old ≤ W.faults wires.new }
+    ensures opened { W.opened wires.new ≡ W.opened wires.old }
+    ensures listening { W.listening wires.new ≡ W.listening wires.old }
+    ensures turn_count { W.turn_faults wires.new ≡ W.turn_faults wires.old }
+{
+    if session.is_broken() {
+        return Ok(());
+    }
+    match write_all(session, wires) {
+        Flow::Going => Ok(()),
+        Flow::PutOff => Ok(()),
+        Flow::Failing => {
+            if session.is_released() {
+                session.break_off();
+                return Ok(());
+            }
+            session.fault(when, scratch, sink)
+        }
+    }
+}
+
+// Whether a session stays: it is closed as soon as it broke off, or once it is released and nothing waits.
+fn settle<U: SafeUser, W: Wires>(session: &Session<U>, wires: &mut W) -> bool
+    ensures settles { Settles (W.calls wires.old) (W.calls wires.new) (W.faults wires.old) (W.faults wires.new) session.now result }
+    ensures count { W.faults wires.old ≤ W.faults wires.new }
+    ensures opened { W.opened wires.new ≡ W.opened wires.old }
+    ensures listening { W.listening wires.new ≡ W.listening wires.old }
+    ensures turn_count { W.turn_faults wires.new ≡ W.turn_faults wires.old }
+{
+    if is_done(session) {
+        wires.close(Conn(session.number()));
+        return false;
+    }
+    true
+}
+
+// Whether the connection of a session is to be closed at once.
+fn is_done<U: SafeUser>(session: &Session<U>) -> bool
+    ensures { result ≡ (session.now.broken || (is_released session.now && (length session.now.output == 0))) }
+{
+    if session.is_broken() {
+        return true;
+    }
+    if !session.is_released() {
+        return false;
+    }
+    session.output().is_empty()
+}
+
+/// What follows the events of a happening: the output is written, and the session is closed where it is to be. Whether it stays.
+pub(crate) fn rest<U: SafeUser, W: Wires, S: Sink>(
+    session: &mut Session<U>,
+    when: When,
+    scratch: &mut Scratch,
+    wires: &mut W,
+    sink: &mut S,
+) -> Result<bool, LoopFault>
+    requires moment { when.moment ≤ 1000000000000000 }
+    requires setup { when.setup ≤ 600000 }
+    ensures does { (entries : List keys.Entry) → Visits (seen (S.held sink.old) (S.faults sink.old) (W.calls wires.old) (W.faults wires.old))
+        (seen (S.held sink.new) (S.faults sink.new) (W.calls wires.new) (W.faults wires.new))
+        session.new (rests (rules entries when.setup) when.moment session.old) result }
+    ensures number { session.new.number ≡ session.old.number }
+    ensures sunk { S.faults sink.old ≤ S.faults sink.new }
+    ensures count { W.faults wires.old ≤ W.faults wires.new }
+    ensures opened { W.opened wires.new ≡ W.opened wires.old }
+    ensures listening { W.listening wires.new ≡ W.listening wires.old }
+    ensures turn_count { W.turn_faults wires.new ≡ W.turn_faults wires.old }
+{
+    match write_out(session, when, scratch, wires, sink) {
+        Ok(()) => {}
+        Err(fault) => return Err(fault),
+    }
+    Ok(settle(session, wires))
+}
