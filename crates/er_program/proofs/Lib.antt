@@ -17,3 +17,6 @@ pub mod BulkSteps
 pub mod BulkSteady
 pub mod BulkRuns
 pub mod BulkMeanings
+pub mod LineEndings
+pub mod LineMeanings
+pub mod LineDispatch

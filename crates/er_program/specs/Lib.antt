@@ -13,3 +13,7 @@ pub mod KeyLines
 pub mod KeyWriting
 pub mod ReplayWriting
 pub mod Asking
+pub mod LineCommands
+pub mod LineCommandViews
+pub mod LineRuns
+pub mod LineWriting

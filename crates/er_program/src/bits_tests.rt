@@ -1,4 +1,5 @@
-use crate::{MemoryCabinet, MemorySink, Status, run};
+use crate::off_line_tests::run_off_line;
+use crate::{MemoryCabinet, MemorySink, Status};
 use er_base::NoMemory;
 use std::alloc::Global;
 use std::test::Fail;
@@ -29,12 +30,12 @@ fn two_frames_and_a_sink_that_fails(rt: HostRuntime) -> Result<(), Fail> {
     let words = words(alloc)?;
     let mut cabinet = cabinet(alloc, &TWO_FRAMES)?;
     let mut sink = MemorySink::with_capacity(alloc, 1_000)?;
-    let answer = run(alloc, words.as_slice(), &mut cabinet, &mut sink);
+    let answer = run_off_line(alloc, words.as_slice(), &mut cabinet, &mut sink)?;
     assert_eq!(rt; answer, Status(0));
     assert_eq!(rt; sink.held(), TWO_FRAMES_TEXT.as_bytes());
     let mut failing = MemorySink::with_capacity(alloc, 1_000)?;
     failing.fail(2)?;
-    let answer = run(alloc, words.as_slice(), &mut cabinet, &mut failing);
+    let answer = run_off_line(alloc, words.as_slice(), &mut cabinet, &mut failing)?;
     assert_eq!(rt; answer, Status(5));
     assert_eq!(rt; failing.held(), b"frame 01 3f\n".as_slice());
     Ok(())
@@ -48,7 +49,7 @@ fn a_line_that_is_too_long(rt: HostRuntime) -> Result<(), Fail> {
     octets.resize(16_777_217, 0x7e)?;
     let mut cabinet = cabinet(alloc, octets.as_slice())?;
     let mut sink = MemorySink::with_capacity(alloc, 1_000)?;
-    let answer = run(alloc, words.as_slice(), &mut cabinet, &mut sink);
+    let answer = run_off_line(alloc, words.as_slice(), &mut cabinet, &mut sink)?;
     assert_eq!(rt; answer, Status(3));
     assert_eq!(rt; sink.held(), b"! line 0 long\n".as_slice());
     Ok(())

@@ -120,14 +120,22 @@ pub fn closed<K: Sink>(alloc: Global, world: &World, sink: &mut K) -> Result<Sta
     last(0, out.as_slice(), sink)
 }
 
+/// Writes the last line of a run whose objects can't be made: status 7, or 5 where the write fails.
+pub fn unmade<K: Sink>(sink: &mut K) -> Status
+    ensures gives { Exhausts (K.held sink.old) (K.held sink.new) (K.faults sink.old) (K.faults sink.new) result }
+    ensures sink_count { K.faults sink.old ≤ K.faults sink.new }
+{
+    match say(b"! memory\n", sink) {
+        Ok(()) => Status(7),
+        Err(Failed) => Status(5),
+    }
+}
+
 /// Writes the last line of a run for which memory didn't suffice: status 7, or 5 where the write fails.
 pub fn out_of_memory<K: Sink>(want: NoMemory, sink: &mut K) -> Status
     ensures gives { Exhausts (K.held sink.old) (K.held sink.new) (K.faults sink.old) (K.faults sink.new) result }
     ensures sink_count { K.faults sink.old ≤ K.faults sink.new }
 {
     let _ = want;
-    match say(b"! memory\n", sink) {
-        Ok(()) => Status(7),
-        Err(Failed) => Status(5),
-    }
+    unmade(sink)
 }

@@ -20,8 +20,12 @@ use key_store::KeyFileFault;
 use link_trait::Sink;
 use std::alloc::Global;
 
-// Writes the line `! keys` with these words.
-fn say_keys<K: Sink>(alloc: Global, words: &[PrintedWord<'_>], sink: &mut K) -> Result<Status, Stop>
+/// Writes the line `! keys` with these words.
+pub fn say_keys<K: Sink>(
+    alloc: Global,
+    words: &[PrintedWord<'_>],
+    sink: &mut K,
+) -> Result<Status, Stop>
     ensures gives { Gives (record { status = 4; text = line_text (codes "!" ∷ map word_printed words.now) }) (K.held sink.old)
         (K.held sink.new) (K.faults sink.old) (K.faults sink.new) result }
     ensures sink_count { K.faults sink.old ≤ K.faults sink.new }

@@ -8,6 +8,7 @@ mod bits;
 #[cfg(test)]
 mod bits_tests;
 mod bulk;
+mod calling;
 mod command;
 mod drill;
 mod endings;
@@ -15,9 +16,13 @@ mod file_cabinet;
 mod halt;
 mod key_lines;
 mod last_lines;
+mod line_command;
 mod machine_clock;
 mod migrate;
+#[cfg(test)]
+mod off_line_tests;
 mod replay;
+mod serving;
 mod status;
 mod stdout_sink;
 mod stop;
@@ -25,9 +30,12 @@ mod top;
 #[cfg(test)]
 mod top_tests;
 
-pub use endings::out_of_memory;
+pub use endings::unmade;
 pub use file_cabinet::{FileCabinet, MOST_FILE_OCTETS};
-pub use link_trait::{Cabinet, Failed, FetchFault, MemoryCabinet, MemorySink, Sink};
+pub use link_trait::{
+    Cabinet, Clock, Failed, FetchFault, MemoryCabinet, MemoryClock, MemorySink, MemoryWires, Sink,
+    Wires,
+};
 pub use machine_clock::MachineClock;
 pub use status::Status;
 pub use stdout_sink::StdoutSink;

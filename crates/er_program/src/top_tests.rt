@@ -1,4 +1,5 @@
-use crate::{MemoryCabinet, MemorySink, Status, run};
+use crate::off_line_tests::run_off_line;
+use crate::{MemoryCabinet, MemorySink, Status};
 use er_base::NoMemory;
 use std::alloc::Global;
 use std::test::Fail;
@@ -79,7 +80,7 @@ fn files_with_their_statuses_and_texts(rt: HostRuntime) -> Result<(), Fail> {
     for (file, status, printed) in &ROWS {
         let mut cabinet = cabinet(alloc, file)?;
         let mut sink = MemorySink::with_capacity(alloc, 1_000)?;
-        let answer = run(alloc, words.as_slice(), &mut cabinet, &mut sink);
+        let answer = run_off_line(alloc, words.as_slice(), &mut cabinet, &mut sink)?;
         let text = spelled_out(alloc, printed)?;
         assert_eq!(rt; answer, Status(*status));
         assert_eq!(rt; sink.held(), text.as_slice());
@@ -95,7 +96,7 @@ fn a_sink_that_fails(rt: HostRuntime) -> Result<(), Fail> {
         let mut cabinet = cabinet(alloc, file)?;
         let mut sink = MemorySink::with_capacity(alloc, 1_000)?;
         sink.fail(*call)?;
-        let answer = run(alloc, words.as_slice(), &mut cabinet, &mut sink);
+        let answer = run_off_line(alloc, words.as_slice(), &mut cabinet, &mut sink)?;
         let text = spelled_out(alloc, held)?;
         assert_eq!(rt; answer, Status(5));
         assert_eq!(rt; sink.held(), text.as_slice());
@@ -111,10 +112,22 @@ fn words_that_fit_no_command_and_a_fetch_that_fails(rt: HostRuntime) -> Result<(
     let mut sink = MemorySink::with_capacity(alloc, 1_000)?;
     let one_word = words(alloc, &["drill"])?;
     let two_words = words(alloc, &["drill", "x"])?;
-    let misused = run(alloc, one_word.as_slice(), &mut cabinet, &mut sink);
-    let unfetched = run(alloc, two_words.as_slice(), &mut cabinet, &mut sink);
+    let misused = run_off_line(alloc, one_word.as_slice(), &mut cabinet, &mut sink)?;
+    let unfetched = run_off_line(alloc, two_words.as_slice(), &mut cabinet, &mut sink)?;
     assert_eq!(rt; misused, Status(1));
     assert_eq!(rt; unfetched, Status(2));
     assert_eq!(rt; sink.held(), b"! usage\n! fetch x\n".as_slice());
+    Ok(())
+}
+
+#[test]
+fn a_call_whose_pair_has_no_key(rt: HostRuntime) -> Result<(), Fail> {
+    let alloc = rt.alloc();
+    let mut cabinet = cabinet(alloc, "version = 1;")?;
+    let mut sink = MemorySink::with_capacity(alloc, 1_000)?;
+    let words = words(alloc, &["call", "x", "127.0.0.1:4711", "5", "9", "1"])?;
+    let answer = run_off_line(alloc, words.as_slice(), &mut cabinet, &mut sink)?;
+    assert_eq!(rt; answer, Status(4));
+    assert_eq!(rt; sink.held(), b"! keys none 5 9\n".as_slice());
     Ok(())
 }

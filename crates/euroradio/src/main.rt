@@ -1,8 +1,17 @@
 //! The program: it makes the real objects, lets the top call do what the words ask for, and ends with its status.
 #![tactic(auto)]
 
+mod objects;
+
+use crate::objects::{echoes, lister};
 use er_base::NoMemory;
-use er_program::{FileCabinet, Status, StdoutSink, out_of_memory, run};
+use er_program::{FileCabinet, MachineClock, MemoryWires, Sink, Status, StdoutSink, run, unmade};
+use er_users::SafeUser;
+use mio_wires::MioWires;
+use rand::make_rng;
+use rand_chacha::ChaCha20Rng;
+use rand_core::SeedableRng;
+use rand_pcg::Lcg64Xsh32;
 use std::process::ExitCode;
 use std::{env, io};
 
@@ -17,14 +26,79 @@ fn words(rt: &HostRuntime) -> Result<Option<Vec<String>>, NoMemory> {
     }
 }
 
-fn status(rt: HostRuntime) -> Status {
+// A command that runs over wires, with these users. None where there is no memory for the objects, or no seed.
+fn on_line<K: Sink>(
+    rt: HostRuntime,
+    words: &[String],
+    users: Vec<Box<dyn SafeUser>>,
+    sink: &mut K,
+) -> Option<Status> {
     let mut cabinet = FileCabinet::new(rt);
+    let mut clock = MachineClock::new(rt);
+    let mut wires = MioWires::new(rt.alloc(), rt).ok()?;
+    let seeded: io::Result<ChaCha20Rng> = make_rng(&rt);
+    let mut randoms = seeded.ok()?;
+    Some(run(
+        rt.alloc(),
+        words,
+        &mut cabinet,
+        sink,
+        &mut wires,
+        &mut clock,
+        &mut randoms,
+        users,
+    ))
+}
+
+// Any other command: its wires are in memory, and nothing is asked of them.
+fn off_line<K: Sink>(rt: HostRuntime, words: &[String], sink: &mut K) -> Option<Status> {
+    let alloc = rt.alloc();
+    let mut cabinet = FileCabinet::new(rt);
+    let mut clock = MachineClock::new(rt);
+    let mut wires = MemoryWires::new(alloc, Vec::new(alloc), 0, 0, 0).ok()?;
+    let mut randoms = Lcg64Xsh32::seed_from_u64(0);
+    Some(run(
+        alloc,
+        words,
+        &mut cabinet,
+        sink,
+        &mut wires,
+        &mut clock,
+        &mut randoms,
+        Vec::new(alloc),
+    ))
+}
+
+// Whether this is the first word.
+fn begins_with(words: &[String], command: &str) -> bool {
+    match words.first() {
+        Some(word) => word.as_str() == command,
+        None => false,
+    }
+}
+
+// What the words ask for. None where the objects can't be made.
+fn answered<K: Sink>(rt: HostRuntime, words: &[String], sink: &mut K) -> Option<Status> {
+    if begins_with(words, "serve") {
+        return on_line(rt, words, echoes(rt.alloc()).ok()?, sink);
+    }
+    if begins_with(words, "call") {
+        return on_line(rt, words, lister(rt.alloc()).ok()?, sink);
+    }
+    off_line(rt, words, sink)
+}
+
+fn status(rt: HostRuntime) -> Status {
     let mut sink = StdoutSink::new(io::writer(&rt));
-    match words(&rt) {
-        Ok(Some(words)) => run(rt.alloc(), words.as_slice(), &mut cabinet, &mut sink),
+    let answer = match words(&rt) {
+        Ok(Some(words)) => answered(rt, words.as_slice(), &mut sink),
         // Words that aren't UTF-8 fit no command.
-        Ok(None) => run(rt.alloc(), &[], &mut cabinet, &mut sink),
-        Err(want) => out_of_memory(want, &mut sink),
+        Ok(None) => answered(rt, &[], &mut sink),
+        Err(_want) => None,
+    };
+    match answer {
+        Some(status) => status,
+        None => unmade(&mut sink),
     }
 }
 
