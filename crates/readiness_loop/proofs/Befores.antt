@@ -82,16 +82,18 @@ kept_sweep f (n ∷ ns) ss answers p = rw (kept_visit f n ss _ p, kept_sweep f n
 no_ticks : (r : Rules) (m : ℕ) (ss : List Session) → is_due m (until ss) ≡ false → KeepsAll (visited r m Tick) ss
 unfolding KeepsAll until visited
 no_ticks r m [] p = tt
-no_ticks r m (s ∷ ss) p =
-    (λ a. rw (not_due_first m (deadline_of s.end) s.closing (not_due_first m (wakes s) (until ss) p)) refl,
-    no_ticks r m ss (not_due_second m (wakes s) (until ss) p))
+no_ticks r m (s ∷ ss) p = (
+  λ a. rw (not_due_first m (deadline_of s.end) s.closing (not_due_first m (wakes s) (until ss) p)) refl,
+  no_ticks r m ss (not_due_second m (wakes s) (until ss) p),
+)
 
 no_closings : (r : Rules) (m : ℕ) (ss : List Session) → is_due m (until ss) ≡ false → KeepsAll (visited r m Expire) ss
 unfolding KeepsAll until visited
 no_closings r m [] p = tt
-no_closings r m (s ∷ ss) p =
-    (λ a. rw (not_due_second m (deadline_of s.end) s.closing (not_due_first m (wakes s) (until ss) p)) refl,
-    no_closings r m ss (not_due_second m (wakes s) (until ss) p))
+no_closings r m (s ∷ ss) p = (
+  λ a. rw (not_due_second m (deadline_of s.end) s.closing (not_due_first m (wakes s) (until ss) p)) refl,
+  no_closings r m ss (not_due_second m (wakes s) (until ss) p),
+)
 
 before_nothing : (r : Rules) (m : ℕ) (ss : List Session) (a : Sweeps) → is_due m (until ss) ≡ false → before r m ss a ≡ still ss
 unfolding before

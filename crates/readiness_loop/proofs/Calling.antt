@@ -21,7 +21,7 @@ use Rattle.loop_session.specs.declared.loop_fault.LoopFault.TheVariants.{Wires, 
 use Rattle.loop_visit.specs.Acting.{Seen, Acted, BreaksAt, Did, Stopped, Does}
 use Rattle.loop_visit.specs.Visiting.{left, Visits}
 use Rattle.readiness_loop.specs.Books.{sessions, AreSeated}
-use Rattle.readiness_loop.specs.Courses.{Around, around, Came, Went, WentOff, Acts, loop_of, course_of, opening, Opened, Opens, halt_if}
+use Rattle.readiness_loop.specs.Courses.{Around, around, Came, Went, WentOff, loop_of, course_of, opening, Opened, Opens, halt_if}
 use Rattle.readiness_loop.proofs.Sequences.{SaysSame, acted_as, breaks_as}
 use Rattle.readiness_loop.proofs.Acceptings.{last_user, other_ones, no_sessions, length_sessions}
 use Rattle.readiness_loop.proofs.Openings.{OpensNone, served_opens}
@@ -81,16 +81,20 @@ open_called a b plan caller l new ss users mind conn (Err fault) has is did =
     breaks_as a b o (changed (with_sessions (one_less l)) o) fault (record { entries = refl; calls = refl }) did.breaks in
     record { answers = did.answers; breaks = subst (λ (z : Option Mind). BreaksAt a b (called_by z plan caller l conn did.answers) fault) (sym next_is) breaks }
 
-pub open_unserved : {T : Type 0} (a b : Seen) (plan : Plan) (caller : Caller) (l new : Loop) (conn : ℕ) (r : Result T LoopFault)
-    → l.users ≡ [] → new ≡ l → Acts a b l (turned_away l conn (event.Unserved 0)) r → Does a b new (called plan caller l conn) r
+pub unserved_breaks : (a b : Seen) (plan : Plan) (caller : Caller) (l : Loop) (conn : ℕ) (fault : LoopFault)
+    → l.users ≡ [] → BreaksAt a b (turned_away l conn (event.Unserved 0)) fault → Stopped a b (called plan caller l conn) fault
 unfolding called
-open_unserved a b plan caller l new conn (Ok done) none same p =
+unserved_breaks a b plan caller l conn fault none p =
+    let none_is : next_user l.users ≡ None = ap next_user none in
+    record { answers = nothing_met; breaks = subst (λ (z : Option Mind). BreaksAt a b (called_by z plan caller l conn nothing_met) fault) (sym none_is) p }
+
+pub unserved_did : (a b : Seen) (plan : Plan) (caller : Caller) (l new : Loop) (conn : ℕ)
+    → l.users ≡ [] → new ≡ l → Acted a b l (turned_away l conn (event.Unserved 0)) → Did a b new (called plan caller l conn)
+unfolding called
+unserved_did a b plan caller l new conn none same p =
     let none_is : next_user l.users ≡ None = ap next_user none in
     let acted : Acted a b new (turned_away l conn (event.Unserved 0)) = subst (λ z. Acted a b z (turned_away l conn (event.Unserved 0))) (sym same) p in
     record { answers = nothing_met; is = subst (λ (z : Option Mind). Acted a b new (called_by z plan caller l conn nothing_met)) (sym none_is) acted }
-open_unserved a b plan caller l new conn (Err fault) none same p =
-    let none_is : next_user l.users ≡ None = ap next_user none in
-    record { answers = nothing_met; breaks = subst (λ (z : Option Mind). BreaksAt a b (called_by z plan caller l conn nothing_met) fault) (sym none_is) p }
 
 called_by_opens : (o : Option Mind) (plan : Plan) (caller : Caller) (l : Loop) (conn : ℕ) (a : Met) → OpensNone (called_by o plan caller l conn a)
 unfolding opened_in turns_of

@@ -63,7 +63,7 @@ ran_on laws plan caller m k b minds words conn l new count why p q =
     let r = run plan e w.answers in
     let came = came_next m k b c o (λ z. run plan z w.answers) l new 0 count None why p.went.is w.is in
     let t : RunsSo plan r = laws.turns plan e w.answers
-        (record { turns = sym p.went.is.turns; halt = sym p.went.is.halt; moment = called_moment plan caller (record c.loop { moment = max 0 x.0 }) conn x.1 }) in
+    (record { turns = sym p.went.is.turns; halt = sym p.went.is.halt; moment = called_moment plan caller (record c.loop { moment = max 0 x.0 }) conn x.1 }) in
     let none : turns_of (o.calls ++ r.calls) ≡ turns_of r.calls = turns_of-append o.calls r.calls ∙ ap (λ z. z ++ turns_of r.calls) (opening_opens plan caller c conn x).1 in
     record {
       answers = met_so conn x w.answers;
@@ -118,6 +118,7 @@ key_holds engine rbc first kmac p =
   where
     below : (x y : ℕ) → x ≤ y → nat_le x y ≡ true
     below x y q = grind (arith, nat_tests, q)
+
     same : (x : ℕ) → (x == x) ≡ true
     same x = grind (arith, nat_tests)
 
@@ -215,15 +216,17 @@ dial_begun : (plan : Plan) (caller : Caller) (a m b : Around) (minds : List Mind
 unfolding printed
 dial_begun plan caller a m b minds words address conn x is begun breaks =
     let c = beginning minds words in
-    let o = whole plan caller c conn x in
-    (record {
-      answers = x;
-      begun = subst (λ z. IsBegun (outside_of a) (outside_of b) plan z) (sym (dials_is plan caller c address conn x is))
-          (record {
-            text = part_then a.seen.held m.seen.held b.seen.held (header plan.settings) (text o.entries) begun.text breaks.0;
-            calls = began_then a.seen m.seen b.seen (wires.Dials address (Some conn) ∷ []) o.calls begun.calls (tt, tt) (first_counts a.seen.failed m.seen.failed address conn begun.failed) breaks.1;
-          });
-    }, rose_past a.seen.sunk m.seen.sunk b.seen.sunk begun.sunk breaks.2)
+    let o = whole plan caller c conn x in (
+      record {
+        answers = x;
+        begun = subst (λ z. IsBegun (outside_of a) (outside_of b) plan z) (sym (dials_is plan caller c address conn x is))
+            (record {
+              text = part_then a.seen.held m.seen.held b.seen.held (header plan.settings) (text o.entries) begun.text breaks.0;
+              calls = began_then a.seen m.seen b.seen (wires.Dials address (Some conn) ∷ []) o.calls begun.calls (tt, tt) (first_counts a.seen.failed m.seen.failed address conn begun.failed) breaks.1;
+            });
+      },
+      rose_past a.seen.sunk m.seen.sunk b.seen.sunk begun.sunk breaks.2,
+    )
 
 -- the run, however it ended
 pub dial_ran : (laws : Laws) (engine rbc : ℕ) (kmac : TripleKey) (plan : Plan) (a m k b : Around) (minds : List Mind) (words : Stream) (address : List ℕ) (conn : ℕ) (l new : Loop) (count : ℕ) (r : Result Served LoopFault)
@@ -236,11 +239,12 @@ unfolding met_so
 dial_ran laws engine rbc kmac plan a m k b minds words address conn l new count (Ok served) allowed keys number top above begun p later q =
     dial_done laws engine rbc kmac plan a m b minds words address conn new served.turns (halt_for served.why) allowed keys number top above begun
     (ran_on laws plan (caller_of engine kmac) m k b minds words conn l new served.turns (halt_for served.why) p q)
-dial_ran laws engine rbc kmac plan a m k b minds words address conn l new count (Err Wires) allowed keys number top above begun p later q =
-    (LineFailed count (dial_done laws engine rbc kmac plan a m b minds words address conn new count (Some OnFailed) allowed keys number top above begun
-    (ran_on laws plan (caller_of engine kmac) m k b minds words conn l new count (Some OnFailed) p (λ asked. (q asked).went))),
-    (let x : a.turns_failed ≤ m.turns_failed = begun.turns_failed in let y : m.turns_failed ≤ k.turns_failed = p.went.is.failed in
-    rose_past a.turns_failed k.turns_failed b.turns_failed (omega (arith, x, y)) (q []).rose))
+dial_ran laws engine rbc kmac plan a m k b minds words address conn l new count (Err Wires) allowed keys number top above begun p later q = (
+  LineFailed count (dial_done laws engine rbc kmac plan a m b minds words address conn new count (Some OnFailed) allowed keys number top above begun
+      (ran_on laws plan (caller_of engine kmac) m k b minds words conn l new count (Some OnFailed) p (λ asked. (q asked).went))),
+  (let x : a.turns_failed ≤ m.turns_failed = begun.turns_failed in let y : m.turns_failed ≤ k.turns_failed = p.went.is.failed in
+      rose_past a.turns_failed k.turns_failed b.turns_failed (omega (arith, x, y)) (q []).rose),
+)
 dial_ran laws engine rbc kmac plan a m k b minds words address conn l new count (Err Sink) allowed keys number top above begun p later q =
     let caller = caller_of engine kmac in
     let c = beginning minds words in
@@ -282,27 +286,31 @@ dial_header_stops plan caller a b minds words address conn Wires told less p = a
 dial_header_stops plan caller a b minds words address conn Sink told less p =
     let c = beginning minds words in
     let x = met_so conn (0, nothing_met) [] in
-    let o = whole plan caller c conn x in
-    (record {
-      answers = x;
-      begun = subst (λ z. IsBegun (outside_of a) (outside_of b) plan z) (sym (dials_is plan caller c address conn x refl))
-          (record {
-            text = part_more a.seen.held b.seen.held (header plan.settings) (text o.entries) p.0;
-            calls = record { part = wires.Dials address (Some conn) ∷ []; rest = o.calls; is = refl; told = told; answered = (tt, tt); counted = first_counts a.seen.failed b.seen.failed address conn less };
-          });
-    }, p.1)
+    let o = whole plan caller c conn x in (
+      record {
+        answers = x;
+        begun = subst (λ z. IsBegun (outside_of a) (outside_of b) plan z) (sym (dials_is plan caller c address conn x refl))
+            (record {
+              text = part_more a.seen.held b.seen.held (header plan.settings) (text o.entries) p.0;
+              calls = record { part = wires.Dials address (Some conn) ∷ []; rest = o.calls; is = refl; told = told; answered = (tt, tt); counted = first_counts a.seen.failed b.seen.failed address conn less };
+            });
+      },
+      p.1,
+    )
 dial_header_stops plan caller a b minds words address conn (NoMemory want) told less p = p
 
 -- it never dialled
 pub never_dials : (plan : Plan) (caller : Caller) (a b : Around) (minds : List Mind) (words : Stream) (address : List ℕ)
     → b.seen.held ≡ a.seen.held → Grew a.seen.calls b.seen.calls (wires.Dials address None ∷ []) → b.asked ≡ a.asked → Rose a.turns_failed b.turns_failed
     → Dials plan caller a b minds words address (Err Wires)
-never_dials plan caller a b minds words address held told asked rose =
-    (NotDialling (record {
-      text = subst (λ z. Grew a.seen.held z []) (sym held) (grew_nothing a.seen.held);
-      calls = told;
-      clock = subst (λ z. Grew a.asked z []) (sym asked) (grew_nothing a.asked);
-    }), rose)
+never_dials plan caller a b minds words address held told asked rose = (
+  NotDialling (record {
+    text = subst (λ z. Grew a.seen.held z []) (sym held) (grew_nothing a.seen.held);
+    calls = told;
+    clock = subst (λ z. Grew a.asked z []) (sym asked) (grew_nothing a.asked);
+  }),
+  rose,
+)
 
 -- ---- as a function has them
 

@@ -45,7 +45,7 @@ pub go_came : (plan : Plan) (a m b : Around) (l new : Loop) (ss : List Session) 
     → at ≡ max l.moment first → Grew a.asked m.asked (first ∷ []) → Did a.seen m.seen ss (before (rules_of plan) at l.sessions)
     → m.newest ≡ a.newest → m.turns_failed ≡ a.turns_failed → None ≡ halt_by plan ss
     → Went (turned_unless None plan (course_of (record l { sessions = ss; moment = at }) n (asked ++ first ∷ []))) m b
-        (course_of (record l { sessions = ss; moment = at }) n (asked ++ first ∷ [])) new count h
+    (course_of (record l { sessions = ss; moment = at }) n (asked ++ first ∷ [])) new count h
     → Went (went plan (course_of l n asked)) a b (course_of l n asked) new count h
 unfolding went
 go_came plan a m b l new ss n count first at asked h moment clock did top fails none q =

@@ -49,11 +49,12 @@ seated_more : (newest n k : ℕ) (slots now : Slab Session) (es : List (ℕ × �
     → get now k ≡ Some s → s.number ≡ n → newest ≤ n → AreSeated n now (es ++ (n, k) ∷ [])
 unfolding AreSeated
 seated_more newest n k slots now [] s p free h at is low = (omega arith, subst (λ z. IsSeat n z) (sym at) is, tt, tt)
-seated_more newest n k slots now (e ∷ es) s p free h at is low =
-    (let under : e.0 ≤ newest = p.0 in omega (arith, under, low),
-    subst (λ z. IsSeat e.0 z) (sym (h e.1 free.0)) p.1,
-    apart_more e.1 n k es p.2 (λ same. free.0 (sym same)),
-    seated_more newest n k slots now es s p.3 free.1 h at is low)
+seated_more newest n k slots now (e ∷ es) s p free h at is low = (
+  let under : e.0 ≤ newest = p.0 in omega (arith, under, low),
+  subst (λ z. IsSeat e.0 z) (sym (h e.1 free.0)) p.1,
+  apart_more e.1 n k es p.2 (λ same. free.0 (sym same)),
+  seated_more newest n k slots now es s p.3 free.1 h at is low,
+)
 
 -- the slab had room made first, which changes no slot
 same_slots : (slots mid : Slab Session) (room : ℕ) → mid ≡ record slots { capacity = room } → (j : ℕ) → get mid j ≡ get slots j

@@ -129,7 +129,7 @@ serve_done laws plan a m b minds words address new count why allowed begun w =
       turns = serves_turns laws plan m b minds words address new count why w;
     }
 
-rose_past : (x y z : ℕ) → x ≤ y → Rose y z → Rose x z
+pub rose_past : (x y z : ℕ) → x ≤ y → Rose y z → Rose x z
 rose_past x y z p q = omega (arith, p, q)
 
 first_counts : (x y : ℕ) (address : List ℕ) → x ≤ y → Counts x y (Listens address true ∷ [])
@@ -154,9 +154,10 @@ pub serve_ran : (laws : Laws) (plan : Plan) (a m b : Around) (minds : List Mind)
     → AllAllowed plan.settings → HasBegun plan (Listens address true) a m → Runs plan m b (beginning minds words) new count r → Serves plan a b minds words address r
 serve_ran laws plan a m b minds words address new count (Ok served) allowed begun q =
     serve_done laws plan a m b minds words address new served.turns (halt_for served.why) allowed begun q
-serve_ran laws plan a m b minds words address new count (Err Wires) allowed begun q =
-    (TurnFailed count (serve_done laws plan a m b minds words address new count (Some OnFailed) allowed begun q.went),
-    rose_past a.turns_failed m.turns_failed b.turns_failed begun.turns_failed q.rose)
+serve_ran laws plan a m b minds words address new count (Err Wires) allowed begun q = (
+  TurnFailed count (serve_done laws plan a m b minds words address new count (Some OnFailed) allowed begun q.went),
+  rose_past a.turns_failed m.turns_failed b.turns_failed begun.turns_failed q.rose,
+)
 serve_ran laws plan a m b minds words address new count (Err Sink) allowed begun q =
     (serve_off plan a m b minds words address begun q, rose_past a.seen.sunk m.seen.sunk b.seen.sunk begun.sunk q.breaks.2)
 serve_ran laws plan a m b minds words address new count (Err (NoMemory want)) allowed begun q =
@@ -188,12 +189,14 @@ header_stops plan a b minds words address (NoMemory want) told less p = p
 pub never_listens : (plan : Plan) (a b : Around) (minds : List Mind) (words : Stream) (address : List ℕ)
     → b.seen.held ≡ a.seen.held → Grew a.seen.calls b.seen.calls (Listens address false ∷ []) → b.asked ≡ a.asked → Rose a.turns_failed b.turns_failed
     → Serves plan a b minds words address (Err Wires)
-never_listens plan a b minds words address held told asked rose =
-    (NotListening (record {
-      text = subst (λ z. Grew a.seen.held z []) (sym held) (grew_nothing a.seen.held);
-      calls = told;
-      clock = subst (λ z. Grew a.asked z []) (sym asked) (grew_nothing a.asked);
-    }), rose)
+never_listens plan a b minds words address held told asked rose = (
+  NotListening (record {
+    text = subst (λ z. Grew a.seen.held z []) (sym held) (grew_nothing a.seen.held);
+    calls = told;
+    clock = subst (λ z. Grew a.asked z []) (sym asked) (grew_nothing a.asked);
+  }),
+  rose,
+)
 
 -- ---- as a function has them
 

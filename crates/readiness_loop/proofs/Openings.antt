@@ -28,9 +28,10 @@ turns_of-append [] ys = refl
 turns_of-append (x ∷ xs) ys = ap (λ z. turn_of x ++ z) (turns_of-append xs ys) ∙ sym (append_assoc (turn_of x) (turns_of xs) (turns_of ys))
 
 next_opens : {S T : Type 0} (o : Out S) (f : S → Out T) → OpensNone o → OpensNone (f o.state) → OpensNone (next o f)
-next_opens o f p q =
-    (opened_in-append o.calls (f o.state).calls ∙ ap (λ z. z ++ opened_in (f o.state).calls) p.0 ∙ q.0,
-    turns_of-append o.calls (f o.state).calls ∙ ap (λ z. z ++ turns_of (f o.state).calls) p.1 ∙ q.1)
+next_opens o f p q = (
+  opened_in-append o.calls (f o.state).calls ∙ ap (λ z. z ++ opened_in (f o.state).calls) p.0 ∙ q.0,
+  turns_of-append o.calls (f o.state).calls ∙ ap (λ z. z ++ turns_of (f o.state).calls) p.1 ∙ q.1,
+)
 
 writes_if_opens : (w : Flow) (s : Session) (a : WriteAnswer) → OpensNone (writes_if w s a)
 unfolding opened_in turns_of
@@ -76,7 +77,7 @@ unfolding rests
 rests_opens r m s a = next_opens (written r m s a) settled (written_opens r m s a) (settled_opens (written r m s a).state)
 
 pub served_opens : (r : Rules) (m : ℕ) (s : Session) (g : Given) (a : Met) → OpensNone (served r m s g a)
-unfolding served 
+unfolding served
 served_opens r m s g a = rests_opens r m _ a.wrote
 
 behind_opens : (g : Reading) (r : Rules) (m : ℕ) (s : Session) (a : Wrote) → OpensNone (rests_behind g r m s a)
@@ -121,7 +122,7 @@ swept_opens r m v (n ∷ ns) ss answers =
     next_opens (visit_at (visited r m v) n ss (first_of nothing_met answers)) (λ now. swept (visited r m v) ns now (drop 1 answers)) (visit_none r m v n ss (first_of nothing_met answers)) (swept_opens r m v ns _ (drop 1 answers))
 
 before_none : (r : Rules) (m : ℕ) (ss : List Session) (a : Sweeps) → OpensNone (before r m ss a)
-unfolding before 
+unfolding before
 before_none r m ss a =
     next_opens (swept (visited r m Tick) (numbers ss) ss a.ticks) (λ now. swept (visited r m Expire) (numbers now) now a.closings)
     (swept_opens r m Tick (numbers ss) ss a.ticks) (swept_opens r m Expire _ _ a.closings)

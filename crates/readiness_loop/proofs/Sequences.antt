@@ -87,9 +87,11 @@ began_more a b cs ds p = record {
 
 pub breaks_first : {S T : Type 0} (a b : Seen) (o : Out S) (f : S → Out T) (fault : LoopFault) → BreaksAt a b o fault → BreaksAt a b (next o f) fault
 breaks_first a b o f Wires p = p
-breaks_first a b o f Sink p =
-    (subst (λ z. GrewPart a.held b.held z) (sym (text-append o.entries (f o.state).entries)) (part_more a.held b.held (text o.entries) (text (f o.state).entries) p.0),
-    began_more a b o.calls (f o.state).calls p.1, p.2)
+breaks_first a b o f Sink p = (
+  subst (λ z. GrewPart a.held b.held z) (sym (text-append o.entries (f o.state).entries)) (part_more a.held b.held (text o.entries) (text (f o.state).entries) p.0),
+  began_more a b o.calls (f o.state).calls p.1,
+  p.2,
+)
 breaks_first a b o f (NoMemory want) p = p
 
 -- the second part breaks off
@@ -109,8 +111,10 @@ rose_after x y z p q = omega (arith, p, q)
 pub breaks_then : {S T : Type 0} (a b c : Seen) (x : S) (o : Out S) (f : S → Out T) (fault : LoopFault) → Acted a b x o → BreaksAt b c (f o.state) fault
     → BreaksAt a c (next o f) fault
 breaks_then a b c x o f Wires p q = q
-breaks_then a b c x o f Sink p q =
-    (subst (λ z. GrewPart a.held c.held z) (sym (text-append o.entries (f o.state).entries))
-    (part_then a.held b.held c.held (text o.entries) (text (f o.state).entries) p.printed q.0),
-    began_then a b c o.calls (f o.state).calls p.told p.answered p.counted q.1, rose_after a.sunk b.sunk c.sunk p.later q.2)
+breaks_then a b c x o f Sink p q = (
+  subst (λ z. GrewPart a.held c.held z) (sym (text-append o.entries (f o.state).entries))
+      (part_then a.held b.held c.held (text o.entries) (text (f o.state).entries) p.printed q.0),
+  began_then a b c o.calls (f o.state).calls p.told p.answered p.counted q.1,
+  rose_after a.sunk b.sunk c.sunk p.later q.2,
+)
 breaks_then a b c x o f (NoMemory want) p q = (let h : a.sunk ≤ b.sunk = p.later in let k : b.sunk ≤ c.sunk = q in omega arith)

@@ -165,7 +165,15 @@ impl<U: SafeUser> Book<U> {
             Ok(()) => {}
             Err(want) => return Err(LoopFault::NoMemory(want)),
         }
-        self.visit_all(sequence.as_slice(), reason, keys, when, scratch, wires, sink)
+        self.visit_all(
+            sequence.as_slice(),
+            reason,
+            keys,
+            when,
+            scratch,
+            wires,
+            sink,
+        )
     }
 
     // The sessions of these numbers are visited, one after the other.

@@ -115,5 +115,7 @@ pub fn dial<W: Wires, C: Clock, R: Rng, S: Sink>(
         turns: plan.turns,
         dials: true,
     };
-    dial_users(alloc, &pair, &loop_plan, address, users, wires, clock, randoms, sink)
+    dial_users(
+        alloc, &pair, &loop_plan, address, users, wires, clock, randoms, sink,
+    )
 }

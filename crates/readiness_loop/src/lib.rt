@@ -13,6 +13,8 @@ mod loop_plan;
 mod one_pair;
 mod opening;
 mod serving;
+#[cfg(test)]
+mod tests;
 
 pub use dialling::dial;
 pub use line_plan::{LinePlan, Served, Stop};

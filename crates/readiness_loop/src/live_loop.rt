@@ -64,8 +64,8 @@ fn has_come(at: Option<u64>, moment: u64) -> bool
 
 // What follows a happening.
 fn next_behind(happening: Happening, has_closed: bool) -> Result<Next, LoopFault>
-        ensures { (why : Option Halt) → why ≡ (if has_closed then Some OnClosed else None) → HaltsSo result (halt_after happening why) }
-    {
+    ensures { (why : Option Halt) → why ≡ (if has_closed then Some OnClosed else None) → HaltsSo result (halt_after happening why) }
+{
     match happening {
         Happening::Ended => Ok(Next::Ended),
         Happening::Failed => Err(LoopFault::Wires),
@@ -132,11 +132,27 @@ impl<U: SafeUser> LiveLoop<U> {
             setup: plan.settings.setup,
         };
         let book = &mut self.book;
-        match book.sweep(Visit::Tick, &mut self.numbers, keys, when, &mut self.scratch, wires, sink) {
+        match book.sweep(
+            Visit::Tick,
+            &mut self.numbers,
+            keys,
+            when,
+            &mut self.scratch,
+            wires,
+            sink,
+        ) {
             Ok(()) => {}
             Err(fault) => return Err(fault),
         }
-        match book.sweep(Visit::Expire, &mut self.numbers, keys, when, &mut self.scratch, wires, sink) {
+        match book.sweep(
+            Visit::Expire,
+            &mut self.numbers,
+            keys,
+            when,
+            &mut self.scratch,
+            wires,
+            sink,
+        ) {
             Ok(()) => Ok(self.book.until()),
             Err(fault) => Err(fault),
         }
@@ -277,11 +293,27 @@ impl<U: SafeUser> LiveLoop<U> {
             Happening::Accepted(conn) => self.accept(alloc, conn, plan, wires, randoms, sink),
             Happening::Readable(conn) => {
                 let book = &mut self.book;
-                book.visit(conn.0, Visit::Read, keys, when, &mut self.scratch, wires, sink)
+                book.visit(
+                    conn.0,
+                    Visit::Read,
+                    keys,
+                    when,
+                    &mut self.scratch,
+                    wires,
+                    sink,
+                )
             }
             Happening::Writable(conn) => {
                 let book = &mut self.book;
-                book.visit(conn.0, Visit::Write, keys, when, &mut self.scratch, wires, sink)
+                book.visit(
+                    conn.0,
+                    Visit::Write,
+                    keys,
+                    when,
+                    &mut self.scratch,
+                    wires,
+                    sink,
+                )
             }
             Happening::Quiet => Ok(()),
             Happening::Ended => Ok(()),

@@ -64,14 +64,30 @@ impl<U: SafeUser> LiveLoop<U> {
     {
         let rb = randoms.next_u64();
         let (engine, rbc) = (pair.engine, plan.rbc);
-        let end = match End::call(alloc, &plan.settings, engine, rbc, pair.kmac, rb, self.moment) {
+        let end = match End::call(
+            alloc,
+            &plan.settings,
+            engine,
+            rbc,
+            pair.kmac,
+            rb,
+            self.moment,
+        ) {
             Ok(end) => end,
             Err(want) => return Err(LoopFault::NoMemory(want)),
         };
         let mut session = Session::begin(alloc, conn.0, end, user);
         let call = Called { engine, rbc, rb };
         let when = When::of(self.moment, &plan.settings);
-        match begin_call(&mut session, &call, pair, when, &mut self.scratch, wires, sink) {
+        match begin_call(
+            &mut session,
+            &call,
+            pair,
+            when,
+            &mut self.scratch,
+            wires,
+            sink,
+        ) {
             Ok(true) => {}
             Ok(false) => return Ok(false),
             Err(fault) => return Err(fault),

@@ -121,5 +121,7 @@ pub fn serve<W: Wires, C: Clock, R: Rng, S: Sink>(
         turns: plan.turns,
         dials: false,
     };
-    serve_users(alloc, keys, &loop_plan, address, users, wires, clock, randoms, sink)
+    serve_users(
+        alloc, keys, &loop_plan, address, users, wires, clock, randoms, sink,
+    )
 }

@@ -5,7 +5,7 @@ use Rattle.readiness_loop.specs.Books.{sessions}
 use Rattle.readiness_loop.specs.Claims.{pair_of}
 use Rattle.readiness_loop.specs.Courses.{plan_of, caller_of, loop_of, around}
 use Rattle.readiness_loop.proofs.Acceptings.{no_seats, same_loop, empty_list}
-use Rattle.readiness_loop.proofs.Calling.{open_called, open_unserved, called_state, halts_so, halts_away, opened_from}
+use Rattle.readiness_loop.proofs.Calling.{open_called, unserved_did, unserved_breaks, called_state, halts_so, halts_away, opened_from}
 use Rattle.readiness_loop.proofs.live_loop.LiveLoop.open.Goals as goal
 
 pub returns-in-Some-clause-does : goal.returns-in-Some-clause-does
@@ -39,11 +39,11 @@ returns-in-Ok-clause-does g c = λ asked.
     (loop_of c.args.self.now.book.slots c.args.self.now.book.places (map g.U.SafeUser.mind c.args.self.now.users.items) c.args.self.now.moment (g.R.Rng.stream c.args.randoms.now))
     (loop_of c.turn_away.new.self.book.slots c.turn_away.new.self.book.places (map g.U.SafeUser.mind c.turn_away.new.self.users.items) c.turn_away.new.self.moment (g.R.Rng.stream c.args.randoms.now)) c.args.self.now.turns c.turn_away.new.self.turns c.max-self.result c.now.result c.args.conn.0 asked (Ok false)
     c.turn_away.ensures.turns c.max-self.ensures c.now.ensures.most c.now.ensures.told
-    (open_unserved (seen (g.S.Sink.held c.args.sink.now) (g.S.Sink.faults c.args.sink.now) (g.W.Wires.calls c.args.wires.now) (g.W.Wires.faults c.args.wires.now))
+    (unserved_did (seen (g.S.Sink.held c.args.sink.now) (g.S.Sink.faults c.args.sink.now) (g.W.Wires.calls c.args.wires.now) (g.W.Wires.faults c.args.wires.now))
     (seen (g.S.Sink.held c.turn_away.new.sink) (g.S.Sink.faults c.turn_away.new.sink) (g.W.Wires.calls c.turn_away.new.wires) (g.W.Wires.faults c.turn_away.new.wires))
     (plan_of (pair_of c.args.pair.now.engine c.args.pair.now.rbc c.args.pair.now.kmac ∷ []) c.args.plan.now) (caller_of c.args.pair.now.engine c.args.pair.now.kmac)
     (loop_of c.args.self.now.book.slots c.args.self.now.book.places (map g.U.SafeUser.mind c.args.self.now.users.items) c.max-self.result (g.R.Rng.stream c.args.randoms.now))
-    (loop_of c.turn_away.new.self.book.slots c.turn_away.new.self.book.places (map g.U.SafeUser.mind c.turn_away.new.self.users.items) c.turn_away.new.self.moment (g.R.Rng.stream c.args.randoms.now)) c.args.conn.0 (Ok c.in-Ok.field-0) (ap (map g.U.SafeUser.mind) none)
+    (loop_of c.turn_away.new.self.book.slots c.turn_away.new.self.book.places (map g.U.SafeUser.mind c.turn_away.new.self.users.items) c.turn_away.new.self.moment (g.R.Rng.stream c.args.randoms.now)) c.args.conn.0 (ap (map g.U.SafeUser.mind) none)
     (same_loop c.args.self.now.book.slots c.turn_away.new.self.book.slots c.args.self.now.book.places c.turn_away.new.self.book.places _ _ c.max-self.result c.turn_away.new.self.moment _
     (ap (λ b. b.slots) c.turn_away.ensures.book) (ap (λ b. b.places) c.turn_away.ensures.book)
     (ap (λ v. map g.U.SafeUser.mind v.items) c.turn_away.ensures.users ∙ ap (map g.U.SafeUser.mind) same) c.turn_away.ensures.moment)
@@ -59,21 +59,16 @@ pub returns-in-Err-clause-does : goal.returns-in-Err-clause-does
 returns-in-Err-clause-does g c = λ asked.
     let length_is : length c.args.self.now.users.items ≡ vec_len c.args.self.now.users = search rules in
     let none : c.args.self.now.users.items ≡ [] = empty_list c.args.self.now.users.items (length_is ∙ c.in-None.ensures.cases.0) in
-    let same : c.pop.new.self.items ≡ c.args.self.now.users.items = sym (append-nil c.pop.new.self.items) ∙ sym c.in-None.ensures.items in
     opened_from (plan_of (pair_of c.args.pair.now.engine c.args.pair.now.rbc c.args.pair.now.kmac ∷ []) c.args.plan.now) (caller_of c.args.pair.now.engine c.args.pair.now.kmac)
     (around (seen (g.S.Sink.held c.args.sink.now) (g.S.Sink.faults c.args.sink.now) (g.W.Wires.calls c.args.wires.now) (g.W.Wires.faults c.args.wires.now)) (g.W.Wires.turn_faults c.args.wires.now) (g.W.Wires.opened c.args.wires.now) (g.C.Clock.answers c.args.clock.now))
     (around (seen (g.S.Sink.held c.turn_away.new.sink) (g.S.Sink.faults c.turn_away.new.sink) (g.W.Wires.calls c.turn_away.new.wires) (g.W.Wires.faults c.turn_away.new.wires)) (g.W.Wires.turn_faults c.turn_away.new.wires) (g.W.Wires.opened c.turn_away.new.wires) (g.C.Clock.answers c.now.new.self))
     (loop_of c.args.self.now.book.slots c.args.self.now.book.places (map g.U.SafeUser.mind c.args.self.now.users.items) c.args.self.now.moment (g.R.Rng.stream c.args.randoms.now))
     (loop_of c.turn_away.new.self.book.slots c.turn_away.new.self.book.places (map g.U.SafeUser.mind c.turn_away.new.self.users.items) c.turn_away.new.self.moment (g.R.Rng.stream c.args.randoms.now)) c.args.self.now.turns c.turn_away.new.self.turns c.max-self.result c.now.result c.args.conn.0 asked (Err c.in-Err.fault)
     c.turn_away.ensures.turns c.max-self.ensures c.now.ensures.most c.now.ensures.told
-    (open_unserved (seen (g.S.Sink.held c.args.sink.now) (g.S.Sink.faults c.args.sink.now) (g.W.Wires.calls c.args.wires.now) (g.W.Wires.faults c.args.wires.now))
+    (unserved_breaks (seen (g.S.Sink.held c.args.sink.now) (g.S.Sink.faults c.args.sink.now) (g.W.Wires.calls c.args.wires.now) (g.W.Wires.faults c.args.wires.now))
     (seen (g.S.Sink.held c.turn_away.new.sink) (g.S.Sink.faults c.turn_away.new.sink) (g.W.Wires.calls c.turn_away.new.wires) (g.W.Wires.faults c.turn_away.new.wires))
     (plan_of (pair_of c.args.pair.now.engine c.args.pair.now.rbc c.args.pair.now.kmac ∷ []) c.args.plan.now) (caller_of c.args.pair.now.engine c.args.pair.now.kmac)
     (loop_of c.args.self.now.book.slots c.args.self.now.book.places (map g.U.SafeUser.mind c.args.self.now.users.items) c.max-self.result (g.R.Rng.stream c.args.randoms.now))
-    (loop_of c.turn_away.new.self.book.slots c.turn_away.new.self.book.places (map g.U.SafeUser.mind c.turn_away.new.self.users.items) c.turn_away.new.self.moment (g.R.Rng.stream c.args.randoms.now)) c.args.conn.0 (Err c.in-Err.fault) (ap (map g.U.SafeUser.mind) none)
-    (same_loop c.args.self.now.book.slots c.turn_away.new.self.book.slots c.args.self.now.book.places c.turn_away.new.self.book.places _ _ c.max-self.result c.turn_away.new.self.moment _
-    (ap (λ b. b.slots) c.turn_away.ensures.book) (ap (λ b. b.places) c.turn_away.ensures.book)
-    (ap (λ v. map g.U.SafeUser.mind v.items) c.turn_away.ensures.users ∙ ap (map g.U.SafeUser.mind) same) c.turn_away.ensures.moment)
+    c.args.conn.0 c.in-Err.fault (ap (map g.U.SafeUser.mind) none)
     (c.in-Err.ensures.does (loop_of c.args.self.now.book.slots c.args.self.now.book.places (map g.U.SafeUser.mind c.args.self.now.users.items) c.max-self.result (g.R.Rng.stream c.args.randoms.now)) refl))
     c.turn_away.ensures.opened c.turn_away.ensures.turn_count tt
-
