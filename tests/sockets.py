@@ -72,6 +72,8 @@ with tempfile.TemporaryDirectory() as work:
             break
         except OSError:
             time.sleep(0.05)
+    else:
+        sys.exit(f"nobody listens at {address}")
     # one client sends 100,000 random octets, one closes in mid-frame, one never reads
     noise = connected(port)
     noise.sendall(os.urandom(100_000))
