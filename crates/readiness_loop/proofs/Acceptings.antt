@@ -1,0 +1,207 @@
+-- A connection that was accepted gets a session, or is turned away; and what is handled whole behind a turn.
+use Rattle.std.proofs.Common.{◌≡◌, ℕ, ◌+◌, ◌-◌, ◌^◌, ◌<◌, ◌≤◌, nat_lt, min, Bool, true, false, List, [], ◌∷◌, ◌++◌, Option, Some, None, Result, Ok, Err, OnOk, length, map, take, zero, suc, slice_get, refl, sym, ◌∙◌, ap, subst, arith, append-nil, length-append}
+use Rattle.std.proofs.lemmas.List.{map-append}
+use Rattle.std.proofs.lemmas.Bool.Decides.{nat_tests}
+use Rattle.rand_core.specs.Stream.{Stream, next_u64}
+use Rattle.slab.specs.Slab.{Slab, get}
+use Rattle.er_settings.specs.declared.settings.Settings.{Settings}
+use Rattle.er_trace.specs.declared.event.Event.{Event}
+use Rattle.er_trace.specs.declared.event.Event.TheVariants as event
+use Rattle.er_users.specs.Users.{Mind}
+use Rattle.link_trait.specs.Outside.{Grew, GrewPart, Rose}
+use Rattle.link_trait.specs.Growth.{grew_nothing}
+use Rattle.link_trait.specs.Wires.{Call, Closes}
+use Rattle.loop_model.specs.Journals.{Entry, text}
+use Rattle.loop_model.specs.Outs.{Out, still}
+use Rattle.loop_model.specs.Laws.{failures}
+use Rattle.loop_model.specs.Sessions.{Session}
+use Rattle.loop_model.specs.Visits.{Met, nothing_met}
+use Rattle.loop_model.specs.Loops.{Plan, Loop, turned_away, next_user, other_users, answered_by, accepted, most_live}
+use Rattle.loop_session.specs.Parts.{Breaks, Puts}
+use Rattle.loop_session.specs.declared.loop_fault.LoopFault.{LoopFault}
+use Rattle.loop_session.specs.declared.loop_fault.LoopFault.TheVariants.{Wires, Sink, NoMemory}
+use Rattle.loop_visit.specs.Acting.{Seen, seen, AreAnsweredSo, Counts, Acted, Began, BreaksAt}
+use Rattle.readiness_loop.specs.Books.{seat, seats, sessions, sessions_at, IsSeat, AreSeated}
+use Rattle.std.specs.BTreeMap.{BTreeMap}
+use Rattle.readiness_loop.specs.Courses.{Acts, answer_event, answered, loop_of}
+use Rattle.readiness_loop.proofs.Sequences.{failures-none}
+
+failures-close : (conn : ℕ) → failures (Closes conn ∷ []) ≡ 0
+unfolding failures
+failures-close conn = refl
+
+began_nothing : (h i : Option (List ℕ)) (f g : ℕ) (calls : Option (List Call)) (failed : ℕ) (all : List Call)
+    → Began (seen h f calls failed) (seen i g calls failed) all
+began_nothing h i f g calls failed all = record {
+  part = [];
+  rest = all;
+  is = refl;
+  told = grew_nothing calls;
+  answered = tt;
+  counted = rw failures-none (omega arith);
+}
+
+-- a line that wasn't written whole
+pub line_breaks : {S : Type 0} (h i : Option (List ℕ)) (f g : ℕ) (calls : Option (List Call)) (failed : ℕ) (o : Out S) (line : List ℕ) (fault : LoopFault)
+    → line ≡ text o.entries → Breaks h i f g line fault → BreaksAt (seen h f calls failed) (seen i g calls failed) o fault
+line_breaks h i f g calls failed o line Wires is p = p
+line_breaks h i f g calls failed o line Sink is p =
+    (subst (λ z. GrewPart h i z) is p.0, began_nothing h i f g calls failed o.calls, p.1)
+line_breaks h i f g calls failed o line (NoMemory want) is p = p
+
+-- the event of a connection that is turned away
+abbrev away_event : ℕ → ℕ → Event → Entry
+away_event m conn why = record { moment = m; conn = conn; event = why; outcomes = [] }
+
+pub away_breaks : (h i : Option (List ℕ)) (f g : ℕ) (calls : Option (List Call)) (failed : ℕ) (l : Loop) (m conn : ℕ) (why : Event) (fault : LoopFault)
+    → l.moment ≡ m → Breaks h i f g (text (away_event m conn why ∷ [])) fault
+    → BreaksAt (seen h f calls failed) (seen i g calls failed) (turned_away l conn why) fault
+away_breaks h i f g calls failed l m conn why fault is p =
+    line_breaks h i f g calls failed (turned_away l conn why) (text (away_event m conn why ∷ [])) fault (ap (λ z. text (away_event z conn why ∷ [])) (sym is)) p
+
+pub away_acted : (h i : Option (List ℕ)) (f g : ℕ) (calls now : Option (List Call)) (x y : ℕ) (l : Loop) (m conn : ℕ) (why : Event)
+    → l.moment ≡ m → Grew h i (text (away_event m conn why ∷ [])) × (f ≤ g) → Grew calls now (Closes conn ∷ []) → x ≤ y
+    → Acted (seen h f calls x) (seen i g now y) l (turned_away l conn why)
+away_acted h i f g calls now x y l m conn why is p q less = record {
+  state = refl;
+  printed = subst (λ z. Grew h i (text (away_event z conn why ∷ []))) (sym is) p.0;
+  later = p.1;
+  told = q;
+  answered = (tt, tt);
+  counted = rw (failures-close conn) (omega (arith, less));
+}
+
+-- ---- accepted
+
+pub length_sessions : (newest : ℕ) (slots : Slab Session) (es : List (ℕ × ℕ)) → AreSeated newest slots es → length (sessions_at slots es) ≡ length es
+unfolding seats AreSeated
+length_sessions newest slots [] p = refl
+length_sessions newest slots (e ∷ es) p = of_seat (get slots e.1) p.1 (length_sessions newest slots es p.3)
+  where
+    of_seat : (o : Option Session) → IsSeat e.0 o → length (sessions_at slots es) ≡ length es → length (seat o (sessions_at slots es)) ≡ length (e ∷ es)
+    of_seat None q h = absurd q
+    of_seat (Some s) q h = omega (arith, h)
+
+not_below : (n : ℕ) → 256 ≤ n → nat_lt n 256 ≡ false
+not_below n p = grind (arith, nat_tests, p)
+
+is_below : (n : ℕ) → n < 256 → nat_lt n 256 ≡ true
+is_below n p = grind (arith, nat_tests, p)
+
+acts_as : {T : Type 0} (a b : Seen) (x y : Loop) (o p : Out Loop) (r : Result T LoopFault) → y ≡ x → o ≡ p → Acts a b x o r → Acts a b y p r
+acts_as a b x y o p r same is q = subst (λ z. Acts a b z p r) (sym same) (subst (λ z. Acts a b x z r) is q)
+
+pub accept_full : {T : Type 0} (a b : Seen) (plan : Plan) (l new : Loop) (conn : ℕ) (r : Result T LoopFault)
+    → 256 ≤ length l.sessions → new ≡ l → Acts a b l (turned_away l conn (event.Full 256)) r → Acts a b new (accepted plan l conn) r
+unfolding accepted
+accept_full a b plan l new conn r many same p =
+    acts_as a b l new (turned_away l conn (event.Full 256)) _ r same (sym (rw (not_below (length l.sessions) many) refl)) p
+
+pub last_user : (ms : List Mind) (m : Mind) → next_user (ms ++ m ∷ []) ≡ Some m
+last_user ms m = at_end ms (length (ms ++ m ∷ []) - 1) (let h = length-append ms (m ∷ []) in omega (arith, h))
+  where
+    at_end : (ms : List Mind) (i : ℕ) → i ≡ length ms → slice_get (ms ++ m ∷ []) i ≡ Some m
+    at_end [] zero p = refl
+    at_end [] (suc i) p = absurd (let q : suc i ≡ 0 = p in omega (arith, q))
+    at_end (n ∷ ms) zero p = absurd (let q : 0 ≡ length (n ∷ ms) = p in omega (arith, q))
+    at_end (n ∷ ms) (suc i) p = at_end ms i (omega (arith, p))
+
+pub other_ones : (ms : List Mind) (m : Mind) → other_users (ms ++ m ∷ []) ≡ ms
+other_ones ms m = up_to ms (length (ms ++ m ∷ []) - 1) (let h = length-append ms (m ∷ []) in omega (arith, h))
+  where
+    up_to : (ms : List Mind) (i : ℕ) → i ≡ length ms → take i (ms ++ m ∷ []) ≡ ms
+    up_to [] zero p = refl
+    up_to [] (suc i) p = absurd (let q : suc i ≡ 0 = p in omega (arith, q))
+    up_to (n ∷ ms) zero p = absurd (let q : 0 ≡ length (n ∷ ms) = p in omega (arith, q))
+    up_to (n ∷ ms) (suc i) p = ap (λ z. n ∷ z) (up_to ms i (omega (arith, p)))
+
+pub accept_unserved : {T : Type 0} (a b : Seen) (plan : Plan) (l new : Loop) (conn : ℕ) (r : Result T LoopFault)
+    → length l.sessions < 256 → l.users ≡ [] → new ≡ l → Acts a b l (turned_away l conn (event.Unserved plan.handed)) r
+    → Acts a b new (accepted plan l conn) r
+unfolding accepted
+accept_unserved a b plan l new conn r few none same p =
+    acts_as a b l new (turned_away l conn (event.Unserved plan.handed)) _ r same
+    (sym (rw (is_below (length l.sessions) few) (ap (λ z. answered_by z plan l conn) (ap next_user none)))) p
+
+-- the loop behind it
+abbrev pub answered_loop : Plan → Loop → List Mind → Mind → ℕ → Loop
+answered_loop plan l users mind conn = record {
+  sessions = l.sessions ++ answered l.words plan.settings plan.rbc l.moment conn mind ∷ [];
+  users = users;
+  moment = l.moment;
+  words = (next_u64 l.words).1;
+}
+
+-- by the result of writing the line
+answered_by_result : {T : Type 0} (h i : Option (List ℕ)) (f g : ℕ) (calls : Option (List Call)) (failed : ℕ) (plan : Plan) (l new : Loop) (users : List Mind) (mind : Mind) (conn : ℕ) (r : Result T LoopFault)
+    → l.users ≡ users ++ mind ∷ [] → answered_by (Some mind) plan l conn ≡ accepted plan l conn
+    → Puts h i f g (text (answer_event l.words plan.rbc l.moment conn ∷ [])) r
+    → OnOk r (new ≡ answered_loop plan l users mind conn)
+    → Acts (seen h f calls failed) (seen i g calls failed) new (accepted plan l conn) r
+answered_by_result h i f g calls failed plan l new users mind conn (Ok done) has same p is =
+    subst (λ z. Acted (seen h f calls failed) (seen i g calls failed) new z) same
+    (record {
+      state = is ∙ ap (λ (z : List Mind). answered_loop plan l z mind conn) (sym (ap other_users has ∙ other_ones users mind));
+      printed = p.0;
+      later = p.1;
+      told = grew_nothing calls;
+      answered = tt;
+      counted = rw failures-none (omega arith);
+    })
+answered_by_result h i f g calls failed plan l new users mind conn (Err fault) has same p is =
+    subst (λ z. BreaksAt (seen h f calls failed) (seen i g calls failed) z fault) same
+    (line_breaks h i f g calls failed (answered_by (Some mind) plan l conn) (text (answer_event l.words plan.rbc l.moment conn ∷ [])) fault refl p)
+
+pub accept_answered : {T : Type 0} (h i : Option (List ℕ)) (f g : ℕ) (calls : Option (List Call)) (failed : ℕ) (plan : Plan) (l new : Loop) (users : List Mind) (mind : Mind) (conn : ℕ) (r : Result T LoopFault)
+    → length l.sessions < 256 → l.users ≡ users ++ mind ∷ []
+    → Puts h i f g (text (answer_event l.words plan.rbc l.moment conn ∷ [])) r
+    → OnOk r (new ≡ answered_loop plan l users mind conn)
+    → Acts (seen h f calls failed) (seen i g calls failed) new (accepted plan l conn) r
+unfolding accepted
+accept_answered h i f g calls failed plan l new users mind conn r few has p is =
+    let o : Out Loop = answered_by (Some mind) plan l conn in
+    let same : o ≡ accepted plan l conn = sym (rw (is_below (length l.sessions) few) (ap (λ z. answered_by z plan l conn) (ap next_user has ∙ last_user users mind))) in
+    answered_by_result h i f g calls failed plan l new users mind conn r has same p is
+
+-- ---- what a function's other clauses say
+
+pub same_loop : (slots slots' : Slab Session) (places places' : BTreeMap ℕ ℕ) (users users' : List Mind) (m m' : ℕ) (words : Stream)
+    → slots' ≡ slots → places' ≡ places → users' ≡ users → m' ≡ m → loop_of slots' places' users' m' words ≡ loop_of slots places users m words
+same_loop slots slots' places places' users users' m m' words p q r s = rw (p, q, r, s) refl
+
+pub seated_up : (low top : ℕ) (slots : Slab Session) (es : List (ℕ × ℕ)) → low ≤ top → AreSeated low slots es → AreSeated top slots es
+unfolding AreSeated
+seated_up low top slots [] p q = tt
+seated_up low top slots (e ∷ es) p q = (let h : e.0 ≤ low = q.0 in omega (arith, h, p), q.1, q.2, seated_up low top slots es p q.3)
+
+pub away_seated : {T : Type 0} (conn : ℕ) (slots slots' : Slab Session) (places places' : BTreeMap ℕ ℕ) (r : Result T LoopFault)
+    → slots' ≡ slots → places' ≡ places → AreSeated (conn - 1) slots places.entries → OnOk r (AreSeated conn slots' places'.entries)
+away_seated conn slots slots' places places' (Ok done) p q s =
+    rw (p, q) (seated_up (conn - 1) conn slots places.entries (omega arith) s)
+away_seated conn slots slots' places places' (Err fault) p q s = tt
+
+pub answered_state : {T : Type 0} (plan : Plan) (l : Loop) (slots : Slab Session) (places : BTreeMap ℕ ℕ) (users users' : List Mind) (m : ℕ) (words : Stream) (mind : Mind) (conn : ℕ) (r : Result T LoopFault)
+    → OnOk r (sessions slots places ≡ l.sessions ++ answered l.words plan.settings plan.rbc l.moment conn mind ∷ []) → OnOk r (words ≡ (next_u64 l.words).1)
+    → users' ≡ users → m ≡ l.moment → OnOk r (loop_of slots places users' m words ≡ answered_loop plan l users mind conn)
+answered_state plan l slots places users users' m words mind conn (Ok done) p q r s = rw (p, q, r, s) refl
+answered_state plan l slots places users users' m words mind conn (Err fault) p q r s = tt
+
+pub few_sessions : (newest n : ℕ) (slots : Slab Session) (es : List (ℕ × ℕ)) → AreSeated newest slots es → n ≡ length es → n < 256 → length (sessions_at slots es) < 256
+few_sessions newest n slots es p q r = (let h = length_sessions newest slots es p in omega (arith, h, q, r))
+
+pub many_sessions : (newest n : ℕ) (slots : Slab Session) (es : List (ℕ × ℕ)) → AreSeated newest slots es → n ≡ length es → 256 ≤ n → 256 ≤ length (sessions_at slots es)
+many_sessions newest n slots es p q r = (let h = length_sessions newest slots es p in omega (arith, h, q, r))
+
+pub empty_list : {A : Type 0} (xs : List A) → length xs ≡ 0 → xs ≡ []
+empty_list [] p = refl
+empty_list (x ∷ xs) p = absurd (let q : length (x ∷ xs) ≡ 0 = p in omega (arith, q))
+
+-- ---- the book of a loop that begins
+
+pub no_sessions : (slots : Slab Session) (places : BTreeMap ℕ ℕ) → places.entries ≡ [] → sessions slots places ≡ []
+unfolding seats
+no_sessions slots places p = rw p refl
+
+pub no_seats : (top : ℕ) (slots : Slab Session) (es : List (ℕ × ℕ)) → es ≡ [] → AreSeated top slots es
+unfolding AreSeated
+no_seats top slots es p = rw p tt

@@ -1,0 +1,196 @@
+-- One turn with what comes before it.
+use Rattle.std.proofs.Common.{◌≡◌, ℕ, ◌+◌, ◌≤◌, max, Bool, true, false, List, [], ◌∷◌, ◌++◌, Option, Some, None, Result, Ok, Err, length, refl, sym, ◌∙◌, ap, subst, arith, append-nil, append_assoc}
+use Rattle.std.specs.Prelude.{◌==◌, ◌&&◌, if◌then◌else◌}
+use Rattle.link_trait.specs.Outside.{Grew, Rose}
+use Rattle.link_trait.specs.Growth.{grew_then}
+use Rattle.link_trait.specs.Wires.{Call}
+use Rattle.loop_model.specs.Outs.{Out, still, next}
+use Rattle.loop_model.specs.Sessions.{Session}
+use Rattle.loop_model.specs.Loops.{Plan, Loop, rules_of, before, Halt, OnClosed, OnFailed, halt_by, Course, Turn, readied, turned_unless, went, nothing_comes}
+use Rattle.loop_model.specs.Parts.{opened_in, Rises, newest}
+use Rattle.loop_session.specs.declared.loop_fault.LoopFault.{LoopFault}
+use Rattle.loop_session.specs.declared.loop_fault.LoopFault.TheVariants.{Wires, Sink, NoMemory}
+use Rattle.loop_visit.specs.Acting.{Seen, Acted, BreaksAt, Did, Stopped}
+use Rattle.readiness_loop.specs.declared.live_loop.Next.{Next}
+use Rattle.readiness_loop.specs.Courses.{Around, Came, Went, WentOff, WentWrong, Turned, Turns, halt_of, course_of}
+use Rattle.readiness_loop.proofs.Sequences.{SaysSame, acted_as, acted_still, acted_then, breaks_as, breaks_first, breaks_then}
+use Rattle.readiness_loop.proofs.Openings.{opened_in-append, before_opens}
+use Rattle.readiness_loop.proofs.Turning.{closed_is}
+
+-- the course behind what comes before a turn, where these sessions are left
+abbrev readied_to : Plan → Loop → ℕ → List ℕ → ℕ → List Session → Course
+readied_to plan l n asked first ss = record {
+  loop = record l { sessions = ss; moment = max l.moment first };
+  turns = n;
+  halt = halt_by plan ss;
+  asked = asked ++ first ∷ [];
+}
+
+readied_acted : (plan : Plan) (a m : Seen) (l : Loop) (ss : List Session) (n first at : ℕ) (asked : List ℕ) (t : Turn)
+    → at ≡ max l.moment first → (did : Did a m ss (before (rules_of plan) at l.sessions))
+    → Acted a m (readied_to plan l n asked first ss) (readied plan (course_of l n asked) (record t { first = first; sweeps = did.answers }))
+unfolding readied
+readied_acted plan a m l ss n first at asked t moment did =
+    let x : Turn = record t { first = first; sweeps = did.answers } in
+    let o = before (rules_of plan) (max l.moment first) l.sessions did.answers in
+    let is : Acted a m ss o = subst (λ z. Acted a m ss (before (rules_of plan) z l.sessions did.answers)) moment did.is in
+    acted_as a m ss (readied_to plan l n asked first ss) o (readied plan (course_of l n asked) x) (record { entries = refl; calls = refl })
+    (ap (readied_to plan l n asked first) is.state) is
+
+readied_opens : (plan : Plan) (c : Course) (x : Turn) → opened_in (readied plan c x).calls ≡ []
+unfolding readied
+readied_opens plan c x = before_opens (rules_of plan) (max c.loop.moment x.first) c.loop.sessions x.sweeps
+
+pub go_came : (plan : Plan) (a m b : Around) (l new : Loop) (ss : List Session) (n count first at : ℕ) (asked : List ℕ) (h : Option Halt)
+    → at ≡ max l.moment first → Grew a.asked m.asked (first ∷ []) → Did a.seen m.seen ss (before (rules_of plan) at l.sessions)
+    → m.newest ≡ a.newest → m.turns_failed ≡ a.turns_failed → None ≡ halt_by plan ss
+    → Went (turned_unless None plan (course_of (record l { sessions = ss; moment = at }) n (asked ++ first ∷ []))) m b
+    (course_of (record l { sessions = ss; moment = at }) n (asked ++ first ∷ [])) new count h
+    → Went (went plan (course_of l n asked)) a b (course_of l n asked) new count h
+unfolding went
+go_came plan a m b l new ss n count first at asked h moment clock did top fails none q =
+    let x : Turn = record q.answers { first = first; sweeps = did.answers } in
+    let c = course_of l n asked in
+    let r = readied plan c x in
+    let c1 = course_of (record l { sessions = ss; moment = at }) n (asked ++ first ∷ []) in
+    let acted = readied_acted plan a.seen m.seen l ss n first at asked q.answers moment did in
+    let there : c1 ≡ r.state =
+    ap (λ (z : ℕ). course_of (record l { sessions = ss; moment = z }) n (asked ++ first ∷ [])) moment
+    ∙ ap (λ (z : Option Halt). let d : Course = record { loop = record l { sessions = ss; moment = max l.moment first }; turns = n; halt = z; asked = asked ++ first ∷ [] } in d) none
+    ∙ acted.state in
+    let is : Came m b c1 new count h (turned_unless r.state.halt plan r.state x) =
+    subst (λ (z : Course). Came m b c1 new count h (turned_unless z.halt plan z x)) there q.is in
+    let o = turned_unless r.state.halt plan r.state x in
+    let calls_are : opened_in (r.calls ++ o.calls) ≡ opened_in o.calls = opened_in-append r.calls o.calls ∙ ap (λ z. z ++ opened_in o.calls) (readied_opens plan c x) in
+    record {
+      answers = x;
+      is = record {
+        loop = is.loop;
+        turns = is.turns;
+        halt = is.halt;
+        acted = acted_then a.seen m.seen b.seen (readied_to plan l n asked first ss) o.state r (λ z. turned_unless z.halt plan z x) acted is.acted;
+        more = first ∷ is.more;
+        asked = is.asked ∙ append_assoc asked (first ∷ []) is.more;
+        answered = grew_then a.asked m.asked b.asked (first ∷ []) is.more clock is.answered;
+        opened = is.opened ∙ ap (λ z. newest z (opened_in o.calls)) top ∙ ap (newest a.newest) (sym calls_are);
+        rises = subst (λ z. Rises a.newest z) (sym calls_are) (subst (λ z. Rises z (opened_in o.calls)) top is.rises);
+        failed = (let p : m.turns_failed ≤ b.turns_failed = is.failed in omega (arith, p, fails));
+      };
+    }
+
+pub go_off : (plan : Plan) (a m b : Around) (l : Loop) (ss : List Session) (n first at : ℕ) (asked : List ℕ)
+    → at ≡ max l.moment first → Did a.seen m.seen ss (before (rules_of plan) at l.sessions) → None ≡ halt_by plan ss
+    → WentOff (turned_unless None plan (course_of (record l { sessions = ss; moment = at }) n (asked ++ first ∷ []))) m b
+    → WentOff (went plan (course_of l n asked)) a b
+unfolding went
+go_off plan a m b l ss n first at asked moment did none q =
+    let x : Turn = record q.answers { first = first; sweeps = did.answers } in
+    let c = course_of l n asked in
+    let r = readied plan c x in
+    let c1 = course_of (record l { sessions = ss; moment = at }) n (asked ++ first ∷ []) in
+    let acted = readied_acted plan a.seen m.seen l ss n first at asked q.answers moment did in
+    let there : c1 ≡ r.state =
+    ap (λ (z : ℕ). course_of (record l { sessions = ss; moment = z }) n (asked ++ first ∷ [])) moment
+    ∙ ap (λ (z : Option Halt). let d : Course = record { loop = record l { sessions = ss; moment = max l.moment first }; turns = n; halt = z; asked = asked ++ first ∷ [] } in d) none
+    ∙ acted.state in
+    record {
+      answers = x;
+      breaks = breaks_then a.seen m.seen b.seen (readied_to plan l n asked first ss) r (λ z. turned_unless z.halt plan z x) Sink acted
+          (subst (λ (z : Course). BreaksAt m.seen b.seen (turned_unless z.halt plan z x) Sink) there q.breaks);
+    }
+
+pub go_on : (plan : Plan) (a m b : Around) (l new : Loop) (ss : List Session) (n count first at : ℕ) (asked : List ℕ) (r : Result Next LoopFault)
+    → at ≡ max l.moment first → Grew a.asked m.asked (first ∷ []) → Did a.seen m.seen ss (before (rules_of plan) at l.sessions)
+    → m.newest ≡ a.newest → m.turns_failed ≡ a.turns_failed → None ≡ halt_by plan ss
+    → Turned plan m b (course_of (record l { sessions = ss; moment = at }) n (asked ++ first ∷ [])) new count r
+    → Turns plan a b (course_of l n asked) new count r
+go_on plan a m b l new ss n count first at asked (Ok then_) moment clock did top fails none q =
+    go_came plan a m b l new ss n count first at asked (halt_of then_) moment clock did top fails none q
+go_on plan a m b l new ss n count first at asked (Err Wires) moment clock did top fails none q = record {
+  went = go_came plan a m b l new ss n count first at asked (Some OnFailed) moment clock did top fails none q.went;
+  rose = subst (λ z. Rose z b.turns_failed) fails q.rose;
+}
+go_on plan a m b l new ss n count first at asked (Err Sink) moment clock did top fails none q = go_off plan a m b l ss n first at asked moment did none q
+go_on plan a m b l new ss n count first at asked (Err (NoMemory want)) moment clock did top fails none q =
+    (let x : a.seen.sunk ≤ m.seen.sunk = did.is.later in let y : m.seen.sunk ≤ b.seen.sunk = q in omega (arith, x, y))
+
+-- what comes before the turn broke off
+pub go_stops : (plan : Plan) (a b : Around) (l new : Loop) (n count first at : ℕ) (asked : List ℕ) (fault : LoopFault)
+    → at ≡ max l.moment first → Stopped a.seen b.seen (before (rules_of plan) at l.sessions) fault
+    → Turns plan a b (course_of l n asked) new count (Err fault)
+unfolding went readied
+go_stops plan a b l new n count first at asked Wires moment p = absurd p.breaks
+go_stops plan a b l new n count first at asked Sink moment p =
+    let x : Turn = record nothing_comes { first = first; sweeps = p.answers } in
+    let c = course_of l n asked in
+    let o = before (rules_of plan) (max l.moment first) l.sessions p.answers in
+    let breaks : BreaksAt a.seen b.seen o Sink = subst (λ z. BreaksAt a.seen b.seen (before (rules_of plan) z l.sessions p.answers) Sink) moment p.breaks in
+    record {
+      answers = x;
+      breaks = breaks_first a.seen b.seen (readied plan c x) (λ z. turned_unless z.halt plan z x) Sink
+          (breaks_as a.seen b.seen o (readied plan c x) Sink (record { entries = refl; calls = refl }) breaks);
+    }
+go_stops plan a b l new n count first at asked (NoMemory want) moment p = p.breaks
+
+-- it closed the one connection of a dial
+pub go_closed : (plan : Plan) (a b : Around) (l : Loop) (ss : List Session) (n first at : ℕ) (asked : List ℕ)
+    → at ≡ max l.moment first → Grew a.asked b.asked (first ∷ []) → Did a.seen b.seen ss (before (rules_of plan) at l.sessions)
+    → b.newest ≡ a.newest → b.turns_failed ≡ a.turns_failed → Some OnClosed ≡ halt_by plan ss
+    → Went (went plan (course_of l n asked)) a b (course_of l n asked) (record l { sessions = ss; moment = at }) n (Some OnClosed)
+unfolding went
+go_closed plan a b l ss n first at asked moment clock did top fails halts =
+    let x : Turn = record nothing_comes { first = first; sweeps = did.answers } in
+    let c = course_of l n asked in
+    let r = readied plan c x in
+    let acted = readied_acted plan a.seen b.seen l ss n first at asked nothing_comes moment did in
+    let halted : Some OnClosed ≡ r.state.halt = halts ∙ ap (λ (z : Course). z.halt) acted.state in
+    let stays : still r.state ≡ turned_unless r.state.halt plan r.state x = ap (λ z. turned_unless z plan r.state x) halted in
+    let all : Out Course = next r (λ z. still z) in
+    let whole : all ≡ next r (λ z. turned_unless z.halt plan z x) =
+    ap (λ (z : Out Course). let o : Out Course = record { state = z.state; entries = r.entries ++ z.entries; calls = r.calls ++ z.calls } in o) stays in
+    let calls_are : opened_in (r.calls ++ []) ≡ [] = ap opened_in (append-nil r.calls) ∙ readied_opens plan c x in
+    record {
+      answers = x;
+      is = subst (λ z. Came a b c (record l { sessions = ss; moment = at }) n (Some OnClosed) z) whole
+          (record {
+            loop = ap (λ (z : ℕ). let k : Loop = record l { sessions = ss; moment = z } in k) moment ∙ ap (λ (z : Course). z.loop) acted.state;
+            turns = ap (λ (z : Course). z.turns) acted.state;
+            halt = halted;
+            acted = acted_then a.seen b.seen b.seen (readied_to plan l n asked first ss) r.state r (λ z. still z) acted (acted_still b.seen r.state r.state refl);
+            more = first ∷ [];
+            asked = sym (ap (λ (z : Course). z.asked) acted.state);
+            answered = clock;
+            opened = top ∙ ap (newest a.newest) (sym calls_are);
+            rises = subst (λ z. Rises a.newest z) (sym calls_are) tt;
+            failed = omega (arith, fails);
+          });
+    }
+
+-- ---- the same, by the facts as a function has them
+
+pub not_closed : (plan : Plan) (ss : List Session) (n : ℕ) (b : Bool) → b ≡ (plan.dials && (n == 0)) → length ss ≡ n → b ≡ false → None ≡ halt_by plan ss
+not_closed plan ss n b p q r = sym (closed_is plan ss n b p q ∙ ap (λ (z : Bool). if z then Some OnClosed else None) r)
+
+pub closed_now : (plan : Plan) (ss : List Session) (n : ℕ) (b : Bool) → b ≡ (plan.dials && (n == 0)) → length ss ≡ n → b ≡ true → Some OnClosed ≡ halt_by plan ss
+closed_now plan ss n b p q r = sym (closed_is plan ss n b p q ∙ ap (λ (z : Bool). if z then Some OnClosed else None) r)
+
+pub go_on_from : (plan : Plan) (a m b : Around) (l l1 new : Loop) (ss : List Session) (n n1 count first at : ℕ) (asked : List ℕ) (r : Result Next LoopFault)
+    → at ≡ max l.moment first → Grew a.asked m.asked (first ∷ []) → Did a.seen m.seen ss (before (rules_of plan) at l.sessions)
+    → m.newest ≡ a.newest → m.turns_failed ≡ a.turns_failed → None ≡ halt_by plan ss
+    → l1 ≡ record l { sessions = ss; moment = at } → n1 ≡ n
+    → Turned plan m b (course_of l1 n1 (asked ++ first ∷ [])) new count r
+    → Turns plan a b (course_of l n asked) new count r
+go_on_from plan a m b l l1 new ss n n1 count first at asked r moment clock did top fails none is same q =
+    go_on plan a m b l new ss n count first at asked r moment clock did top fails none
+    (subst (λ z. Turned plan m b (course_of (record l { sessions = ss; moment = at }) z (asked ++ first ∷ [])) new count r) same
+    (subst (λ z. Turned plan m b (course_of z n1 (asked ++ first ∷ [])) new count r) is q))
+
+pub go_closed_from : (plan : Plan) (a b : Around) (l l1 : Loop) (ss : List Session) (n n1 first at : ℕ) (asked : List ℕ)
+    → at ≡ max l.moment first → Grew a.asked b.asked (first ∷ []) → Did a.seen b.seen ss (before (rules_of plan) at l.sessions)
+    → b.newest ≡ a.newest → b.turns_failed ≡ a.turns_failed → Some OnClosed ≡ halt_by plan ss
+    → l1 ≡ record l { sessions = ss; moment = at } → n1 ≡ n
+    → Went (went plan (course_of l n asked)) a b (course_of l n asked) l1 n1 (Some OnClosed)
+go_closed_from plan a b l l1 ss n n1 first at asked moment clock did top fails halts is same =
+    subst (λ z. Went (went plan (course_of l n asked)) a b (course_of l n asked) l1 z (Some OnClosed)) (sym same)
+    (subst (λ z. Went (went plan (course_of l n asked)) a b (course_of l n asked) z n (Some OnClosed)) (sym is)
+    (go_closed plan a b l ss n first at asked moment clock did top fails halts))

@@ -1,0 +1,14 @@
+mod Sequences
+mod Seats
+mod Openings
+mod Booked
+mod Sweeps
+mod Joining
+mod Befores
+mod Acceptings
+mod Turning
+mod Going
+mod Running
+mod Listening
+mod Calling
+mod Dials

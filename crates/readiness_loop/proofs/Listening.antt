@@ -1,0 +1,245 @@
+-- A loop that serves: it listens, the header is printed, and it runs.
+use Rattle.std.proofs.Common.{◌≡◌, ℕ, ◌+◌, ◌-◌, ◌^◌, ◌<◌, ◌≤◌, min, List, [], ◌∷◌, ◌++◌, Option, Some, None, Result, Ok, Err, refl, sym, ◌∙◌, ap, subst, arith}
+use Rattle.std.specs.Prelude.{true, false, IfOk}
+use Rattle.rand_core.specs.Stream.{Stream}
+use Rattle.slab.specs.Slab.{Slab}
+use Rattle.std.specs.BTreeMap.{BTreeMap}
+use Rattle.er_base.specs.LineTexts.{line_text}
+use Rattle.er_settings.specs.declared.settings.Settings.{Settings}
+use Rattle.er_settings.specs.Ranges.{AllAllowed}
+use Rattle.er_trace.specs.Texts.{header_words}
+use Rattle.loop_model.specs.Sessions.{Session}
+use Rattle.er_users.specs.Users.{Mind}
+use Rattle.link_trait.specs.Outside.{Grew, GrewPart, Rose}
+use Rattle.link_trait.specs.Growth.{grew_nothing, grew_then, part_more, part_then}
+use Rattle.link_trait.specs.Wires.{Call, Listens, given_of, taken_of}
+use Rattle.loop_model.specs.Journals.{header, text}
+use Rattle.loop_model.specs.Outs.{Out, next}
+use Rattle.loop_model.specs.Loops.{Plan, Loop, Halt, OnFailed, Course, Turn, run, beginning, serves, printed}
+use Rattle.loop_model.specs.Parts.{opened_in, Rises, calls_at}
+use Rattle.loop_model.specs.Laws.{ConnectionsAreIsolated, JournalIsPrinted, OctetsAreAccounted, CallsAreOnOpen, FaultsHaveFailed, TurnsAreCounted, IsServing, RunsSo, HasFailed, faults, failures, turns_of, HaltsBy}
+use Rattle.loop_model.specs.Points.{OctetsAreHeard, UsersReply}
+use Rattle.loop_model.specs.Recordings.{RecordingsReplay}
+use Rattle.loop_session.specs.Parts.{Breaks, Puts}
+use Rattle.loop_session.specs.declared.loop_fault.LoopFault.{LoopFault}
+use Rattle.loop_session.specs.declared.loop_fault.LoopFault.TheVariants.{Wires, Sink, NoMemory}
+use Rattle.loop_visit.specs.Acting.{Seen, AreAnsweredSo, Counts, Acted, Began, BreaksAt}
+use Rattle.readiness_loop.specs.declared.line_plan.Served.{Served}
+use Rattle.readiness_loop.specs.Claims.{Outside, IsDone, IsBegun, IsLawful, HasTurns, AreSpoken, HasServed, NotListening, TurnFailed, FailsToServe, BreaksOffServing, halt_for}
+use Rattle.readiness_loop.specs.Courses.{Around, Came, Went, WentOff, WentWrong, Runs, Serves, outside_of, course_of, loop_of}
+use Rattle.readiness_loop.proofs.Sequences.{began_then}
+use Rattle.readiness_loop.proofs.Acceptings.{no_sessions}
+
+-- the laws of the loop, as a function cites them
+pub record Laws : Type 0 where
+  pub isolated : ConnectionsAreIsolated
+  pub printed : JournalIsPrinted
+  pub accounted : OctetsAreAccounted
+  pub on_open : CallsAreOnOpen
+  pub heard : OctetsAreHeard
+  pub replayed : RecordingsReplay
+  pub replies : UsersReply
+  pub faults : FaultsHaveFailed
+  pub turns : TurnsAreCounted
+
+-- a first call was made, and the header was printed
+pub record HasBegun (plan : Plan) (call : Call) (a m : Around) : Type 0 where
+  pub text : Grew a.seen.held m.seen.held (header plan.settings)
+  pub calls : Grew a.seen.calls m.seen.calls (call ∷ [])
+  pub sunk : a.seen.sunk ≤ m.seen.sunk
+  pub failed : a.seen.failed ≤ m.seen.failed
+  pub turns_failed : a.turns_failed ≤ m.turns_failed
+  pub asked : m.asked ≡ a.asked
+
+pub rises_low : (low from : ℕ) (ns : List ℕ) → low ≤ from → Rises from ns → Rises low ns
+rises_low low from [] p q = tt
+rises_low low from (n ∷ ns) p q = (let h : from < n = q.0 in omega (arith, p, h), q.1)
+
+is_serving : (plan : Plan) (m b : Around) (minds : List Mind) (words : Stream) (new : Loop) (count : ℕ) (why : Option Halt)
+    → AllAllowed plan.settings → (w : Went (run plan (beginning minds words)) m b (beginning minds words) new count why)
+    → IsServing plan (beginning minds words) w.answers
+is_serving plan m b minds words new count why allowed w = record {
+  none = refl;
+  rises = rises_low 0 m.newest _ (omega arith) w.is.rises;
+  allowed = allowed;
+}
+
+serves_done : (laws : Laws) (plan : Plan) (a m b : Around) (minds : List Mind) (words : Stream) (address : List ℕ) (new : Loop) (count : ℕ) (why : Option Halt)
+    → HasBegun plan (Listens address true) a m → (w : Went (run plan (beginning minds words)) m b (beginning minds words) new count why)
+    → IsDone (outside_of a) (outside_of b) true plan (serves plan (beginning minds words) address true w.answers)
+unfolding serves printed
+serves_done laws plan a m b minds words address new count why begun w =
+    let o = run plan (beginning minds words) w.answers in
+    record {
+      text = grew_then a.seen.held m.seen.held b.seen.held (header plan.settings) (text o.entries) begun.text w.is.acted.printed;
+      calls = grew_then a.seen.calls m.seen.calls b.seen.calls (Listens address true ∷ []) o.calls begun.calls w.is.acted.told;
+      clock = subst (λ z. Grew z b.asked o.state.asked) begun.asked (subst (λ z. Grew m.asked b.asked z) (sym w.is.asked) w.is.answered);
+      answered = (tt, w.is.acted.answered);
+      faults = (let few : faults o.entries ≤ failures o.calls = laws.faults.serving plan (beginning minds words) w.answers in
+          let less : a.seen.failed ≤ m.seen.failed = begun.failed in
+          let counted : min (m.seen.failed + failures o.calls) (2 ^ 64 - 1) ≤ b.seen.failed = w.is.acted.counted in
+          omega (arith, few, less, counted));
+    }
+
+serves_lawful : (laws : Laws) (plan : Plan) (minds : List Mind) (words : Stream) (address : List ℕ) (turns : List Turn)
+    → IsServing plan (beginning minds words) turns → IsLawful plan (serves plan (beginning minds words) address true turns)
+unfolding serves given_of taken_of calls_at
+serves_lawful laws plan minds words address turns serving = record {
+  isolated = laws.isolated.serving plan (beginning minds words) turns serving;
+  printed = laws.printed.serving plan (beginning minds words) turns serving;
+  accounted = laws.accounted.serving plan (beginning minds words) turns serving;
+  on_open = laws.on_open.serving plan (beginning minds words) turns serving;
+  heard = λ conn.
+      let h = laws.heard.serving plan (beginning minds words) turns serving conn in
+      record { beginning = record { rest = h.beginning.rest; is = h.beginning.is }; all = h.all };
+  replayed = laws.replayed.serving plan (beginning minds words) turns serving;
+}
+
+serves_replies : (laws : Laws) (plan : Plan) (minds : List Mind) (words : Stream) (address : List ℕ) (turns : List Turn)
+    → IsServing plan (beginning minds words) turns → AreSpoken minds (serves plan (beginning minds words) address true turns)
+unfolding serves
+serves_replies laws plan minds words address turns serving = laws.replies.serving plan (beginning minds words) turns serving
+
+serves_turns : (laws : Laws) (plan : Plan) (m b : Around) (minds : List Mind) (words : Stream) (address : List ℕ) (new : Loop) (count : ℕ) (why : Option Halt)
+    → (w : Went (run plan (beginning minds words)) m b (beginning minds words) new count why)
+    → HasTurns plan (serves plan (beginning minds words) address true w.answers) count why
+unfolding serves turns_of
+serves_turns laws plan m b minds words address new count why w =
+    let o = run plan (beginning minds words) w.answers in
+    let t : RunsSo plan o = laws.turns plan (beginning minds words) w.answers (record { turns = refl; halt = refl; moment = refl }) in
+    record {
+      halts = subst (λ z. HaltsBy z (turns_of o.calls)) (sym w.is.halt) t.halts;
+      counted = w.is.turns ∙ t.turns;
+      most = subst (λ z. z ≤ plan.turns) (sym w.is.turns) t.most;
+      all = λ none. w.is.turns ∙ t.all (sym w.is.halt ∙ none);
+      moment = t.moment;
+    }
+
+serve_done : (laws : Laws) (plan : Plan) (a m b : Around) (minds : List Mind) (words : Stream) (address : List ℕ) (new : Loop) (count : ℕ) (why : Option Halt)
+    → AllAllowed plan.settings → HasBegun plan (Listens address true) a m
+    → Went (run plan (beginning minds words)) m b (beginning minds words) new count why
+    → HasServed (outside_of a) (outside_of b) plan address minds words count why
+serve_done laws plan a m b minds words address new count why allowed begun w =
+    let serving = is_serving plan m b minds words new count why allowed w in
+    record {
+      answers = w.answers;
+      done = serves_done laws plan a m b minds words address new count why begun w;
+      lawful = serves_lawful laws plan minds words address w.answers serving;
+      replies = serves_replies laws plan minds words address w.answers serving;
+      turns = serves_turns laws plan m b minds words address new count why w;
+    }
+
+pub rose_past : (x y z : ℕ) → x ≤ y → Rose y z → Rose x z
+rose_past x y z p q = omega (arith, p, q)
+
+first_counts : (x y : ℕ) (address : List ℕ) → x ≤ y → Counts x y (Listens address true ∷ [])
+unfolding failures
+first_counts x y address p = omega (arith, p)
+
+serve_off : (plan : Plan) (a m b : Around) (minds : List Mind) (words : Stream) (address : List ℕ) → HasBegun plan (Listens address true) a m
+    → WentOff (run plan (beginning minds words)) m b → BreaksOffServing (outside_of a) (outside_of b) plan address minds words
+unfolding serves printed
+serve_off plan a m b minds words address begun w =
+    let o = run plan (beginning minds words) w.answers in
+    record {
+      answers = w.answers;
+      begun = record {
+        text = part_then a.seen.held m.seen.held b.seen.held (header plan.settings) (text o.entries) begun.text w.breaks.0;
+        calls = began_then a.seen m.seen b.seen (Listens address true ∷ []) o.calls begun.calls (tt, tt) (first_counts a.seen.failed m.seen.failed address begun.failed) w.breaks.1;
+      };
+    }
+
+-- the run, however it ended
+pub serve_ran : (laws : Laws) (plan : Plan) (a m b : Around) (minds : List Mind) (words : Stream) (address : List ℕ) (new : Loop) (count : ℕ) (r : Result Served LoopFault)
+    → AllAllowed plan.settings → HasBegun plan (Listens address true) a m → Runs plan m b (beginning minds words) new count r → Serves plan a b minds words address r
+serve_ran laws plan a m b minds words address new count (Ok served) allowed begun q =
+    serve_done laws plan a m b minds words address new served.turns (halt_for served.why) allowed begun q
+serve_ran laws plan a m b minds words address new count (Err Wires) allowed begun q = (
+  TurnFailed count (serve_done laws plan a m b minds words address new count (Some OnFailed) allowed begun q.went),
+  rose_past a.turns_failed m.turns_failed b.turns_failed begun.turns_failed q.rose,
+)
+serve_ran laws plan a m b minds words address new count (Err Sink) allowed begun q =
+    (serve_off plan a m b minds words address begun q, rose_past a.seen.sunk m.seen.sunk b.seen.sunk begun.sunk q.breaks.2)
+serve_ran laws plan a m b minds words address new count (Err (NoMemory want)) allowed begun q =
+    (let x : a.seen.sunk ≤ m.seen.sunk = begun.sunk in let y : m.seen.sunk ≤ b.seen.sunk = q in omega (arith, x, y))
+
+-- the header broke off
+header_off : (plan : Plan) (a b : Around) (minds : List Mind) (words : Stream) (address : List ℕ)
+    → Grew a.seen.calls b.seen.calls (Listens address true ∷ []) → a.seen.failed ≤ b.seen.failed → GrewPart a.seen.held b.seen.held (header plan.settings)
+    → BreaksOffServing (outside_of a) (outside_of b) plan address minds words
+unfolding serves printed
+header_off plan a b minds words address told less p =
+    let o = run plan (beginning minds words) [] in
+    record {
+      answers = [];
+      begun = record {
+        text = part_more a.seen.held b.seen.held (header plan.settings) (text o.entries) p;
+        calls = record { part = Listens address true ∷ []; rest = o.calls; is = refl; told = told; answered = (tt, tt); counted = first_counts a.seen.failed b.seen.failed address less };
+      };
+    }
+
+pub header_stops : (plan : Plan) (a b : Around) (minds : List Mind) (words : Stream) (address : List ℕ) (fault : LoopFault)
+    → Grew a.seen.calls b.seen.calls (Listens address true ∷ []) → a.seen.failed ≤ b.seen.failed
+    → Breaks a.seen.held b.seen.held a.seen.sunk b.seen.sunk (header plan.settings) fault → Serves plan a b minds words address (Err fault)
+header_stops plan a b minds words address Wires told less p = absurd p
+header_stops plan a b minds words address Sink told less p = (header_off plan a b minds words address told less p.0, p.1)
+header_stops plan a b minds words address (NoMemory want) told less p = p
+
+-- it never listened
+pub never_listens : (plan : Plan) (a b : Around) (minds : List Mind) (words : Stream) (address : List ℕ)
+    → b.seen.held ≡ a.seen.held → Grew a.seen.calls b.seen.calls (Listens address false ∷ []) → b.asked ≡ a.asked → Rose a.turns_failed b.turns_failed
+    → Serves plan a b minds words address (Err Wires)
+never_listens plan a b minds words address held told asked rose = (
+  NotListening (record {
+    text = subst (λ z. Grew a.seen.held z []) (sym held) (grew_nothing a.seen.held);
+    calls = told;
+    clock = subst (λ z. Grew a.asked z []) (sym asked) (grew_nothing a.asked);
+  }),
+  rose,
+)
+
+-- ---- as a function has them
+
+pub header_put : {T : Type 0} (h i : Option (List ℕ)) (f g : ℕ) (settings : Settings) (before now line : List ℕ) (r : Result T LoopFault)
+    → before ≡ [] → now ≡ before ++ line_text (header_words settings) → line ≡ now → Puts h i f g line r → Puts h i f g (header settings) r
+unfolding header
+header_put h i f g settings before now line r none more is p =
+    subst (λ z. Puts h i f g z r) (is ∙ more ∙ ap (λ z. z ++ line_text (header_words settings)) none) p
+
+pub start_is : (slots : Slab Session) (places : BTreeMap ℕ ℕ) (users minds : List Mind) (m : ℕ) (words : Stream)
+    → places.entries ≡ [] → users ≡ minds → m ≡ 0 → loop_of slots places users m words ≡ (beginning minds words).loop
+start_is slots places users minds m words none same zero = rw (no_sessions slots places none, same, zero) refl
+
+pub serve_ran_from : (laws : Laws) (plan : Plan) (a m b : Around) (minds : List Mind) (words : Stream) (address : List ℕ) (l new : Loop) (count : ℕ) (r : Result Served LoopFault)
+    → AllAllowed plan.settings → HasBegun plan (Listens address true) a m → l ≡ (beginning minds words).loop
+    → Runs plan m b (course_of l 0 []) new count r → Serves plan a b minds words address r
+serve_ran_from laws plan a m b minds words address l new count r allowed begun is q =
+    serve_ran laws plan a m b minds words address new count r allowed begun (subst (λ (z : Loop). Runs plan m b (course_of z 0 []) new count r) is q)
+
+-- ---- the public clauses
+
+pub served_of : (plan : Plan) (a b : Around) (minds : List Mind) (words : Stream) (address : List ℕ) (r : Result Served LoopFault) → Serves plan a b minds words address r
+    → IfOk r (λ served. HasServed (outside_of a) (outside_of b) plan address minds words served.turns (halt_for served.why))
+served_of plan a b minds words address (Ok served) p = p
+served_of plan a b minds words address (Err fault) p = tt
+
+pub failed_of : (plan : Plan) (a b : Around) (minds : List Mind) (words : Stream) (address : List ℕ) (r : Result Served LoopFault) → Serves plan a b minds words address r
+    → r ≡ Err Wires → FailsToServe (outside_of a) (outside_of b) plan address minds words
+failed_of plan a b minds words address r p is = (subst (λ z. Serves plan a b minds words address z) is p).0
+
+pub rose_of : (plan : Plan) (a b : Around) (minds : List Mind) (words : Stream) (address : List ℕ) (r : Result Served LoopFault) → Serves plan a b minds words address r
+    → r ≡ Err Wires → Rose a.turns_failed b.turns_failed
+rose_of plan a b minds words address r p is = (subst (λ z. Serves plan a b minds words address z) is p).1
+
+pub off_of : (plan : Plan) (a b : Around) (minds : List Mind) (words : Stream) (address : List ℕ) (r : Result Served LoopFault) → Serves plan a b minds words address r
+    → r ≡ Err Sink → BreaksOffServing (outside_of a) (outside_of b) plan address minds words
+off_of plan a b minds words address r p is = (subst (λ z. Serves plan a b minds words address z) is p).0
+
+pub sunk_of : (plan : Plan) (a b : Around) (minds : List Mind) (words : Stream) (address : List ℕ) (r : Result Served LoopFault) → Serves plan a b minds words address r
+    → r ≡ Err Sink → Rose a.seen.sunk b.seen.sunk
+sunk_of plan a b minds words address r p is = (subst (λ z. Serves plan a b minds words address z) is p).1
+
+pub failed_as : (plan plan' : Plan) (a b : Around) (minds : List Mind) (words : Stream) (address : List ℕ) (r : Result Served LoopFault) → plan ≡ plan' → Serves plan a b minds words address r
+    → r ≡ Err Wires → FailsToServe (outside_of a) (outside_of b) plan' address minds words
+failed_as plan plan' a b minds words address r same p is =
+    subst (λ z. FailsToServe (outside_of a) (outside_of b) z address minds words) same (failed_of plan a b minds words address r p is)

@@ -1,0 +1,48 @@
+use Rattle.std.proofs.Common.{◌≡◌, Some, None, sym, ◌∙◌}
+use Rattle.loop_model.specs.Visits.{visited}
+use Rattle.loop_session.specs.Parts.{rules}
+use Rattle.loop_visit.specs.Acting.{seen}
+use Rattle.loop_visit.specs.Visiting.{visit_of}
+use Rattle.readiness_loop.proofs.Booked.{nobody_did, empty_did, stays_did, stays_seated, closes_did, closes_seated, stopped_visit}
+use Rattle.readiness_loop.proofs.book.Book.visit.Goals as goal
+
+pub returns-in_default-clause-does : goal.returns-in_default-clause-does
+returns-in_default-clause-does g c =
+    nobody_did _ _ (g.W.Wires.opened c.args.wires.now) c.args.number c.args.self.now.slots c.args.self.now.places c.requires.seated
+    (sym c.get.ensures.value ∙ sym c.in_default.ensures)
+
+pub returns-in_default-get_mut-clause-does : goal.returns-in_default-get_mut-clause-does
+returns-in_default-get_mut-clause-does g c =
+    empty_did _ _ (g.W.Wires.opened c.args.wires.now) c.args.number c.in-Some.slot c.args.self.now.slots c.args.self.now.places c.requires.seated
+    (sym c.get.ensures.value ∙ sym c.in-Some.ensures) (sym c.in_default-get_mut.ensures.value)
+
+pub returns-in-Ok-true-clause-does : goal.returns-in-Ok-true-clause-does
+returns-in-Ok-true-clause-does g c =
+    stays_did _ _ _ (g.W.Wires.opened c.args.wires.now) c.args.number c.in-Some.slot c.args.self.now.slots c.args.self.now.places
+    c.in-Some-get_mut.session.now c.visit_session.new.session c.in-Ok-true.field-0 c.requires.seated
+    (sym c.get.ensures.value ∙ sym c.in-Some.ensures) (sym c.in-Some-get_mut.ensures.value) c.in-Ok-true.field-0-test c.in-Ok-true.ensures.does
+
+pub returns-in-Ok-true-clause-seated : goal.returns-in-Ok-true-clause-seated
+returns-in-Ok-true-clause-seated g c =
+    stays_seated (g.W.Wires.opened c.args.wires.now) (g.W.Wires.opened c.visit_session.new.wires) c.args.number c.in-Some.slot c.args.self.now.slots c.args.self.now.places
+    c.in-Some-get_mut.session.now c.visit_session.new.session c.visit_session.ensures.opened c.requires.seated
+    (sym c.get.ensures.value ∙ sym c.in-Some.ensures) (sym c.in-Some-get_mut.ensures.value) c.visit_session.ensures.number
+
+pub returns-in-Ok-false-clause-does : goal.returns-in-Ok-false-clause-does
+returns-in-Ok-false-clause-does g c =
+    closes_did _ _ _ (g.W.Wires.opened c.args.wires.now) c.args.number c.in-Some.slot c.args.self.now.slots c.try_remove.new.self c.args.self.now.places c.remove.new.self
+    c.in-Some-get_mut.session.now c.visit_session.new.session c.in-Ok-false.field-0 c.requires.seated
+    (sym c.get.ensures.value ∙ sym c.in-Some.ensures) (sym c.in-Some-get_mut.ensures.value) c.in-Ok-false.field-0-test c.in-Ok-false.ensures.does
+    c.remove.ensures.entries c.try_remove.ensures.updates
+
+pub returns-in-Ok-false-clause-seated : goal.returns-in-Ok-false-clause-seated
+returns-in-Ok-false-clause-seated g c =
+    closes_seated (g.W.Wires.opened c.args.wires.now) (g.W.Wires.opened c.visit_session.new.wires) c.args.number c.in-Some.slot c.args.self.now.slots c.try_remove.new.self c.args.self.now.places c.remove.new.self
+    c.in-Some-get_mut.session.now c.visit_session.new.session c.visit_session.ensures.opened c.requires.seated
+    (sym c.get.ensures.value ∙ sym c.in-Some.ensures) (sym c.in-Some-get_mut.ensures.value) c.remove.ensures.entries c.try_remove.ensures.updates
+
+pub returns-in-Err-clause-does : goal.returns-in-Err-clause-does
+returns-in-Err-clause-does g c =
+    stopped_visit _ _ _ (g.W.Wires.opened c.args.wires.now) c.args.number c.in-Some.slot c.args.self.now.slots c.args.self.now.places
+    c.in-Some-get_mut.session.now c.in-Err.fault c.requires.seated
+    (sym c.get.ensures.value ∙ sym c.in-Some.ensures) (sym c.in-Some-get_mut.ensures.value) c.in-Err.ensures.does

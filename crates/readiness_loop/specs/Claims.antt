@@ -1,0 +1,144 @@
+-- What is claimed of a loop that serves and of one that dials: there is a journal, which the sink got behind the header; the calls made on the
+-- wires and the clock's answers are those of that journal; both are what the loop of `loop_model` does for some answers of the outside.
+use Rattle.std.specs.Prelude.{◌≡◌, ℕ, ◌+◌, ◌-◌, ◌^◌, ◌≤◌, min, Bool, true, false, List, [], ◌∷◌, length, Option, Some, None}
+use Rattle.rand_core.specs.Stream.{Stream}
+use Rattle.er_settings.specs.declared.settings.Settings.{Settings}
+use Rattle.des_block.specs.declared.triple_key.TripleKey.{TripleKey}
+use Rattle.safety_automaton.specs.Keys as keys
+use Rattle.er_users.specs.Users.{Mind}
+use Rattle.link_trait.specs.Outside.{Grew, GrewPart, Rose}
+use Rattle.link_trait.specs.Wires.{Call, Listens, Dials}
+use Rattle.loop_model.specs.Outs.{Out}
+use Rattle.loop_model.specs.Loops.{Plan, Halt, OnEnded, OnClosed, OnFailed, Course, Turn, beginning, serves, Caller, Dialled, dials, printed}
+use Rattle.loop_model.specs.Laws.{IsIsolated, IsPrinted, AreAccounted, AreOnOpen, faults, HaltsBy, turns_of, greatest}
+use Rattle.loop_model.specs.Parts.{of}
+use Rattle.loop_model.specs.Points.{AreHeard, user_of, IsSpoken}
+use Rattle.loop_model.specs.Recordings.{IsReplayed}
+use Rattle.loop_visit.specs.Acting.{Seen, Began, AreAnsweredSo}
+use Rattle.readiness_loop.specs.declared.line_plan.LinePlan.{LinePlan}
+use Rattle.readiness_loop.specs.declared.line_plan.Stop.{Stop}
+use Rattle.readiness_loop.specs.declared.line_plan.Stop.TheVariants as stop
+
+-- ---- the two plans
+
+-- a loop that serves, with these keys, as this radio block centre, to so many users
+abbrev pub serving : List keys.Entry → LinePlan → ℕ → ℕ → Plan
+serving entries plan rbc handed =
+    record { settings = plan.settings; keys = entries; rbc = rbc; handed = handed; turns = plan.turns; dials = false }
+
+-- the keys of one pair, which hold at every moment
+abbrev pub pair_of : (engine rbc : ℕ) → TripleKey → keys.Entry
+pair_of engine rbc kmac = record { engine = engine; rbc = rbc; kmac = kmac; first = 0; last = 2 ^ 64 - 1 }
+
+abbrev pub dialling : TripleKey → LinePlan → (engine rbc handed : ℕ) → Plan
+dialling kmac plan engine rbc handed =
+    record { settings = plan.settings; keys = pair_of engine rbc kmac ∷ []; rbc = rbc; handed = handed; turns = plan.turns; dials = true }
+
+-- ---- what is seen of the outside
+
+-- the sink: what it holds, and how often it failed; the wires: the calls, and how often they failed; the clock: its answers
+pub record Outside : Type 0 where
+  pub seen : Seen
+  pub clock : Option (List ℕ)
+
+-- all that a loop prints and calls was printed and called: behind the header, where that was printed; and the clock was asked so
+pub record IsDone (before now : Outside) (began : Bool) (plan : Plan) (o : Out Course) : Type 0 where
+  pub text : Grew before.seen.held now.seen.held (printed began plan o.entries)
+  pub calls : Grew before.seen.calls now.seen.calls o.calls
+  pub clock : Grew before.clock now.clock o.state.asked
+  -- as wires answer: no read gave too much, or nothing where octets wait
+  pub answered : AreAnsweredSo o.calls
+  -- each event `fault` is one that the wires counted
+  pub faults : min (before.seen.failed + faults o.entries) (2 ^ 64 - 1) ≤ now.seen.failed
+
+-- a beginning of it was printed and called
+pub record IsBegun (before now : Outside) (plan : Plan) (o : Out Course) : Type 0 where
+  pub text : GrewPart before.seen.held now.seen.held (printed true plan o.entries)
+  pub calls : Began before.seen now.seen o.calls
+
+-- ---- what holds of its journal and its calls
+
+pub record IsLawful (plan : Plan) (o : Out Course) : Type 0 where
+  -- the outcomes of each connection are those of its own events
+  pub isolated : IsIsolated plan o
+  -- the text is the printed text of the events
+  pub printed : IsPrinted plan o
+  -- what was given to a connection is a beginning of the octets of its outcomes
+  pub accounted : AreAccounted o
+  -- no call is made on a connection that was closed
+  pub on_open : AreOnOpen o
+  -- the joined octets of a connection's events are a beginning of those taken from it, and all of them where it never stalled
+  pub heard : AreHeard o
+  -- a replay refuses no event, and prints what the loop printed
+  pub replayed : IsReplayed plan o
+
+-- the sends and the release of each connection are the replies that the relation of its user's kind gives to what the user hears
+abbrev pub AreSpoken : List Mind → Out Course → Type 0
+AreSpoken minds o = (conn : ℕ) → IsSpoken (user_of conn o.entries minds) (of conn o.entries)
+
+-- its turns: none behind one that ended or failed, as many as it counts, and not more than planned; and its moment
+pub record HasTurns (plan : Plan) (o : Out Course) (count : ℕ) (why : Option Halt) : Type 0 where
+  pub halts : HaltsBy why (turns_of o.calls)
+  pub counted : count ≡ length (turns_of o.calls)
+  pub most : count ≤ plan.turns
+  pub all : why ≡ None → count ≡ plan.turns
+  pub moment : o.state.loop.moment ≡ greatest 0 o.state.asked
+
+-- why it stopped, as the model says it
+abbrev pub halt_for : Stop → Option Halt
+halt_for stop.Turns = None
+halt_for stop.Ended = Some OnEnded
+halt_for stop.Closed = Some OnClosed
+
+-- ---- the answers
+
+abbrev pub outside : Seen → Option (List ℕ) → Outside
+outside seen clock = record { seen = seen; clock = clock }
+
+-- a loop that serves, for some answers of the outside: what it printed and called, and how it stopped
+pub record HasServed (before now : Outside) (plan : Plan) (address : List ℕ) (minds : List Mind) (words : Stream) (count : ℕ) (why : Option Halt) : Type 0 where
+  pub answers : List Turn
+  pub done : IsDone before now true plan (serves plan (beginning minds words) address true answers)
+  pub lawful : IsLawful plan (serves plan (beginning minds words) address true answers)
+  pub replies : AreSpoken minds (serves plan (beginning minds words) address true answers)
+  pub turns : HasTurns plan (serves plan (beginning minds words) address true answers) count why
+
+-- the wires never listened, and nothing was printed; or a turn failed
+pub record NeverListened (before now : Outside) (address : List ℕ) : Type 0 where
+  pub text : Grew before.seen.held now.seen.held []
+  pub calls : Grew before.seen.calls now.seen.calls (Listens address false ∷ [])
+  pub clock : Grew before.clock now.clock []
+
+pub data FailsToServe (before now : Outside) (plan : Plan) (address : List ℕ) (minds : List Mind) (words : Stream) : Type 0 where
+  NotListening : NeverListened before now address → FailsToServe before now plan address minds words
+  TurnFailed : (count : ℕ) → HasServed before now plan address minds words count (Some OnFailed)
+      → FailsToServe before now plan address minds words
+
+-- a beginning was printed
+pub record BreaksOffServing (before now : Outside) (plan : Plan) (address : List ℕ) (minds : List Mind) (words : Stream) : Type 0 where
+  pub answers : List Turn
+  pub begun : IsBegun before now plan (serves plan (beginning minds words) address true answers)
+
+-- the same of a loop that dials
+pub record HasDialled (before now : Outside) (plan : Plan) (caller : Caller) (address : List ℕ) (minds : List Mind) (words : Stream) (count : ℕ) (why : Option Halt) : Type 0 where
+  pub answers : Dialled
+  pub conn : ℕ
+  pub opened : answers.conn ≡ Some conn
+  pub done : IsDone before now true plan (dials plan caller (beginning minds words) address answers)
+  pub lawful : IsLawful plan (dials plan caller (beginning minds words) address answers)
+  pub replies : AreSpoken minds (dials plan caller (beginning minds words) address answers)
+  pub turns : HasTurns plan (dials plan caller (beginning minds words) address answers) count why
+
+pub record NeverDialled (before now : Outside) (address : List ℕ) : Type 0 where
+  pub text : Grew before.seen.held now.seen.held []
+  pub calls : Grew before.seen.calls now.seen.calls (Dials address None ∷ [])
+  pub clock : Grew before.clock now.clock []
+
+pub data FailsToDial (before now : Outside) (plan : Plan) (caller : Caller) (address : List ℕ) (minds : List Mind) (words : Stream) : Type 0 where
+  NotDialling : NeverDialled before now address → FailsToDial before now plan caller address minds words
+  LineFailed : (count : ℕ) → HasDialled before now plan caller address minds words count (Some OnFailed)
+      → FailsToDial before now plan caller address minds words
+
+pub record BreaksOffDialling (before now : Outside) (plan : Plan) (caller : Caller) (address : List ℕ) (minds : List Mind) (words : Stream) : Type 0 where
+  pub answers : Dialled
+  pub begun : IsBegun before now plan (dials plan caller (beginning minds words) address answers)

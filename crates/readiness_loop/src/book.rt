@@ -1,0 +1,210 @@
+//! The sessions of the live connections.
+
+ghost use Rattle.std.specs.Prelude.{◌≡◌, ◌≤◌, ◌<◌, ◌+◌, ◌-◌, ◌++◌, ◌∷◌, [], ℕ, length, IfOk, OnOk};
+ghost use Rattle.std.specs.BTreeMap.{keys as keys_of};
+ghost use Rattle.end_model.specs.Steps.{first_of as first_moment};
+ghost use Rattle.loop_model.specs.Visits.{visited};
+ghost use Rattle.loop_model.specs.Loops.{visit_at, swept, numbers, until};
+ghost use Rattle.loop_session.specs.Parts.{rules};
+ghost use Rattle.loop_visit.specs.Acting.{seen, Does};
+ghost use Rattle.loop_visit.specs.Visiting.{visit_of};
+ghost use Rattle.readiness_loop.specs.Books.{AreSeated, sessions};
+
+use er_base::NoMemory;
+use er_users::SafeUser;
+use link_trait::{Sink, Wires};
+use loop_session::{LoopFault, Scratch, Session, When};
+use loop_visit::{Visit, visit_session};
+use safety_automaton::KeyFinder;
+use slab::Slab;
+use std::alloc::Global;
+use std::collections::BTreeMap;
+
+// The most connections that are live.
+pub(crate) const MOST_LIVE: usize = 256;
+
+// The sessions of the live connections: each stands in a slot, which is found by the number of its connection.
+#[derive(Drop)]
+pub(crate) struct Book<U: SafeUser> {
+    pub(crate) slots: Slab<Session<U>>,
+    pub(crate) places: BTreeMap<u64, usize>,
+}
+
+// The first of two moments.
+fn first_of(one: Option<u64>, other: Option<u64>) -> Option<u64>
+    ensures { result ≡ first_moment one other }
+{
+    match (one, other) {
+        (Some(one), Some(other)) => Some(one.min(other)),
+        (Some(one), None) => Some(one),
+        (None, other) => other,
+    }
+}
+
+impl<U: SafeUser> Book<U> {
+    // No session, with the room for as many as may be live.
+    pub(crate) fn new(alloc: Global) -> Result<Book<U>, NoMemory>
+        ensures { IfOk result (λ book. book.places.entries ≡ []) }
+    {
+        Ok(Book {
+            slots: Slab::with_capacity(alloc, MOST_LIVE)?,
+            places: BTreeMap::new(alloc),
+        })
+    }
+
+    // How many sessions there are.
+    pub(crate) fn len(&self) -> usize
+        ensures { result ≡ length self.now.places.entries }
+    {
+        self.places.len()
+    }
+
+    // The number of each, in rising order.
+    fn numbers(&self, out: &mut Vec<u64>) -> Result<(), NoMemory>
+        ensures { OnOk result (out.new.items ≡ keys_of self.now.places) }
+    {
+        out.clear();
+        for number in self.places.keys() {
+            out.push(*number)?;
+        }
+        Ok(())
+    }
+
+    // The first moment at which one of them is to be visited.
+    pub(crate) fn until(&self) -> Option<u64>
+        ensures { result ≡ until (sessions self.now.slots self.now.places) }
+    {
+        let mut first = None;
+        for slot in self.places.values() {
+            if let Some(session) = self.slots.get(*slot) {
+                first = first_of(first, session.wakes());
+            }
+        }
+        first
+    }
+
+    // A session joins the others; its number is above theirs.
+    pub(crate) fn add(&mut self, session: Session<U>) -> Result<(), NoMemory>
+        requires seated { AreSeated (session.number - 1) self.old.slots self.old.places.entries }
+        requires number { 0 < session.number }
+        ensures sessions { OnOk result (sessions self.new.slots self.new.places ≡ sessions self.old.slots self.old.places ++ session ∷ []) }
+        ensures seated { OnOk result (AreSeated session.number self.new.slots self.new.places.entries) }
+    {
+        let number = session.number();
+        self.slots.reserve(1)?;
+        let slot = self.slots.insert_reserved(session);
+        self.places.insert(number, slot)?;
+        Ok(())
+    }
+
+    // The session of this number is visited, where there is one.
+    pub(crate) fn visit<K: KeyFinder, W: Wires, S: Sink>(
+        &mut self,
+        number: u64,
+        reason: Visit,
+        keys: &K,
+        when: When,
+        scratch: &mut Scratch,
+        wires: &mut W,
+        sink: &mut S,
+    ) -> Result<(), LoopFault>
+        requires moment { when.moment ≤ 1000000000000000 }
+        requires setup { when.setup ≤ 600000 }
+        requires seated { AreSeated (W.opened wires.old) self.old.slots self.old.places.entries }
+        ensures does { Does (seen (S.held sink.old) (S.faults sink.old) (W.calls wires.old) (W.faults wires.old))
+            (seen (S.held sink.new) (S.faults sink.new) (W.calls wires.new) (W.faults wires.new))
+            (sessions self.new.slots self.new.places)
+            (visit_at (visited (rules (K.entries keys.now) when.setup) when.moment (visit_of reason)) number (sessions self.old.slots self.old.places)) result }
+        ensures seated { OnOk result (AreSeated (W.opened wires.new) self.new.slots self.new.places.entries) }
+        ensures opened { W.opened wires.new ≡ W.opened wires.old }
+        ensures turn_count { W.turn_faults wires.new ≡ W.turn_faults wires.old }
+        ensures sunk { S.faults sink.old ≤ S.faults sink.new }
+    {
+        let Some(slot) = self.places.get(&number).copied() else {
+            return Ok(());
+        };
+        let Some(session) = self.slots.get_mut(slot) else {
+            return Ok(());
+        };
+        match visit_session(session, reason, keys, when, scratch, wires, sink) {
+            Ok(true) => Ok(()),
+            Ok(false) => {
+                self.places.remove(&number);
+                self.slots.try_remove(slot);
+                Ok(())
+            }
+            Err(fault) => Err(fault),
+        }
+    }
+
+    #[tactic(auto, using(crate::proofs::Sweeps::want_stopped))]
+    // The sessions are visited, one after the other in rising number.
+    pub(crate) fn sweep<K: KeyFinder, W: Wires, S: Sink>(
+        &mut self,
+        reason: Visit,
+        sequence: &mut Vec<u64>,
+        keys: &K,
+        when: When,
+        scratch: &mut Scratch,
+        wires: &mut W,
+        sink: &mut S,
+    ) -> Result<(), LoopFault>
+        requires moment { when.moment ≤ 1000000000000000 }
+        requires setup { when.setup ≤ 600000 }
+        requires seated { AreSeated (W.opened wires.old) self.old.slots self.old.places.entries }
+        ensures does { Does (seen (S.held sink.old) (S.faults sink.old) (W.calls wires.old) (W.faults wires.old))
+            (seen (S.held sink.new) (S.faults sink.new) (W.calls wires.new) (W.faults wires.new))
+            (sessions self.new.slots self.new.places)
+            (swept (visited (rules (K.entries keys.now) when.setup) when.moment (visit_of reason)) (numbers (sessions self.old.slots self.old.places)) (sessions self.old.slots self.old.places)) result }
+        ensures seated { OnOk result (AreSeated (W.opened wires.new) self.new.slots self.new.places.entries) }
+        ensures opened { W.opened wires.new ≡ W.opened wires.old }
+        ensures turn_count { W.turn_faults wires.new ≡ W.turn_faults wires.old }
+        ensures sunk { S.faults sink.old ≤ S.faults sink.new }
+    {
+        match self.numbers(sequence) {
+            Ok(()) => {}
+            Err(want) => return Err(LoopFault::NoMemory(want)),
+        }
+        self.visit_all(
+            sequence.as_slice(),
+            reason,
+            keys,
+            when,
+            scratch,
+            wires,
+            sink,
+        )
+    }
+
+    // The sessions of these numbers are visited, one after the other.
+    fn visit_all<K: KeyFinder, W: Wires, S: Sink>(
+        &mut self,
+        sequence: &[u64],
+        reason: Visit,
+        keys: &K,
+        when: When,
+        scratch: &mut Scratch,
+        wires: &mut W,
+        sink: &mut S,
+    ) -> Result<(), LoopFault>
+        requires moment { when.moment ≤ 1000000000000000 }
+        requires setup { when.setup ≤ 600000 }
+        requires seated { AreSeated (W.opened wires.old) self.old.slots self.old.places.entries }
+        ensures does { Does (seen (S.held sink.old) (S.faults sink.old) (W.calls wires.old) (W.faults wires.old))
+            (seen (S.held sink.new) (S.faults sink.new) (W.calls wires.new) (W.faults wires.new))
+            (sessions self.new.slots self.new.places)
+            (swept (visited (rules (K.entries keys.now) when.setup) when.moment (visit_of reason)) sequence.now (sessions self.old.slots self.old.places)) result }
+        ensures seated { OnOk result (AreSeated (W.opened wires.new) self.new.slots self.new.places.entries) }
+        ensures opened { W.opened wires.new ≡ W.opened wires.old }
+        ensures turn_count { W.turn_faults wires.new ≡ W.turn_faults wires.old }
+        ensures sunk { S.faults sink.old ≤ S.faults sink.new }
+    {
+        for number in sequence {
+            match self.visit(*number, reason, keys, when, scratch, wires, sink) {
+                Ok(()) => {}
+                Err(fault) => return Err(fault),
+            }
+        }
+        Ok(())
+    }
+}

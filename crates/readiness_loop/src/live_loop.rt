@@ -1,0 +1,449 @@
+//! A loop with its sessions, turn by turn.
+
+ghost use Rattle.std.specs.Prelude.{◌≡◌, ◌≤◌, ◌<◌, ◌+◌, ◌++◌, ◌-◌, ◌^◌, ◌&&◌, ◌==◌, if◌then◌else◌, ℕ, List, [], ◌∷◌, length, map, IfOk, OnOk, Option, None, Some};
+ghost use Rattle.rand_core.specs.Stream.{next_u64};
+ghost use Rattle.safety_automaton.specs.Keys as keys;
+ghost use Rattle.er_settings.specs.Ranges.{AllAllowed};
+ghost use Rattle.link_trait.specs.Wires.{opened_by_turn};
+ghost use Rattle.loop_model.specs.Journals.{text};
+ghost use Rattle.loop_model.specs.Visits.{is_due};
+ghost use Rattle.loop_model.specs.Loops.{Loop, before, until, until as first, turned_away, accepted, happened, Halt, OnClosed};
+ghost use Rattle.loop_session.specs.Parts.{rules, Puts};
+ghost use Rattle.loop_visit.specs.Acting.{seen, Does};
+ghost use Rattle.readiness_loop.specs.Books.{AreSeated, sessions};
+ghost use Rattle.readiness_loop.specs.Courses.{plan_of, loop_of, course_of, answer_event, answered, around, Acts, IsReadyFor, halt_after, Turned, Turns, Runs, HaltsSo};
+
+use crate::book::{Book, MOST_LIVE};
+use crate::line_plan::{Served, Stop};
+use crate::loop_plan::LoopPlan;
+use er_base::NoMemory;
+use er_end::End;
+use er_trace::Event;
+use er_users::SafeUser;
+use link_trait::{Clock, Conn, Happening, Sink, Wires};
+use loop_session::{LoopFault, Scratch, Session, When, write_event};
+use loop_visit::Visit;
+use rand_core::Rng;
+use safety_automaton::KeyFinder;
+use std::alloc::Global;
+
+// Whether a loop goes on behind a turn.
+#[derive(Clone, Copy, Debug, PartialEq, Eq)]
+pub(crate) enum Next {
+    GoesOn,
+    // The wires ended.
+    Ended,
+    // The one connection of a dial was closed.
+    Closed,
+}
+
+// A loop: its sessions, and what is left for those that come.
+#[derive(Drop)]
+pub(crate) struct LiveLoop<U: SafeUser> {
+    pub(crate) book: Book<U>,
+    // The users that are left; the last of them comes next.
+    pub(crate) users: Vec<U>,
+    // The greatest moment that the clock gave.
+    pub(crate) moment: u64,
+    // The turns that were done.
+    pub(crate) turns: u64,
+    // Room for the numbers of the sessions that are visited in a row.
+    pub(crate) numbers: Vec<u64>,
+    pub(crate) scratch: Scratch,
+}
+
+// Whether a moment is there and has come.
+fn has_come(at: Option<u64>, moment: u64) -> bool
+    ensures { result ≡ is_due moment at }
+{
+    match at {
+        Some(at) => at <= moment,
+        None => false,
+    }
+}
+
+// What follows a happening.
+fn next_behind(happening: Happening, has_closed: bool) -> Result<Next, LoopFault>
+    ensures { (why : Option Halt) → why ≡ (if has_closed then Some OnClosed else None) → HaltsSo result (halt_after happening why) }
+{
+    match happening {
+        Happening::Ended => Ok(Next::Ended),
+        Happening::Failed => Err(LoopFault::Wires),
+        _ => {
+            if has_closed {
+                Ok(Next::Closed)
+            } else {
+                Ok(Next::GoesOn)
+            }
+        }
+    }
+}
+
+impl<U: SafeUser> LiveLoop<U> {
+    // A loop with no session.
+    pub(crate) fn new(alloc: Global, users: Vec<U>) -> Result<LiveLoop<U>, NoMemory>
+        ensures empty { IfOk result (λ live. live.book.places.entries ≡ []) }
+        ensures users { IfOk result (λ live. live.users ≡ users) }
+        ensures moment { IfOk result (λ live. live.moment ≡ 0) }
+        ensures turns { IfOk result (λ live. live.turns ≡ 0) }
+    {
+        Ok(LiveLoop {
+            book: Book::new(alloc)?,
+            users,
+            moment: 0,
+            turns: 0,
+            numbers: Vec::with_capacity(alloc, MOST_LIVE)?,
+            scratch: Scratch::new(alloc)?,
+        })
+    }
+
+    #[tactic(auto, using(crate::proofs::Befores::before_did, crate::proofs::Befores::before_breaks_first, crate::proofs::Befores::before_breaks_then, crate::proofs::Befores::nobody_due))]
+    // Before a turn: the sessions whose deadline has come are ticked, then those whose closing moment has come are closed. The first moment
+    // at which one of those that are left is to be visited.
+    fn before<K: KeyFinder, W: Wires, S: Sink>(
+        &mut self,
+        keys: &K,
+        plan: &LoopPlan,
+        wires: &mut W,
+        sink: &mut S,
+    ) -> Result<Option<u64>, LoopFault>
+        requires allowed { AllAllowed plan.now.settings }
+        requires moment { self.old.moment ≤ 1000000000000000 }
+        requires seated { AreSeated (W.opened wires.old) self.old.book.slots self.old.book.places.entries }
+        ensures does { Does (seen (S.held sink.old) (S.faults sink.old) (W.calls wires.old) (W.faults wires.old))
+            (seen (S.held sink.new) (S.faults sink.new) (W.calls wires.new) (W.faults wires.new))
+            (sessions self.new.book.slots self.new.book.places)
+            (before (rules (K.entries keys.now) plan.now.settings.setup) self.old.moment (sessions self.old.book.slots self.old.book.places)) result }
+        ensures until { IfOk result (λ first. first ≡ until (sessions self.new.book.slots self.new.book.places)) }
+        ensures seated { OnOk result (AreSeated (W.opened wires.new) self.new.book.slots self.new.book.places.entries) }
+        ensures opened { W.opened wires.new ≡ W.opened wires.old }
+        ensures turn_count { W.turn_faults wires.new ≡ W.turn_faults wires.old }
+        ensures users { self.new.users ≡ self.old.users }
+        ensures moment { self.new.moment ≡ self.old.moment }
+        ensures turns { self.new.turns ≡ self.old.turns }
+        ensures sunk { S.faults sink.old ≤ S.faults sink.new }
+    {
+        let first = self.book.until();
+        if !has_come(first, self.moment) {
+            return Ok(first);
+        }
+        let when = When {
+            moment: self.moment,
+            setup: plan.settings.setup,
+        };
+        let book = &mut self.book;
+        match book.sweep(
+            Visit::Tick,
+            &mut self.numbers,
+            keys,
+            when,
+            &mut self.scratch,
+            wires,
+            sink,
+        ) {
+            Ok(()) => {}
+            Err(fault) => return Err(fault),
+        }
+        match book.sweep(
+            Visit::Expire,
+            &mut self.numbers,
+            keys,
+            when,
+            &mut self.scratch,
+            wires,
+            sink,
+        ) {
+            Ok(()) => Ok(self.book.until()),
+            Err(fault) => Err(fault),
+        }
+    }
+
+    #[tactic(auto, using(crate::proofs::Acceptings::away_breaks, crate::proofs::Acceptings::away_acted))]
+    // A connection gets no session: its event, and it is closed.
+    pub(crate) fn turn_away<W: Wires, S: Sink>(
+        &mut self,
+        conn: Conn,
+        why: Event,
+        wires: &mut W,
+        sink: &mut S,
+    ) -> Result<(), LoopFault>
+        ensures does { (l : Loop) → l.moment ≡ self.old.moment → Acts (seen (S.held sink.old) (S.faults sink.old) (W.calls wires.old) (W.faults wires.old))
+            (seen (S.held sink.new) (S.faults sink.new) (W.calls wires.new) (W.faults wires.new))
+            l (turned_away l conn.0 why) result }
+        ensures book { self.new.book ≡ self.old.book }
+        ensures users { self.new.users ≡ self.old.users }
+        ensures moment { self.new.moment ≡ self.old.moment }
+        ensures turns { self.new.turns ≡ self.old.turns }
+        ensures opened { W.opened wires.new ≡ W.opened wires.old }
+        ensures turn_count { W.turn_faults wires.new ≡ W.turn_faults wires.old }
+        ensures sunk { S.faults sink.old ≤ S.faults sink.new }
+    {
+        match write_event(self.moment, conn.0, why, &mut self.scratch, sink) {
+            Ok(()) => {}
+            Err(fault) => return Err(fault),
+        }
+        wires.close(conn);
+        Ok(())
+    }
+
+    // A connection gets a session, with this user and the next random word.
+    fn answer<R: Rng, S: Sink>(
+        &mut self,
+        alloc: Global,
+        conn: Conn,
+        user: U,
+        plan: &LoopPlan,
+        randoms: &mut R,
+        sink: &mut S,
+    ) -> Result<(), LoopFault>
+        requires allowed { AllAllowed plan.now.settings }
+        requires rbc { plan.now.rbc < 2 ^ 24 }
+        requires moment { self.old.moment ≤ 1000000000000000 }
+        requires seated { AreSeated (conn.0 - 1) self.old.book.slots self.old.book.places.entries }
+        requires number { 0 < conn.0 }
+        ensures puts { Puts (S.held sink.old) (S.held sink.new) (S.faults sink.old) (S.faults sink.new)
+            (text (answer_event (R.stream randoms.old) plan.now.rbc self.old.moment conn.0 ∷ [])) result }
+        ensures sessions { OnOk result (sessions self.new.book.slots self.new.book.places ≡ sessions self.old.book.slots self.old.book.places
+            ++ answered (R.stream randoms.old) plan.now.settings plan.now.rbc self.old.moment conn.0 (U.mind user) ∷ []) }
+        ensures seated { OnOk result (AreSeated conn.0 self.new.book.slots self.new.book.places.entries) }
+        ensures stream { OnOk result (R.stream randoms.new ≡ (next_u64 (R.stream randoms.old)).1) }
+        ensures users { self.new.users ≡ self.old.users }
+        ensures moment { self.new.moment ≡ self.old.moment }
+        ensures turns { self.new.turns ≡ self.old.turns }
+        ensures sunk { S.faults sink.old ≤ S.faults sink.new }
+    {
+        let ra = randoms.next_u64();
+        let end = End::answer(alloc, &plan.settings, plan.rbc, ra, self.moment)?;
+        let event = Event::Answer { rbc: plan.rbc, ra };
+        match write_event(self.moment, conn.0, event, &mut self.scratch, sink) {
+            Ok(()) => {}
+            Err(fault) => return Err(fault),
+        }
+        self.book.add(Session::begin(alloc, conn.0, end, user))?;
+        Ok(())
+    }
+
+    // A connection was accepted.
+    fn accept<W: Wires, R: Rng, S: Sink>(
+        &mut self,
+        alloc: Global,
+        conn: Conn,
+        plan: &LoopPlan,
+        wires: &mut W,
+        randoms: &mut R,
+        sink: &mut S,
+    ) -> Result<(), LoopFault>
+        requires allowed { AllAllowed plan.now.settings }
+        requires rbc { plan.now.rbc < 2 ^ 24 }
+        requires moment { self.old.moment ≤ 1000000000000000 }
+        requires seated { AreSeated (conn.0 - 1) self.old.book.slots self.old.book.places.entries }
+        requires number { 0 < conn.0 }
+        ensures does { (entries : List keys.Entry) → Acts (seen (S.held sink.old) (S.faults sink.old) (W.calls wires.old) (W.faults wires.old))
+            (seen (S.held sink.new) (S.faults sink.new) (W.calls wires.new) (W.faults wires.new))
+            (loop_of self.new.book.slots self.new.book.places (map U.mind self.new.users.items) self.new.moment (R.stream randoms.new))
+            (accepted (plan_of entries plan.now) (loop_of self.old.book.slots self.old.book.places (map U.mind self.old.users.items) self.old.moment (R.stream randoms.old)) conn.0) result }
+        ensures seated { OnOk result (AreSeated conn.0 self.new.book.slots self.new.book.places.entries) }
+        ensures moment { self.new.moment ≡ self.old.moment }
+        ensures turns { self.new.turns ≡ self.old.turns }
+        ensures opened { W.opened wires.new ≡ W.opened wires.old }
+        ensures turn_count { W.turn_faults wires.new ≡ W.turn_faults wires.old }
+        ensures sunk { S.faults sink.old ≤ S.faults sink.new }
+    {
+        if self.book.len() >= MOST_LIVE {
+            return self.turn_away(conn, Event::Full(MOST_LIVE as u64), wires, sink);
+        }
+        match self.users.pop() {
+            Some(user) => self.answer(alloc, conn, user, plan, randoms, sink),
+            None => self.turn_away(conn, Event::Unserved(plan.handed), wires, sink),
+        }
+    }
+
+    #[tactic(auto, using(crate::proofs::Turning::react_accept, crate::proofs::Turning::react_read, crate::proofs::Turning::react_write, crate::proofs::Turning::react_quiet, crate::proofs::Turning::react_ended, crate::proofs::Turning::react_failed))]
+    // What happened is handled whole.
+    fn react<K: KeyFinder, W: Wires, R: Rng, S: Sink>(
+        &mut self,
+        alloc: Global,
+        happening: Happening,
+        keys: &K,
+        plan: &LoopPlan,
+        wires: &mut W,
+        randoms: &mut R,
+        sink: &mut S,
+    ) -> Result<(), LoopFault>
+        requires allowed { AllAllowed plan.now.settings }
+        requires rbc { plan.now.rbc < 2 ^ 24 }
+        requires moment { self.old.moment ≤ 1000000000000000 }
+        requires ready { IsReadyFor happening (W.opened wires.old) self.old.book.slots self.old.book.places.entries }
+        ensures does { Does (seen (S.held sink.old) (S.faults sink.old) (W.calls wires.old) (W.faults wires.old))
+            (seen (S.held sink.new) (S.faults sink.new) (W.calls wires.new) (W.faults wires.new))
+            (loop_of self.new.book.slots self.new.book.places (map U.mind self.new.users.items) self.new.moment (R.stream randoms.new))
+            (happened (plan_of (K.entries keys.now) plan.now) (loop_of self.old.book.slots self.old.book.places (map U.mind self.old.users.items) self.old.moment (R.stream randoms.old)) happening) result }
+        ensures seated { OnOk result (AreSeated (W.opened wires.new) self.new.book.slots self.new.book.places.entries) }
+        ensures moment { self.new.moment ≡ self.old.moment }
+        ensures turns { self.new.turns ≡ self.old.turns }
+        ensures opened { W.opened wires.new ≡ W.opened wires.old }
+        ensures turn_count { W.turn_faults wires.new ≡ W.turn_faults wires.old }
+        ensures sunk { S.faults sink.old ≤ S.faults sink.new }
+    {
+        let when = When {
+            moment: self.moment,
+            setup: plan.settings.setup,
+        };
+        match happening {
+            Happening::Accepted(conn) => self.accept(alloc, conn, plan, wires, randoms, sink),
+            Happening::Readable(conn) => {
+                let book = &mut self.book;
+                book.visit(
+                    conn.0,
+                    Visit::Read,
+                    keys,
+                    when,
+                    &mut self.scratch,
+                    wires,
+                    sink,
+                )
+            }
+            Happening::Writable(conn) => {
+                let book = &mut self.book;
+                book.visit(
+                    conn.0,
+                    Visit::Write,
+                    keys,
+                    when,
+                    &mut self.scratch,
+                    wires,
+                    sink,
+                )
+            }
+            Happening::Quiet => Ok(()),
+            Happening::Ended => Ok(()),
+            Happening::Failed => Ok(()),
+        }
+    }
+
+    // Whether the one connection of a dial was closed.
+    fn has_closed(&self, plan: &LoopPlan) -> bool
+        ensures { result ≡ (plan.now.dials && (length self.now.book.places.entries == 0)) }
+    {
+        plan.dials && self.book.len() == 0
+    }
+
+    // The turn, and what follows it.
+    fn turn<K: KeyFinder, W: Wires, C: Clock, R: Rng, S: Sink>(
+        &mut self,
+        alloc: Global,
+        until: Option<u64>,
+        keys: &K,
+        plan: &LoopPlan,
+        wires: &mut W,
+        clock: &mut C,
+        randoms: &mut R,
+        sink: &mut S,
+    ) -> Result<Next, LoopFault>
+        requires allowed { AllAllowed plan.now.settings }
+        requires rbc { plan.now.rbc < 2 ^ 24 }
+        requires moment { self.old.moment ≤ 1000000000000000 }
+        requires turns { self.old.turns < 2 ^ 64 - 1 }
+        requires seated { AreSeated (W.opened wires.old) self.old.book.slots self.old.book.places.entries }
+        requires until { until ≡ first (sessions self.old.book.slots self.old.book.places) }
+        ensures does { (asked : List ℕ) → Turned (plan_of (K.entries keys.now) plan.now) (around (seen (S.held sink.old) (S.faults sink.old) (W.calls wires.old) (W.faults wires.old)) (W.turn_faults wires.old) (W.opened wires.old) (C.answers clock.old))
+            (around (seen (S.held sink.new) (S.faults sink.new) (W.calls wires.new) (W.faults wires.new)) (W.turn_faults wires.new) (W.opened wires.new) (C.answers clock.new))
+            (course_of (loop_of self.old.book.slots self.old.book.places (map U.mind self.old.users.items) self.old.moment (R.stream randoms.old)) self.old.turns asked)
+            (loop_of self.new.book.slots self.new.book.places (map U.mind self.new.users.items) self.new.moment (R.stream randoms.new)) self.new.turns result }
+        ensures seated { OnOk result (AreSeated (W.opened wires.new) self.new.book.slots self.new.book.places.entries) }
+        ensures moment { OnOk result (self.new.moment ≤ 1000000000000000) }
+        ensures turns { self.new.turns ≤ self.old.turns + 1 }
+        ensures sunk { S.faults sink.old ≤ S.faults sink.new }
+    {
+        let happening = wires.turn(until);
+        self.moment = self.moment.max(clock.now());
+        self.turns += 1;
+        match self.react(alloc, happening, keys, plan, wires, randoms, sink) {
+            Ok(()) => next_behind(happening, self.has_closed(plan)),
+            Err(fault) => Err(fault),
+        }
+    }
+
+    // One turn, with what comes before and behind it.
+    fn go<K: KeyFinder, W: Wires, C: Clock, R: Rng, S: Sink>(
+        &mut self,
+        alloc: Global,
+        keys: &K,
+        plan: &LoopPlan,
+        wires: &mut W,
+        clock: &mut C,
+        randoms: &mut R,
+        sink: &mut S,
+    ) -> Result<Next, LoopFault>
+        requires allowed { AllAllowed plan.now.settings }
+        requires rbc { plan.now.rbc < 2 ^ 24 }
+        requires moment { self.old.moment ≤ 1000000000000000 }
+        requires turns { self.old.turns < 2 ^ 64 - 1 }
+        requires seated { AreSeated (W.opened wires.old) self.old.book.slots self.old.book.places.entries }
+        ensures does { (asked : List ℕ) → Turns (plan_of (K.entries keys.now) plan.now) (around (seen (S.held sink.old) (S.faults sink.old) (W.calls wires.old) (W.faults wires.old)) (W.turn_faults wires.old) (W.opened wires.old) (C.answers clock.old))
+            (around (seen (S.held sink.new) (S.faults sink.new) (W.calls wires.new) (W.faults wires.new)) (W.turn_faults wires.new) (W.opened wires.new) (C.answers clock.new))
+            (course_of (loop_of self.old.book.slots self.old.book.places (map U.mind self.old.users.items) self.old.moment (R.stream randoms.old)) self.old.turns asked)
+            (loop_of self.new.book.slots self.new.book.places (map U.mind self.new.users.items) self.new.moment (R.stream randoms.new)) self.new.turns result }
+        ensures seated { OnOk result (AreSeated (W.opened wires.new) self.new.book.slots self.new.book.places.entries) }
+        ensures moment { OnOk result (self.new.moment ≤ 1000000000000000) }
+        ensures turns { self.new.turns ≤ self.old.turns + 1 }
+        ensures sunk { S.faults sink.old ≤ S.faults sink.new }
+    {
+        self.moment = self.moment.max(clock.now());
+        match self.before(keys, plan, wires, sink) {
+            Ok(until) => {
+                if self.has_closed(plan) {
+                    return Ok(Next::Closed);
+                }
+                self.turn(alloc, until, keys, plan, wires, clock, randoms, sink)
+            }
+            Err(fault) => Err(fault),
+        }
+    }
+
+    // All turns of the plan, unless the loop stops before.
+    pub(crate) fn run<K: KeyFinder, W: Wires, C: Clock, R: Rng, S: Sink>(
+        &mut self,
+        alloc: Global,
+        keys: &K,
+        plan: &LoopPlan,
+        wires: &mut W,
+        clock: &mut C,
+        randoms: &mut R,
+        sink: &mut S,
+    ) -> Result<Served, LoopFault>
+        requires allowed { AllAllowed plan.now.settings }
+        requires rbc { plan.now.rbc < 2 ^ 24 }
+        requires moment { self.old.moment ≤ 1000000000000000 }
+        requires turns { self.old.turns ≡ 0 }
+        requires seated { AreSeated (W.opened wires.old) self.old.book.slots self.old.book.places.entries }
+        ensures does { (asked : List ℕ) → Runs (plan_of (K.entries keys.now) plan.now) (around (seen (S.held sink.old) (S.faults sink.old) (W.calls wires.old) (W.faults wires.old)) (W.turn_faults wires.old) (W.opened wires.old) (C.answers clock.old))
+            (around (seen (S.held sink.new) (S.faults sink.new) (W.calls wires.new) (W.faults wires.new)) (W.turn_faults wires.new) (W.opened wires.new) (C.answers clock.new))
+            (course_of (loop_of self.old.book.slots self.old.book.places (map U.mind self.old.users.items) self.old.moment (R.stream randoms.old)) 0 asked)
+            (loop_of self.new.book.slots self.new.book.places (map U.mind self.new.users.items) self.new.moment (R.stream randoms.new)) self.new.turns result }
+        ensures sunk { S.faults sink.old ≤ S.faults sink.new }
+    {
+        for _ in 0..plan.turns {
+            match self.go(alloc, keys, plan, wires, clock, randoms, sink) {
+                Ok(Next::GoesOn) => {}
+                Ok(Next::Ended) => {
+                    return Ok(Served {
+                        turns: self.turns,
+                        why: Stop::Ended,
+                    });
+                }
+                Ok(Next::Closed) => {
+                    return Ok(Served {
+                        turns: self.turns,
+                        why: Stop::Closed,
+                    });
+                }
+                Err(fault) => return Err(fault),
+            }
+        }
+        Ok(Served {
+            turns: self.turns,
+            why: Stop::Turns,
+        })
+    }
+}

@@ -1,0 +1,127 @@
+//! A loop that listens.
+
+ghost use Rattle.std.specs.Prelude.{◌≡◌, ◌≤◌, ◌<◌, ◌^◌, length, map, Err, IfOk};
+ghost use Rattle.er_settings.specs.Ranges.{AllAllowed};
+ghost use Rattle.loop_session.specs.declared.loop_fault.LoopFault.TheVariants as fault;
+ghost use Rattle.loop_session.specs.Parts.{Puts};
+ghost use Rattle.loop_model.specs.Journals.{header};
+ghost use Rattle.link_trait.specs.Outside.{Rose};
+ghost use Rattle.loop_visit.specs.Acting.{seen};
+ghost use Rattle.readiness_loop.specs.Claims.{outside, serving, halt_for, HasServed, FailsToServe, BreaksOffServing};
+ghost use Rattle.readiness_loop.specs.Courses.{plan_of, around, Serves};
+
+use crate::line_plan::{LinePlan, Served};
+use crate::live_loop::LiveLoop;
+use crate::loop_plan::LoopPlan;
+use er_settings::Settings;
+use er_trace::print_header;
+use er_users::SafeUser;
+use key_store::KeyStore;
+use link_trait::{Clock, Sink, Wires};
+use loop_model::laws;
+use loop_session::{LoopFault, write_lines};
+use rand_core::Rng;
+use safety_automaton::KeyFinder;
+use std::alloc::Global;
+
+// Writes the header of the journal.
+pub(crate) fn write_header<S: Sink>(
+    alloc: Global,
+    settings: &Settings,
+    sink: &mut S,
+) -> Result<(), LoopFault>
+    requires settings { AllAllowed settings.now }
+    ensures puts { Puts (S.held sink.old) (S.held sink.new) (S.faults sink.old) (S.faults sink.new) (header settings.now) result }
+    ensures sunk { S.faults sink.old ≤ S.faults sink.new }
+{
+    let mut line = Vec::new(alloc);
+    match print_header(settings, &mut line) {
+        Ok(()) => {}
+        Err(want) => return Err(LoopFault::NoMemory(want)),
+    }
+    write_lines(line.as_slice(), sink)
+}
+
+// A loop that serves, over users of any one type.
+fn serve_users<U: SafeUser, K: KeyFinder, W: Wires, C: Clock, R: Rng, S: Sink>(
+    alloc: Global,
+    keys: &K,
+    plan: &LoopPlan,
+    address: &str,
+    users: Vec<U>,
+    wires: &mut W,
+    clock: &mut C,
+    randoms: &mut R,
+    sink: &mut S,
+) -> Result<Served, LoopFault>
+    requires allowed { AllAllowed plan.now.settings }
+    requires rbc { plan.now.rbc < 2 ^ 24 }
+    ensures does { Serves (plan_of (K.entries keys.now) plan.now)
+        (around (seen (S.held sink.old) (S.faults sink.old) (W.calls wires.old) (W.faults wires.old)) (W.turn_faults wires.old) (W.opened wires.old) (C.answers clock.old))
+        (around (seen (S.held sink.new) (S.faults sink.new) (W.calls wires.new) (W.faults wires.new)) (W.turn_faults wires.new) (W.opened wires.new) (C.answers clock.new))
+        (map U.mind users.items) (R.stream randoms.old) address.now result }
+    ensures sunk { S.faults sink.old ≤ S.faults sink.new }
+{
+    laws::journal();
+    laws::octets();
+    laws::open_connections();
+    laws::octets_taken();
+    laws::recordings();
+    laws::replies();
+    laws::faults();
+    laws::turns();
+    let mut live = match LiveLoop::new(alloc, users) {
+        Ok(live) => live,
+        Err(want) => return Err(LoopFault::NoMemory(want)),
+    };
+    match wires.listen(address) {
+        Ok(()) => {}
+        Err(_failed) => return Err(LoopFault::Wires),
+    }
+    match write_header(alloc, &plan.settings, sink) {
+        Ok(()) => {}
+        Err(fault) => return Err(fault),
+    }
+    live.run(alloc, keys, plan, wires, clock, randoms, sink)
+}
+
+/// Listens at this address, and serves each connection that is accepted with a session of its own, whose user is the last of those
+/// that are left.
+pub fn serve<W: Wires, C: Clock, R: Rng, S: Sink>(
+    alloc: Global,
+    keys: &KeyStore,
+    plan: &LinePlan,
+    address: &str,
+    rbc: u32,
+    users: Vec<Box<dyn SafeUser>>,
+    wires: &mut W,
+    clock: &mut C,
+    randoms: &mut R,
+    sink: &mut S,
+) -> Result<Served, LoopFault>
+    requires settings { AllAllowed plan.now.settings }
+    requires rbc { rbc < 2 ^ 24 }
+    ensures served { IfOk result (λ served. HasServed (outside (seen (S.held sink.old) (S.faults sink.old) (W.calls wires.old) (W.faults wires.old)) (C.answers clock.old))
+        (outside (seen (S.held sink.new) (S.faults sink.new) (W.calls wires.new) (W.faults wires.new)) (C.answers clock.new))
+        (serving (keys.now) plan.now rbc (length users.items)) address.now (map mind users.items) (R.stream randoms.old) served.turns (halt_for served.why)) }
+    ensures wires { result ≡ Err fault.Wires → FailsToServe (outside (seen (S.held sink.old) (S.faults sink.old) (W.calls wires.old) (W.faults wires.old)) (C.answers clock.old))
+        (outside (seen (S.held sink.new) (S.faults sink.new) (W.calls wires.new) (W.faults wires.new)) (C.answers clock.new))
+        (serving (keys.now) plan.now rbc (length users.items)) address.now (map mind users.items) (R.stream randoms.old) }
+    ensures rose { result ≡ Err fault.Wires → Rose (W.turn_faults wires.old) (W.turn_faults wires.new) }
+    ensures sink { result ≡ Err fault.Sink → BreaksOffServing (outside (seen (S.held sink.old) (S.faults sink.old) (W.calls wires.old) (W.faults wires.old)) (C.answers clock.old))
+        (outside (seen (S.held sink.new) (S.faults sink.new) (W.calls wires.new) (W.faults wires.new)) (C.answers clock.new))
+        (serving (keys.now) plan.now rbc (length users.items)) address.now (map mind users.items) (R.stream randoms.old) }
+    ensures sunk { result ≡ Err fault.Sink → Rose (S.faults sink.old) (S.faults sink.new) }
+    ensures sink_count { S.faults sink.old ≤ S.faults sink.new }
+{
+    let loop_plan = LoopPlan {
+        settings: plan.settings,
+        rbc,
+        handed: users.len() as u64,
+        turns: plan.turns,
+        dials: false,
+    };
+    serve_users(
+        alloc, keys, &loop_plan, address, users, wires, clock, randoms, sink,
+    )
+}
