@@ -102,6 +102,8 @@ with tempfile.TemporaryDirectory() as work:
     with open(recording, "rb") as f:
         text = f.read()
     check(text.endswith(b"\n"), "the recording has whole lines")
+    moments = [int(m) for m in re.findall(rb"^> (\d+) ", text, re.M)]
+    check(moments and all(1 <= m <= 10**15 for m in moments) and moments == sorted(moments), "moments of the machine's clock")
     conns = re.findall(rb"^> \d+ (\d+) answer 9 ", text, re.M)
     served = [events_of(text.decode(), c.decode()) for c in conns]
     whole = [t for t in served if [w for w in t if w.startswith("taken ")] == [f"taken {r}" for r in REPORTS]]
