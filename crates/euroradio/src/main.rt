@@ -3,10 +3,10 @@
 
 mod objects;
 
-use crate::objects::{echoes, lister};
+use crate::objects::{MOST_LIVE, position_reports};
 use er_base::NoMemory;
 use er_program::{FileCabinet, MachineClock, MemoryWires, Sink, Status, StdoutSink, run, unmade};
-use er_users::SafeUser;
+use er_users::{Echo, SafeUser};
 use mio_wires::MioWires;
 use rand::make_rng;
 use rand_chacha::ChaCha20Rng;
@@ -50,6 +50,35 @@ fn on_line<K: Sink>(
     ))
 }
 
+// `serve`: the users of a radio block centre say every message back. (Users are made where they are handed to the run: a function that gave them
+// to its caller could promise nothing of them.)
+fn serve<K: Sink>(
+    rt: HostRuntime,
+    words: &[String],
+    sink: &mut K,
+) -> Result<Option<Status>, NoMemory> {
+    let alloc = rt.alloc();
+    let mut users: Vec<Box<dyn SafeUser>> = Vec::with_capacity(alloc, MOST_LIVE)?;
+    for _ in 0..MOST_LIVE {
+        let user: Box<dyn SafeUser> = Box::new(alloc, Echo::new())?;
+        users.push(user)?;
+    }
+    Ok(on_line(rt, words, users, sink))
+}
+
+// `call`: the user of an engine says three position reports.
+fn call<K: Sink>(
+    rt: HostRuntime,
+    words: &[String],
+    sink: &mut K,
+) -> Result<Option<Status>, NoMemory> {
+    let alloc = rt.alloc();
+    let user: Box<dyn SafeUser> = Box::new(alloc, position_reports(alloc)?)?;
+    let mut users: Vec<Box<dyn SafeUser>> = Vec::with_capacity(alloc, 1)?;
+    users.push(user)?;
+    Ok(on_line(rt, words, users, sink))
+}
+
 // Any other command: its wires are in memory, and nothing is asked of them.
 fn off_line<K: Sink>(rt: HostRuntime, words: &[String], sink: &mut K) -> Option<Status> {
     let alloc = rt.alloc();
@@ -80,10 +109,10 @@ fn begins_with(words: &[String], command: &str) -> bool {
 // What the words ask for. None where the objects can't be made.
 fn answered<K: Sink>(rt: HostRuntime, words: &[String], sink: &mut K) -> Option<Status> {
     if begins_with(words, "serve") {
-        return on_line(rt, words, echoes(rt.alloc()).ok()?, sink);
+        return serve(rt, words, sink).ok()?;
     }
     if begins_with(words, "call") {
-        return on_line(rt, words, lister(rt.alloc()).ok()?, sink);
+        return call(rt, words, sink).ok()?;
     }
     off_line(rt, words, sink)
 }
