@@ -2,7 +2,7 @@
 -- in order, all was given.
 use Rattle.std.proofs.Common.{◌≡◌, ℕ, zero, suc, ◌+◌, ◌-◌, ◌≤◌, ◌⊎◌, max, inl, inr, Bool, true, false, ◌&&◌, ◌||◌, List, [], ◌∷◌, ◌++◌, length, drop, Option, Some, None, refl, sym, ◌∙◌, ap, subst, append-nil, append_assoc, arith, true≢false, length-drop, eqb-true}
 use Rattle.std.specs.Prelude.{◌==◌, nat_lt, is_some}
-use Rattle.std.proofs.lemmas.Bool.{cases_Bool, or_cases}
+use Rattle.std.proofs.lemmas.Bool.{cases_Bool}
 use Rattle.er_end.specs.KeptEnds.{KEnd, deadline_of}
 use Rattle.link_trait.specs.Wires.{Call, Reading, Gave, NotNow, End, Failed, Reads, Writes, Closes}
 use Rattle.link_trait.specs.declared.wires.WriteAnswer.{WriteAnswer}
@@ -11,12 +11,16 @@ use Rattle.loop_model.specs.Journals.{Entry}
 use Rattle.loop_model.specs.Outs.{Out, next, makes, acts, exactly, first_of}
 use Rattle.loop_model.specs.Sessions.{Rules, Session, Given, Begins, Hears, Sends, Takes, Leaves, Ticks, Ends, Faults, Stalls, is_released, most_output, outcomes_of, octets_in, breaks, written as written_as, joined, fed, Says, nothing_said, handled}
 use Rattle.loop_model.specs.Visits.{most_read, Flow, Going, PutOff, Failing, after_write, writes_once, writes, Wrote, fault_unless, flowed, written_unless, written, settled, rests, Visit, Tick, Read, Write, Expire, Met, is_due, came, read_once, rests_behind, served, visited}
-use Rattle.loop_model.specs.Loops.{Plan, rules_of, begun, answering, Caller, calling, Course, Turn, run, Dialled, dials}
+use Rattle.loop_model.specs.Loops.{Plan, rules_of, Loop, next_user, begun, answering, Caller, calling, called_by, called, Course, asks, Turn, run, Dialled, opens, dials_to, dials}
 use Rattle.loop_model.specs.Parts.{session_of, of, calls_at}
 use Rattle.loop_model.specs.Laws.{IsServing, IsDialling, octets_of}
 use Rattle.loop_model.specs.Faulted.{has_failed}
 use Rattle.loop_model.specs.Writings as specs
-use Rattle.loop_model.specs.Writings.{left_after, is_break, has_broken, IsAllGiven, AllAreGiven, AllWait, RestWaits, AllTakeOne, answered, last_answer, IsWritten, OutputIsWritten}
+use Rattle.loop_model.specs.Writings.{left_after, is_break, has_broken, IsAllGiven, AllAreGiven, AllWait, RestWaits, IsWhole, LiveAreWhole, AllTakeOne, answered, last_answer, IsWritten, OutputIsWritten}
+use Rattle.er_users.specs.Users.{Mind}
+use Rattle.rand_core.specs.Stream.{next_u64}
+use Rattle.loop_model.specs.Turnings.{IsKept, AreKept}
+use Rattle.loop_model.proofs.Keepers.{kept_rests, others_are_closed}
 use Rattle.loop_model.proofs.Steadies.{Steady, follows_handled, steady_handled, steady_pours, quiet_at, written_at, over_settled, over_due, Left, Stays, Closed, AllLeft, Calls}
 use Rattle.loop_model.proofs.Lives.{Own, Keeps, Fits, Knows, knows_run}
 use Rattle.loop_model.proofs.Dialling.{knows_dial_served}
@@ -193,41 +197,41 @@ pub record Goes (s t : Session) (cs : List Call) : Type 0 where
 
 -- it broke off before, or by an event or a call
 Off : Session → Session → List Entry → List Call → Type 0
-Off s t xs cs = t.broken ≡ true → (s.broken ≡ true) ⊎ ((has_broken xs || has_failed cs) ≡ true)
+Off s t xs cs = t.broken ≡ (s.broken || (has_broken xs || has_failed cs))
 
 or_assoc : (a b c : Bool) → (a || (b || c)) ≡ ((a || b) || c)
 or_assoc true b c = refl
 or_assoc false b c = refl
+
+or_none : (a : Bool) → a ≡ (a || false)
+or_none true = refl
+or_none false = refl
+
+or_top : (a b : Bool) → true ≡ (a || (b || true))
+or_top true b = refl
+or_top false true = refl
+or_top false false = refl
+
+or_two : (a b c d : Bool) → ((a || b) || (c || d)) ≡ ((a || c) || (b || d))
+or_two true b c d = refl
+or_two false true true d = refl
+or_two false true false d = refl
+or_two false false true d = refl
+or_two false false false d = refl
 
 broken-append : (xs ys : List Entry) → has_broken (xs ++ ys) ≡ (has_broken xs || has_broken ys)
 unfolding has_broken
 broken-append [] ys = refl
 broken-append (x ∷ xs) ys = ap (λ z. is_break x.event || z) (broken-append xs ys) ∙ or_assoc (is_break x.event) (has_broken xs) (has_broken ys)
 
-or_first : (a b c d : Bool) → (a || b) ≡ true → ((a || c) || (b || d)) ≡ true
-or_first true b c d p = refl
-or_first false true c d p = or_right c
-or_first false false c d p = absurd (true≢false (sym p))
-
-or_second : (a b c d : Bool) → (c || d) ≡ true → ((a || c) || (b || d)) ≡ true
-or_second a b true d p = or_left (a || true) (b || d) (or_right a)
-or_second a true false d p = or_right (a || false)
-or_second a false false true p = or_right (a || false)
-or_second a false false false p = absurd (true≢false (sym p))
-
-off_first : (xs ys : List Entry) (cs ds : List Call) → (has_broken xs || has_failed cs) ≡ true → (has_broken (xs ++ ys) || has_failed (cs ++ ds)) ≡ true
-off_first xs ys cs ds p = rw (broken-append xs ys, failed-append cs ds) (or_first (has_broken xs) (has_failed cs) (has_broken ys) (has_failed ds) p)
-
-off_second : (xs ys : List Entry) (cs ds : List Call) → (has_broken ys || has_failed ds) ≡ true → (has_broken (xs ++ ys) || has_failed (cs ++ ds)) ≡ true
-off_second xs ys cs ds p = rw (broken-append xs ys, failed-append cs ds) (or_second (has_broken xs) (has_failed cs) (has_broken ys) (has_failed ds) p)
+off-append : (xs ys : List Entry) (cs ds : List Call) → ((has_broken xs || has_failed cs) || (has_broken ys || has_failed ds)) ≡ (has_broken (xs ++ ys) || has_failed (cs ++ ds))
+off-append xs ys cs ds = rw (broken-append xs ys, failed-append cs ds) (or_two (has_broken xs) (has_failed cs) (has_broken ys) (has_failed ds))
 
 off_then : (s t u : Session) (xs ys : List Entry) (cs ds : List Call) → Off s t xs cs → Off t u ys ds → Off s u (xs ++ ys) (cs ++ ds)
 unfolding Off
-off_then s t u xs ys cs ds p q e =
-    elim (q e) [
-      | inl b ↦ elim (p b) [ inl c ↦ inl c | inr c ↦ inr (off_first xs ys cs ds c) ]
-      | inr b ↦ inr (off_second xs ys cs ds b)
-    ]
+off_then s t u xs ys cs ds p q =
+    q ∙ ap (λ z. z || (has_broken ys || has_failed ds)) p ∙ sym (or_assoc s.broken (has_broken xs || has_failed cs) (has_broken ys || has_failed ds))
+    ∙ ap (λ z. s.broken || z) (off-append xs ys cs ds)
 
 breaks_so : (k : KEnd) (g : Given) → is_break (written_as k g) ≡ breaks g
 breaks_so k (Begins engine rbc rb) = refl
@@ -243,20 +247,23 @@ breaks_so k Stalls = refl
 off_steady : (r : Rules) → Steady r (λ g. Unit {0}) Off
 unfolding Off has_broken has_failed
 off_steady r = record {
-  none = λ s p. inl p;
+  none = λ s. or_none s.broken;
   then_ = off_then;
-  given = λ m s g allowed fits p.
-      elim (or_cases s.broken (breaks g) p) [ inl e ↦ inl e | inr e ↦ inr (rw (breaks_so s.end g, e) refl) ];
-  stalls = λ m s g allowed fits p. inr (or_left (is_break (written_as s.end g) || true) false (or_right (is_break (written_as s.end g))));
-  heard = λ s mind p. inl p;
-  parts = λ s at gone p. inl p;
+  given = λ m s g allowed fits.
+      ap (λ z. s.broken || z) (sym (breaks_so s.end g) ∙ or_none (is_break (written_as s.end g)) ∙ or_none (is_break (written_as s.end g) || false));
+  stalls = λ m s g allowed fits. or_top s.broken (is_break (written_as s.end g)) ∙ ap (λ z. s.broken || z) (or_none (is_break (written_as s.end g) || true));
+  heard = λ s mind. or_none s.broken;
+  parts = λ s at gone. or_none s.broken;
 }
 
-off_came : (r : Rules) (m : ℕ) (s : Session) (reading : Reading) (says : List Says) → Off s (came reading r m s says).0 (came reading r m s says).1 []
-off_came r m s (Gave octets) says = steady_pours r (λ g. Unit {0}) Off (off_steady r) givings.all_given.usual (λ octets. tt) m s octets says
-off_came r m s NotNow says = (off_steady r).none s
-off_came r m s End says = steady_handled r (λ g. Unit {0}) Off (off_steady r) givings.all_given.usual m s Ends (first_of nothing_said says) tt
-off_came r m s Failed says = steady_handled r (λ g. Unit {0}) Off (off_steady r) givings.all_given.usual m s Faults (first_of nothing_said says) tt
+off_read : (r : Rules) (m : ℕ) (s : Session) (waits : ℕ) (reading : Reading) (says : List Says)
+    → Off s (came reading r m s says).0 (came reading r m s says).1 (Reads s.number most_read waits reading ∷ [])
+unfolding Off has_broken has_failed
+off_read r m s waits (Gave octets) says = steady_pours r (λ g. Unit {0}) Off (off_steady r) givings.all_given.usual (λ octets. tt) m s octets says
+off_read r m s waits NotNow says = or_none s.broken
+off_read r m s waits End says = steady_handled r (λ g. Unit {0}) Off (off_steady r) givings.all_given.usual m s Ends (first_of nothing_said says) tt
+off_read r m s waits Failed says =
+    handled_broken r m s (first_of nothing_said says) ∙ or_top s.broken (has_broken (handled r m s Faults (first_of nothing_said says)).1)
 
 off_calls : (r : Rules) → Calls r Off
 unfolding Off has_broken has_failed
@@ -264,14 +271,13 @@ off_calls r = record {
   quiet = record {
     none = (off_steady r).none;
     then_ = off_then;
-    wrote = λ s n whole p. inl p;
-    put_off = λ s p. inl p;
-    failed = λ m s says live p. inr (or_right (has_broken (handled r m s Faults says).1));
-    failed_released = λ s gone p. inr refl;
+    wrote = λ s n whole. or_none s.broken;
+    put_off = λ s. or_none s.broken;
+    failed = λ m s says live. handled_broken r m s says ∙ or_top s.broken (has_broken (handled r m s Faults says).1);
+    failed_released = λ s gone. or_top s.broken false;
     ticked = λ m s says due. steady_handled r (λ g. Unit {0}) Off (off_steady r) givings.all_given.usual m s Ticks says tt;
   };
-  read = λ m s a live.
-      off_then s s (came a.reading r m s a.says).0 [] (came a.reading r m s a.says).1 (Reads s.number most_read a.waits a.reading ∷ []) [] (λ p. inl p) (off_came r m s a.reading a.says);
+  read = λ m s a live. off_read r m s a.waits a.reading a.says;
 }
 
 -- ---- all that is known of a visit
@@ -396,7 +402,7 @@ record Holds_so (s : Session) (xs : List Entry) (cs : List Call) : Type 0 where
   given : Given_so s xs cs
   left : s.broken ≡ false → s.output ≡ left_after [] cs
   done : AllTakeOne cs → s.broken ≡ false → (s.output ≡ []) ⊎ (last_answer None cs ≡ Some write.NotNow)
-  off : s.broken ≡ true → (has_broken xs || has_failed cs) ≡ true
+  off : s.broken ≡ (has_broken xs || has_failed cs)
 
 left-append : (before : List ℕ) (cs ds : List Call) → left_after before (cs ++ ds) ≡ left_after (left_after before cs) ds
 unfolding left_after
@@ -435,7 +441,7 @@ more s t xs ys cs ds h v =
       given = givings.more s t xs ys cs ds h.given g;
       left = λ p. v.goes.left p ∙ ap (λ z. left_after z ds) (h.left (g.whole p).0) ∙ sym (left-append [] cs ds);
       done = λ all p. done_more s t cs ds v.goes p (all_second cs ds all) (h.done (all_first cs ds all) (g.whole p).0);
-      off = λ p. elim (v.each.1 p) [ inl e ↦ off_first xs ys cs ds (h.off e) | inr e ↦ off_second xs ys cs ds e ];
+      off = v.each.1 ∙ ap (λ z. z || (has_broken ys || has_failed ds)) h.off ∙ off-append xs ys cs ds;
     }
 
 -- what it comes to at a close
@@ -446,9 +452,9 @@ both_false : (a b : Bool) → a ≡ false → b ≡ false → (a || b) ≡ false
 both_false true b p q = absurd (true≢false p)
 both_false false b p q = q
 
-whole_of : (b : Bool) → (b ≡ true → ⊥) → b ≡ false
-whole_of true f = absurd (f refl)
-whole_of false f = refl
+neither : (a b : Bool) → (a || b) ≡ false → (a ≡ false) × (b ≡ false)
+neither true b p = absurd (true≢false p)
+neither false b p = (refl, p)
 
 closed_left : (cs ds : List Call) (n : ℕ) → left_after [] (cs ++ (ds ++ Closes n ∷ [])) ≡ left_after [] (cs ++ ds)
 unfolding left_after
@@ -458,30 +464,43 @@ over_of : (t : Session) (xs : List Entry) (cs ds : List Call) → Holds_so t xs 
 unfolding Over
 over_of t xs cs ds h whole written left =
     let failed : has_failed (cs ++ ds) ≡ false = sym (closed_failed cs ds t.number) ∙ written in
-    let calm : t.broken ≡ false = whole_of t.broken (λ e. true≢false (sym (h.off e) ∙ both_false (has_broken xs) (has_failed (cs ++ ds)) whole failed)) in
+    let calm : t.broken ≡ false = h.off ∙ both_false (has_broken xs) (has_failed (cs ++ ds)) whole failed in
     let none : t.output ≡ [] = h.left calm ∙ sym (closed_left cs ds t.number) ∙ left in
     givings.closed_given cs ds t.number ∙ sym (append-nil (given_in (cs ++ ds)))
     ∙ ap (λ z. given_in (cs ++ ds) ++ z) (sym (h.given.whole calm ∙ none)) ∙ h.given.is
 
-new_so : (s : Session) (x : List Entry) → s.output ≡ [] → s.broken ≡ false → octets_of x ≡ [] → Holds_so s x []
-unfolding given_in left_after
-new_so s x e b none = record {
+new_so : (s : Session) (x : List Entry) → s.output ≡ [] → s.broken ≡ false → octets_of x ≡ [] → has_broken x ≡ false → Holds_so s x []
+unfolding given_in left_after has_failed
+new_so s x e b none whole = record {
   given = record { rest = []; is = sym none; whole = λ p. sym e };
   left = λ p. e;
   done = λ all p. inl e;
-  off = λ p. absurd (true≢false (sym p ∙ b));
+  off = b ∙ sym (both_false (has_broken x) false whole refl);
 }
 
 keeps : (plan : Plan) → Keeps plan Visits Holds_so Over
-unfolding Over given_in octets_of
+unfolding Over given_in octets_of has_broken
 keeps plan = record {
   visit = λ s t xs ys cs ds h v. more s t xs ys cs ds h v;
   close = λ s t xs ys cs ds over h v. over_of t (xs ++ ys) cs ds (more s t xs ys cs ds h v);
-  open_ = λ l conn mind. new_so (begun conn (answering plan l) mind) _ refl refl refl;
+  open_ = λ l conn mind. new_so (begun conn (answering plan l) mind) _ refl refl refl refl;
   never = λ a b c. refl;
   full = λ m conn a b c. refl;
   unserved = λ m conn handed a b c. refl;
 }
+
+some_same : (t s : Session) → Some t ≡ Some s → t ≡ s
+some_same t s e = cc
+
+-- the session of a number is one of those
+kept_of : (conn : ℕ) (ss : List Session) (s : Session) → AreKept ss → session_of conn ss ≡ Some s → IsKept s
+unfolding session_of
+kept_of conn [] s p e = absurd (let q : ⊥ = cc in q)
+kept_of conn (t ∷ ss) s p e =
+    elim (cases_Bool (t.number == conn)) [
+      | inl q ↦ let same : Some t ≡ Some s = rw q at e in subst IsKept (some_same t s same) p.0
+      | inr q ↦ kept_of conn ss s p.1 (rw q at e)
+    ]
 
 -- ---- all connections
 
@@ -496,10 +515,10 @@ module _ (plan : Plan) where
   serving c turns h = knows_run plan Visits (all_left (rules_of plan)) own Holds_so Over (keeps plan) c turns h.none h.rises
 
   dialling : (caller : Caller) (c : Course) (address : List ℕ) (a : Dialled) → IsDialling plan caller c address a → Known (dials plan caller c address a)
-  unfolding octets_of
+  unfolding octets_of has_broken
   dialling caller c address a h =
       knows_dial_served plan caller Visits (all_left (rules_of plan)) own Holds_so Over (keeps plan)
-      (λ l conn mind. new_so (begun conn (calling plan caller l) mind) [] refl refl refl) (λ m s g a. left_served (rules_of plan) m s g a)
+      (λ l conn mind. new_so (begun conn (calling plan caller l) mind) [] refl refl refl refl) (λ m s g a. left_served (rules_of plan) m s g a)
       (max c.loop.moment a.first) c address a h.none refl h.rises
 
   -- one that is live
@@ -510,7 +529,7 @@ module _ (plan : Plan) where
 
   live_all : (s : Session) (xs : List Entry) (cs : List Call) → Holds_so s xs cs → has_broken xs ≡ false → has_failed cs ≡ false → left_after [] cs ≡ [] → given_in cs ≡ octets_of xs
   live_all s xs cs h whole written left =
-      let calm : s.broken ≡ false = whole_of s.broken (λ e. true≢false (sym (h.off e) ∙ both_false (has_broken xs) (has_failed cs) whole written)) in
+      let calm : s.broken ≡ false = h.off ∙ both_false (has_broken xs) (has_failed cs) whole written in
       sym (append-nil (given_in cs)) ∙ ap (λ z. given_in cs ++ z) (sym (h.given.whole calm ∙ h.left calm ∙ left)) ∙ h.given.is
 
   given_all : (s : Option Session) (conn : ℕ) (xs : List Entry) (cs : List Call) → Fit s conn xs cs
@@ -524,16 +543,49 @@ module _ (plan : Plan) where
       givings.given_at conn o.calls
       ∙ given_all (session_of conn o.state.loop.sessions) conn (of conn o.entries) (calls_at conn o.calls) (k.fits conn) order.whole order.written order.left
 
-  all_wait : (o : Out Course) → Known o → AllWait plan o
-  all_wait o k conn s is calm =
+  calm_of : (o : Out Course) (conn : ℕ) (s : Session) → AreKept o.state.loop.sessions → session_of conn o.state.loop.sessions ≡ Some s → s.broken ≡ false
+  calm_of o conn s kept is = (neither s.broken (is_released s && (length s.output == 0)) (kept_of conn o.state.loop.sessions s kept is)).0
+
+  all_wait : (o : Out Course) → Known o → AreKept o.state.loop.sessions → AllWait plan o
+  all_wait o k kept conn s is =
       let h = live o k conn s is in
+      let calm = calm_of o conn s kept is in
       record {
         rest = ap (λ z. z ++ s.output) (givings.given_at conn o.calls) ∙ ap (λ z. given_in (calls_at conn o.calls) ++ z) (sym (h.given.whole calm)) ∙ h.given.is;
         left = h.left calm;
       }
 
-  is_written : (o : Out Course) → Known o → IsWritten plan o
-  is_written o k conn s is calm all = (live o k conn s is).done all calm
+  is_whole : (o : Out Course) → Known o → AreKept o.state.loop.sessions → IsWhole plan o
+  is_whole o k kept conn s is =
+      let h = live o k conn s is in
+      neither (has_broken (of conn o.entries)) (has_failed (calls_at conn o.calls)) (sym h.off ∙ calm_of o conn s kept is)
+
+  is_written : (o : Out Course) → Known o → AreKept o.state.loop.sessions → IsWritten plan o
+  is_written o k kept conn s is all = (live o k conn s is).done all (calm_of o conn s kept is)
+
+  -- ---- no session is left that broke off
+
+  serving_kept : (c : Course) (turns : List Turn) → IsServing plan c turns → AreKept (run plan c turns).state.loop.sessions
+  serving_kept c turns h = others_are_closed plan c turns (subst AreKept (sym h.none) tt)
+
+  called_kept : (user : Option Mind) (caller : Caller) (l : Loop) (conn : ℕ) (a : Met) → AreKept l.sessions → AreKept (called_by user plan caller l conn a).state.sessions
+  unfolding served
+  called_kept None caller l conn a p = p
+  called_kept (Some mind) caller l conn a p =
+      let r = rules_of plan in
+      kept_rests r l.moment
+      (handled r l.moment (begun conn (calling plan caller l) mind) (Begins caller.engine plan.rbc (next_u64 l.words).0) (first_of nothing_said a.says)).0 a.wrote
+
+  dial_kept : (conn : Option ℕ) (caller : Caller) (c : Course) (address : List ℕ) (a : Dialled) → AreKept c.loop.sessions → AreKept (dials_to conn plan caller c address a).state.loop.sessions
+  unfolding called
+  dial_kept None caller c address a p = p
+  dial_kept (Some conn) caller c address a p =
+      let d = asks a.first c in
+      others_are_closed plan (opens plan caller d conn a.met).state a.turns (called_kept (next_user d.loop.users) caller d.loop conn a.met p)
+
+  dialling_kept : (caller : Caller) (c : Course) (address : List ℕ) (a : Dialled) → IsDialling plan caller c address a → AreKept (dials plan caller c address a).state.loop.sessions
+  unfolding dials
+  dialling_kept caller c address a h = dial_kept a.conn caller c address a (subst AreKept (sym h.none) tt)
 
 pub all_are_given : AllAreGiven
 all_are_given = record {
@@ -543,12 +595,18 @@ all_are_given = record {
 
 pub rest_waits : RestWaits
 rest_waits = record {
-  serving = λ plan c turns h. all_wait plan (run plan c turns) (serving plan c turns h);
-  dialling = λ plan caller c address a h. all_wait plan (dials plan caller c address a) (dialling plan caller c address a h);
+  serving = λ plan c turns h. all_wait plan (run plan c turns) (serving plan c turns h) (serving_kept plan c turns h);
+  dialling = λ plan caller c address a h. all_wait plan (dials plan caller c address a) (dialling plan caller c address a h) (dialling_kept plan caller c address a h);
+}
+
+pub live_are_whole : LiveAreWhole
+live_are_whole = record {
+  serving = λ plan c turns h. is_whole plan (run plan c turns) (serving plan c turns h) (serving_kept plan c turns h);
+  dialling = λ plan caller c address a h. is_whole plan (dials plan caller c address a) (dialling plan caller c address a h) (dialling_kept plan caller c address a h);
 }
 
 pub output_is_written : OutputIsWritten
 output_is_written = record {
-  serving = λ plan c turns h. is_written plan (run plan c turns) (serving plan c turns h);
-  dialling = λ plan caller c address a h. is_written plan (dials plan caller c address a) (dialling plan caller c address a h);
+  serving = λ plan c turns h. is_written plan (run plan c turns) (serving plan c turns h) (serving_kept plan c turns h);
+  dialling = λ plan caller c address a h. is_written plan (dials plan caller c address a) (dialling plan caller c address a h) (dialling_kept plan caller c address a h);
 }

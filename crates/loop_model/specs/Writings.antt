@@ -78,10 +78,19 @@ pub record Waits (conn : ℕ) (s : Session) (o : Out Course) : Type 0 where
   pub left : s.output ≡ left_after [] (calls_at conn o.calls)
 
 abbrev pub AllWait : Plan → Out Course → Type 0
-AllWait plan o = (conn : ℕ) (s : Session) → session_of conn o.state.loop.sessions ≡ Some s → s.broken ≡ false → Waits conn s o
+AllWait plan o = (conn : ℕ) (s : Session) → session_of conn o.state.loop.sessions ≡ Some s → Waits conn s o
 
 abbrev pub RestWaits : Type 0
 RestWaits = Holds AllWait
+
+-- none such had an event behind which it is closed at once, or a read or a write that failed
+abbrev pub IsWhole : Plan → Out Course → Type 0
+IsWhole plan o =
+    (conn : ℕ) (s : Session) → session_of conn o.state.loop.sessions ≡ Some s
+    → (has_broken (of conn o.entries) ≡ false) × (has_failed (calls_at conn o.calls) ≡ false)
+
+abbrev pub LiveAreWhole : Type 0
+LiveAreWhole = Holds IsWhole
 
 -- ---- writing
 
@@ -119,7 +128,7 @@ last_answer last (call ∷ calls) = last_answer (answered call last) calls
 -- octets wait at a live connection only where the last write found no room
 abbrev pub IsWritten : Plan → Out Course → Type 0
 IsWritten plan o =
-    (conn : ℕ) (s : Session) → session_of conn o.state.loop.sessions ≡ Some s → s.broken ≡ false → AllTakeOne (calls_at conn o.calls)
+    (conn : ℕ) (s : Session) → session_of conn o.state.loop.sessions ≡ Some s → AllTakeOne (calls_at conn o.calls)
     → (s.output ≡ []) ⊎ (last_answer None (calls_at conn o.calls) ≡ Some write.NotNow)
 
 abbrev pub OutputIsWritten : Type 0

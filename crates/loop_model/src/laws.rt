@@ -6,7 +6,7 @@ ghost use Rattle.loop_model.specs.Openings.{OpeningsAreTold, DialIsOpened};
 ghost use Rattle.loop_model.specs.Recordings.{RecordingsReplay};
 ghost use Rattle.loop_model.specs.Stalls.{StallsAreTold};
 ghost use Rattle.loop_model.specs.Turnings.{EndsAreTold, OthersAreClosed, ReadableProgress, TicksAreDue, WordsAreNext};
-ghost use Rattle.loop_model.specs.Writings.{AllAreGiven, ExpiredAreClosed, OutputIsWritten, RestWaits, TurnsWait};
+ghost use Rattle.loop_model.specs.Writings.{AllAreGiven, ExpiredAreClosed, LiveAreWhole, OutputIsWritten, RestWaits, TurnsWait};
 ghost use Rattle.loop_model.specs.Laws.{ConnectionsAreIsolated, JournalIsPrinted, OctetsAreAccounted, CallsAreOnOpen, FaultsHaveFailed, OneReadATurn, TurnsAreCounted, FewAreLive, SessionsRise};
 
 /// The outcomes of each connection are those that the end model gives to its own events, whichever session answered for it; and what is
@@ -34,11 +34,12 @@ pub fn octets()
 
 /// The octets given to a connection that was closed in order are all those of its outcomes. At a live one the rest of them waits, which is
 /// what its last write left; and where each write takes an octet at least, as wires promise, octets wait only where the last one found no
-/// room.
+/// room. No live connection had an event `ended`, `fault` or `stalled`, or a read or a write that failed.
 pub fn octets_given()
     ensures all { AllAreGiven }
     ensures rest { RestWaits }
     ensures written { OutputIsWritten }
+    ensures whole { LiveAreWhole }
 {}
 
 /// The joined octets of a connection's events are a beginning of those taken from it, and all of them where it never stalled.
