@@ -28,3 +28,4 @@ pub mod Opening
 pub mod Untils
 pub mod Writing
 pub mod Stalling
+pub mod Breaking

@@ -17,6 +17,8 @@ use Rattle.loop_model.specs.Sessions.{Rules, Session, Given, Begins, Hears, Send
 use Rattle.loop_model.specs.Visits.{Flow, Going, PutOff, Failing, after_write, writes_if, writes_once, writes, Wrote, fault_unless, flowed, written_unless, written, rests, rests_behind, Visit, Tick, Read, Write, Expire, Met, is_due, came, read_once, served, visited}
 use Rattle.loop_model.specs.Loops.{Plan, rules_of, visit_at}
 use Rattle.loop_model.specs.Points.{is_stalled}
+use Rattle.loop_model.specs.Turnings.{is_ended}
+use Rattle.loop_model.specs.Writings.{has_stopped}
 use Rattle.loop_model.specs.Stalls.{are_too_many, waiting_then, count_of, begins_stalled, StallSo, IsStalledSo, IsBounded, AreBounded, StallsAreTold}
 use Rattle.loop_model.proofs.Steadies.{Steady, Usual, steady_handled, steady_pours, follows_handled, Calls, Left, Stays, Closed, left_visited}
 use Rattle.loop_model.proofs.Owns.{Bare, usual_calls}
@@ -150,8 +152,8 @@ not_stalled k Stalls p = absurd p
 usual : Usual IsNoStall
 usual = record { sends = λ text. tt; leaves = λ sub. tt; takes = tt }
 
-record Told (s t : Session) (xs : List Entry) : Type 0 where
-  bounded : IsBounded t
+pub record Told (s t : Session) (xs : List Entry) : Type 0 where
+  pub bounded : IsBounded t
   first : begins_stalled xs ≡ false
   rest : StallSo (length s.output) xs
   now : behind (length s.output) xs ≡ length t.output
@@ -206,7 +208,36 @@ steady r = record {
 
 -- ---- events at a released session
 
+stopped-append : (xs ys : List Entry) → has_stopped (xs ++ ys) ≡ (has_stopped xs || has_stopped ys)
+unfolding has_stopped
+stopped-append [] ys = refl
+stopped-append (x ∷ xs) ys =
+    ap (λ z. (is_ended x.event || is_stalled x.event) || z) (stopped-append xs ys) ∙ or_assoc (is_ended x.event || is_stalled x.event) (has_stopped xs) (has_stopped ys)
+  where
+    or_assoc : (a b c : Bool) → (a || (b || c)) ≡ ((a || b) || c)
+    or_assoc true b c = refl
+    or_assoc false b c = refl
+
+pub calm_two : (xs ys : List Entry) → has_stopped xs ≡ false → has_stopped ys ≡ false → has_stopped (xs ++ ys) ≡ false
+calm_two xs ys p q = stopped-append xs ys ∙ ap (λ z. z || has_stopped ys) p ∙ q
+
+calm_one : (x : Entry) → (is_ended x.event || is_stalled x.event) ≡ false → has_stopped (x ∷ []) ≡ false
+unfolding has_stopped
+calm_one x p = ap (λ z. z || false) p
+
+no_stop : (k : KEnd) (g : Given) → IsAfter g → (is_ended (written_as k g) || is_stalled (written_as k g)) ≡ false
+no_stop k (Begins engine rbc rb) p = absurd p
+no_stop k (Hears octets) p = absurd p
+no_stop k (Sends text) p = refl
+no_stop k Takes p = refl
+no_stop k (Leaves sub) p = refl
+no_stop k Ticks p = absurd p
+no_stop k Ends p = absurd p
+no_stop k Faults p = absurd p
+no_stop k Stalls p = absurd p
+
 record Silent (t : Session) (xs : List Entry) : Type 0 where
+  calm : has_stopped xs ≡ false
   gone : is_released t ≡ true
   bounded : IsBounded t
   first : begins_stalled xs ≡ false
@@ -222,6 +253,7 @@ silences_then s t u xs ys cs ds p q gone b =
     let x = p gone b in
     let y = q x.gone x.bounded in
     record {
+      calm = calm_two xs ys x.calm y.calm;
       gone = y.gone;
       bounded = y.bounded;
       first = first_two xs ys x.first y.first;
@@ -230,8 +262,9 @@ silences_then s t u xs ys cs ds p q gone b =
     }
 
 silent_nothing : (s t : Session) → t.output ≡ s.output → t.end ≡ s.end → Silences s t [] []
-unfolding Silences behind
+unfolding Silences behind has_stopped
 silent_nothing s t e f gone b = record {
+  calm = refl;
   gone = ap (λ (k : KEnd). is_some k.core.released) f ∙ gone;
   bounded = subst (λ z. length z ≤ most_output) (sym e) b;
   first = refl;
@@ -251,6 +284,7 @@ module _ (stays : ReleaseStays) (breaks_release : BreaksRelease) (r : Rules) whe
         let x = entry_of r m s g in
         let none : count_of x ≡ 0 = ap length nothing in
         record {
+          calm = calm_one x (no_stop s.end g p);
           gone = stays_released stays breaks_release r m s.end g gone;
           bounded = subst (λ z. length z ≤ most_output) (sym (ap (λ z. s.output ++ z) nothing ∙ append-nil s.output)) b;
           first = no_stall s.end g p;
@@ -266,12 +300,14 @@ module _ (stays : ReleaseStays) (breaks_release : BreaksRelease) (r : Rules) whe
   }
 
   -- a fault, with what follows it, where any number of octets waits
-  record Quietly (xs : List Entry) : Type 0 where
-    first : begins_stalled xs ≡ false
-    rest : (waiting : ℕ) → waiting ≤ most_output → StallSo waiting xs
+  pub record Quietly (xs : List Entry) : Type 0 where
+    pub calm : has_stopped xs ≡ false
+    pub first : begins_stalled xs ≡ false
+    pub rest : (waiting : ℕ) → waiting ≤ most_output → StallSo waiting xs
 
   quietly_none : Quietly []
-  quietly_none = record { first = refl; rest = λ w few. tt }
+  unfolding has_stopped
+  quietly_none = record { calm = refl; first = refl; rest = λ w few. tt }
 
   fed_fault : (m : ℕ) (s : Session) → IsBounded s
       → fed r m s Faults ≡ (record s { end = end_after r m s.end Faults; output = s.output ++ octets_in (outcomes_of r m s.end Faults); broken = s.broken || true }, entry_of r m s Faults ∷ [])
@@ -293,6 +329,7 @@ module _ (stays : ReleaseStays) (breaks_release : BreaksRelease) (r : Rules) whe
       subst (λ (z : Session × List Entry). IsBounded z.0) (sym e) (subst (λ z. length z ≤ most_output) (sym (ap (λ z. s.output ++ z) nothing ∙ append-nil s.output)) b) in
       let h = f.holds gone few in
       subst Quietly (sym (f.is ∙ ap (λ (z : Session × List Entry). z.1 ++ f.rest) e)) (record {
+        calm = calm_two (x ∷ []) f.rest (calm_one x refl) h.calm;
         first = refl;
         rest = λ w small. silent_one w x f.rest small (ap length nothing) h.first (h.rest w small);
       })
@@ -335,7 +372,7 @@ module _ (stays : ReleaseStays) (breaks_release : BreaksRelease) (r : Rules) whe
       subst (λ z. Quietly (z ++ (flowed r m x.state a.says).entries)) (sym (acts_none r m answers (s, Going)))
       (flowed_quietly m x.state.1 x.state.0 a.says (acts_bounded answers (s, Going) b))
 
-  rests_quietly : (m : ℕ) (s : Session) (a : Wrote) → IsBounded s → Quietly (rests r m s a).entries
+  pub rests_quietly : (m : ℕ) (s : Session) (a : Wrote) → IsBounded s → Quietly (rests r m s a).entries
   unfolding rests written
   rests_quietly m s a b =
       let w = written_unless s.broken r m s a in
@@ -357,7 +394,7 @@ module _ (stays : ReleaseStays) (breaks_release : BreaksRelease) (r : Rules) whe
       let x = steady_handled r IsNoStall Tells (steady r) usual m s g says p b in
       then_quietly s h.0 h.1 (rests r m h.0 a.wrote).entries x (rests_quietly m h.0 a.wrote x.bounded)
 
-  came_told : (m : ℕ) (reading : Reading) (s : Session) (says : List Says) → IsBounded s → Told s (came reading r m s says).0 (came reading r m s says).1
+  pub came_told : (m : ℕ) (reading : Reading) (s : Session) (says : List Says) → IsBounded s → Told s (came reading r m s says).0 (came reading r m s says).1
   unfolding Tells
   came_told m (Gave octets) s says b = steady_pours r IsNoStall Tells (steady r) usual (λ octets. tt) m s octets says b
   came_told m NotNow s says b = told_nothing s s refl b
@@ -391,10 +428,10 @@ module _ (stays : ReleaseStays) (breaks_release : BreaksRelease) (r : Rules) whe
 
 -- ---- how much waits
 
-Bounds : Session → Session → List Entry → List Call → Type 0
+unfoldable pub Bounds : Session → Session → List Entry → List Call → Type 0
 Bounds s t xs cs = IsBounded s → IsBounded t
 
-bounds : (r : Rules) → Steady r (λ g. Unit {0}) Bounds
+pub bounds : (r : Rules) → Steady r (λ g. Unit {0}) Bounds
 unfolding Bounds
 bounds r = record {
   none = λ s b. b;

@@ -58,7 +58,7 @@ unfolding fed joined
 fed_broken r m s =
     elim (cases_Bool (nat_lt most_output (length s.output + length (octets_in (outcomes_of r m s.end Faults))))) [ inl p ↦ rw p refl | inr p ↦ rw p (or_right s.broken) ]
 
-handled_broken : (r : Rules) (m : ℕ) (s : Session) (says : Says) → (handled r m s Faults says).0.broken ≡ true
+pub handled_broken : (r : Rules) (m : ℕ) (s : Session) (says : Says) → (handled r m s Faults says).0.broken ≡ true
 unfolding Broken
 handled_broken r m s says = (follows_handled r (λ g. Unit {0}) Broken (breaking r) givings.all_given.usual m s Faults says).holds (fed_broken r m s)
 
@@ -196,7 +196,7 @@ pub record Goes (s t : Session) (cs : List Call) : Type 0 where
       → (t.output ≡ []) ⊎ ((last_answer last cs ≡ Some write.NotNow) ⊎ ((t.output ≡ s.output) × (last_answer last cs ≡ last)))
 
 -- it broke off before, or by an event or a call
-Off : Session → Session → List Entry → List Call → Type 0
+unfoldable pub Off : Session → Session → List Entry → List Call → Type 0
 Off s t xs cs = t.broken ≡ (s.broken || (has_broken xs || has_failed cs))
 
 or_assoc : (a b c : Bool) → (a || (b || c)) ≡ ((a || b) || c)
@@ -244,7 +244,7 @@ breaks_so k Ends = refl
 breaks_so k Faults = refl
 breaks_so k Stalls = refl
 
-off_steady : (r : Rules) → Steady r (λ g. Unit {0}) Off
+pub off_steady : (r : Rules) → Steady r (λ g. Unit {0}) Off
 unfolding Off has_broken has_failed
 off_steady r = record {
   none = λ s. or_none s.broken;
@@ -256,7 +256,7 @@ off_steady r = record {
   parts = λ s at gone. or_none s.broken;
 }
 
-off_read : (r : Rules) (m : ℕ) (s : Session) (waits : ℕ) (reading : Reading) (says : List Says)
+pub off_read : (r : Rules) (m : ℕ) (s : Session) (waits : ℕ) (reading : Reading) (says : List Says)
     → Off s (came reading r m s says).0 (came reading r m s says).1 (Reads s.number most_read waits reading ∷ [])
 unfolding Off has_broken has_failed
 off_read r m s waits (Gave octets) says = steady_pours r (λ g. Unit {0}) Off (off_steady r) givings.all_given.usual (λ octets. tt) m s octets says

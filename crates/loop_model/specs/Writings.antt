@@ -11,11 +11,14 @@ use Rattle.link_trait.specs.declared.wires.WriteAnswer.TheVariants as write
 use Rattle.loop_model.specs.Journals.{Entry}
 use Rattle.loop_model.specs.Outs.{Out}
 use Rattle.loop_model.specs.Sessions.{Rules, Session}
-use Rattle.loop_model.specs.Visits.{is_due, Tick as Ticks, visited}
+use Rattle.loop_model.specs.Visits.{is_due, Visit, Tick as Ticks, Met, visited}
 use Rattle.loop_model.specs.Loops.{Plan, numbers, swept, Sweeps, before, Course, Turn, readied, went}
 use Rattle.loop_model.specs.Parts.{session_of, of, calls_at, Rises}
-use Rattle.loop_model.specs.Laws.{octets_of, Holds}
+use Rattle.loop_model.specs.Laws.{octets_of, is_failed, Holds}
 use Rattle.loop_model.specs.Faulted.{has_failed}
+use Rattle.loop_model.specs.Points.{is_stalled}
+use Rattle.loop_model.specs.Turnings.{is_ended}
+use Rattle.loop_model.specs.Stalls.{IsBounded}
 
 -- ---- what waits
 
@@ -133,6 +136,38 @@ IsWritten plan o =
 
 abbrev pub OutputIsWritten : Type 0
 OutputIsWritten = Holds IsWritten
+
+-- ---- what breaks off
+
+-- whether the line ended, or the session stalled
+unfoldable pub has_stopped : List Entry → Bool
+has_stopped [] = false
+has_stopped (x ∷ xs) = (is_ended x.event || is_stalled x.event) || has_stopped xs
+
+abbrev pub IsNoWrite : wires.Call → Type 0
+IsNoWrite (Listens address listens) = Unit {0}
+IsNoWrite (Dials address conn) = Unit {0}
+IsNoWrite (Turns until happening) = Unit {0}
+IsNoWrite (Reads conn size waits reading) = Unit {0}
+IsNoWrite (Writes conn piece answer) = ⊥
+IsNoWrite (Closes conn) = Unit {0}
+
+-- nothing is written
+abbrev pub WriteNone : List wires.Call → Type 0
+WriteNone [] = Unit {0}
+WriteNone (call ∷ calls) = IsNoWrite call × WriteNone calls
+
+-- nothing is written behind a call that failed
+abbrev pub EndAtFailure : List wires.Call → Type 0
+EndAtFailure [] = Unit {0}
+EndAtFailure (call ∷ calls) = (is_failed call ≡ true → WriteNone calls) × EndAtFailure calls
+
+-- in a visit in which the line ends or the session stalls nothing is written, and behind a read or a write that fails nothing is. (Behind
+-- that visit the session is closed: no live one broke off)
+pub record BrokenAreLeft : Type 0 where
+  pub stopped : (r : Rules) (m : ℕ) (visit : Visit) (s : Session) (a : Met) → IsBounded s
+      → has_stopped (visited r m visit s a).entries ≡ true → WriteNone (visited r m visit s a).calls
+  pub failed : (r : Rules) (m : ℕ) (visit : Visit) (s : Session) (a : Met) → EndAtFailure (visited r m visit s a).calls
 
 -- ---- closing moments
 

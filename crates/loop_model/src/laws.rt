@@ -6,7 +6,7 @@ ghost use Rattle.loop_model.specs.Openings.{OpeningsAreTold, DialIsOpened};
 ghost use Rattle.loop_model.specs.Recordings.{RecordingsReplay};
 ghost use Rattle.loop_model.specs.Stalls.{StallsAreTold};
 ghost use Rattle.loop_model.specs.Turnings.{EndsAreTold, OthersAreClosed, ReadableProgress, TicksAreDue, WordsAreNext};
-ghost use Rattle.loop_model.specs.Writings.{AllAreGiven, ExpiredAreClosed, LiveAreWhole, OutputIsWritten, RestWaits, TurnsWait};
+ghost use Rattle.loop_model.specs.Writings.{AllAreGiven, BrokenAreLeft, ExpiredAreClosed, LiveAreWhole, OutputIsWritten, RestWaits, TurnsWait};
 ghost use Rattle.loop_model.specs.Laws.{ConnectionsAreIsolated, JournalIsPrinted, OctetsAreAccounted, CallsAreOnOpen, FaultsHaveFailed, OneReadATurn, TurnsAreCounted, FewAreLive, SessionsRise};
 
 /// The outcomes of each connection are those that the end model gives to its own events, whichever session answered for it; and what is
@@ -108,6 +108,13 @@ pub fn endings()
 /// behind the event that gave the new ones; and no more wait at a live connection.
 pub fn stalls()
     ensures { StallsAreTold }
+{
+    er_end::laws::keeping();
+}
+
+/// In a visit in which a line ends or a session stalls nothing is written to it, and behind a read or a write that fails nothing is.
+pub fn broken()
+    ensures { BrokenAreLeft }
 {
     er_end::laws::keeping();
 }
