@@ -8,7 +8,7 @@ use Rattle.loop_model.specs.Visits.{most_read}
 use Rattle.loop_model.specs.Loops.{Plan, rules_of, Course, run, dials}
 use Rattle.loop_model.specs.Parts.{session_of, of, calls_at}
 use Rattle.loop_model.specs.Laws.{AreOnOpen, is_close, EndAtClose, CallsAreOnOpen}
-use Rattle.loop_model.proofs.Steadies.{Steady, Calls}
+use Rattle.loop_model.proofs.Steadies.{Steady, AllLeft, all_left_of}
 use Rattle.loop_model.proofs.Lives.{Own, Keeps, Fits, Knows, knows_run}
 use Rattle.loop_model.proofs.Dialling.{knows_dial}
 use Rattle.loop_model.proofs.Owns.{Bare, AllGiven, Both, steady_both, bare_both, own_steady, own_bare, own_reads, usual_calls}
@@ -66,10 +66,11 @@ Q = Both Own Opens
 q_steady : (r : Rules) → Steady r (λ g. Unit {0}) Q
 q_steady r = steady_both r (λ g. Unit {0}) Own Opens (own_steady r) (steady r)
 
-q_calls : (r : Rules) → Calls r Q
+q_calls : (r : Rules) → AllLeft r Q
 q_calls r =
-    usual_calls r (λ g. Unit {0}) Q (q_steady r) all_given (bare_both Own Opens own_bare bare)
-    (λ s n reading. (own_reads s n reading, reads s n reading))
+    all_left_of r Q
+    (usual_calls r (λ g. Unit {0}) Q (q_steady r) all_given (bare_both Own Opens own_bare bare)
+    (λ s n reading. (own_reads s n reading, reads s n reading)))
 
 abbrev Live : Session → List Entry → List Call → Type 0
 Live s xs cs = NoClose cs

@@ -13,7 +13,7 @@ use Rattle.loop_model.specs.Visits.{Met, rests, served}
 use Rattle.loop_model.specs.Loops.{Plan, rules_of, Loop, next_user, begun, Caller, calling, called_by, called, Course, asks, Turn, run, Dialled, opens, dials_to, dials}
 use Rattle.loop_model.specs.Parts.{session_of, of, calls_at, opened_in, Rises, newest}
 use Rattle.loop_model.proofs.Projections.{of-append, opened_in-append, rises_rest}
-use Rattle.loop_model.proofs.Steadies.{Steady, Usual, Calls, Left, Stays, Closed, steady_handled, follows_handled, left_rests}
+use Rattle.loop_model.proofs.Steadies.{Steady, Usual, Left, Stays, Closed, AllLeft, steady_handled, follows_handled}
 use Rattle.loop_model.proofs.Lives.{Own, Keeps, LeftAt, own_left, fits_left, Fits, Apart, Knows, knows_on}
 use Rattle.loop_model.proofs.Owns.{own_steady}
 
@@ -43,11 +43,8 @@ if_false : {A : Type 0} (b : Bool) (x y : A) → b ≡ false → (if b then x el
 if_false b x y p = rw p refl
 
 module _ (plan : Plan) (caller : Caller) (Q : Session → Session → List Entry → List Call → Type 0)
-    (c : Calls (rules_of plan) Q) (own : (s t : Session) (xs : List Entry) (cs : List Call) → Q s t xs cs → Own s t xs cs)
+    (c : AllLeft (rules_of plan) Q) (own : (s t : Session) (xs : List Entry) (cs : List Call) → Q s t xs cs → Own s t xs cs)
     (K : Session → List Entry → List Call → Type 0) (E : List Entry → List Call → Type 0) (k : Keeps plan Q K E)
-    (at : ℕ) (first : (l : Loop) (conn : ℕ) (mind : Mind) (says : Says) → l.moment ≡ at
-    → K (handled (rules_of plan) l.moment (begun conn (calling plan caller l) mind) (Begins caller.engine plan.rbc (next_u64 l.words).0) says).0
-    (handled (rules_of plan) l.moment (begun conn (calling plan caller l) mind) (Begins caller.engine plan.rbc (next_u64 l.words).0) says).1 [])
   where
     abbrev Known : List Entry → List Call → List Session → Type 0
     Known js bs ss = Knows plan Q c own K E k js bs ss
@@ -101,52 +98,97 @@ module _ (plan : Plan) (caller : Caller) (Q : Session → Session → List Entry
           );
     }
 
-    pub knows_called : (user : Option Mind) (l : Loop) (conn : ℕ) (address : List ℕ) (a : Met) → l.sessions ≡ [] → l.moment ≡ at
-        → Known (called_by user plan caller l conn a).entries (Dials address (Some conn) ∷ (called_by user plan caller l conn a).calls) (called_by user plan caller l conn a).state.sessions
-    unfolding served
-    knows_called None l conn address a none now = rw none (knows_away conn l.moment address)
-    knows_called (Some mind) l conn address a none now =
-        let r = rules_of plan in
-        let m = l.moment in
-        let s = begun conn (calling plan caller l) mind in
-        let g = Begins caller.engine plan.rbc (next_u64 l.words).0 in
-        let says = first_of nothing_said a.says in
-        let h = handled r m s g says in
-        let o = steady_handled r (λ g. Unit {0}) Own (own_steady r) any_usual m s g says tt in
-        left_of conn address h.0 (rests r m h.0 a.wrote).state h.1 (rests r m h.0 a.wrote).entries (rests r m h.0 a.wrote).calls
-        o.number o.entries (first l conn mind says now) (left_rests r Q c.quiet m h.0 h.0 a.wrote [] [] (c.none h.0))
+    -- of the session that begins, where all that comes of its opening is known
+    abbrev KnowsFirst : ℕ → Type 0
+    KnowsFirst at =
+        (mind : Mind) (l : Loop) (conn : ℕ) (address : List ℕ) (a : Met) → l.sessions ≡ [] → l.moment ≡ at
+        → Known (called_by (Some mind) plan caller l conn a).entries (Dials address (Some conn) ∷ (called_by (Some mind) plan caller l conn a).calls) (called_by (Some mind) plan caller l conn a).state.sessions
 
-    -- a dial that opened its connection, and the run behind it
-    knows_opened : (d : Course) (conn : ℕ) (address : List ℕ) (a : Met) (turns : List Turn) → d.loop.sessions ≡ [] → d.loop.moment ≡ at
-        → Rises 0 (opened_in (Dials address (Some conn) ∷ ((opens plan caller d conn a).calls ++ (run plan (opens plan caller d conn a).state turns).calls)))
-        → Known ((opens plan caller d conn a).entries ++ (run plan (opens plan caller d conn a).state turns).entries)
-        (Dials address (Some conn) ∷ ((opens plan caller d conn a).calls ++ (run plan (opens plan caller d conn a).state turns).calls))
-        (run plan (opens plan caller d conn a).state turns).state.loop.sessions
-    unfolding called
-    knows_opened d conn address a turns none now rises =
-        let o = opens plan caller d conn a in
-        let e = run plan o.state turns in
-        let bs : List Call = Dials address (Some conn) ∷ o.calls in
-        let r = subst (λ z. Rises 0 z) (opened_in-append bs e.calls) rises in
-        knows_on plan Q c own K E k o.state turns o.entries bs (rises_rest 0 (opened_in bs) (opened_in e.calls) r)
-        (knows_called (next_user d.loop.users) d.loop conn address a none now)
+    module _ (at : ℕ) (begins : KnowsFirst at) where
+      knows_by : (user : Option Mind) (l : Loop) (conn : ℕ) (address : List ℕ) (a : Met) → l.sessions ≡ [] → l.moment ≡ at
+          → Known (called_by user plan caller l conn a).entries (Dials address (Some conn) ∷ (called_by user plan caller l conn a).calls) (called_by user plan caller l conn a).state.sessions
+      knows_by None l conn address a none now = rw none (knows_away conn l.moment address)
+      knows_by (Some mind) l conn address a none now = begins mind l conn address a none now
 
-    knows_to : (conn : Option ℕ) (d : Course) (address : List ℕ) (a : Dialled) → d.loop.sessions ≡ [] → max d.loop.moment a.first ≡ at
-        → Rises 0 (opened_in (dials_to conn plan caller d address a).calls)
-        → Known (dials_to conn plan caller d address a).entries (dials_to conn plan caller d address a).calls (dials_to conn plan caller d address a).state.loop.sessions
-    unfolding calls_at opened_in Fits of session_of Apart
-    knows_to None d address a none now rises = rw none (record { fits = λ n. k.never; apart = tt; low = λ n up. (refl, refl, refl) })
-    knows_to (Some conn) d address a none now rises = knows_opened (asks a.first d) conn address a.met a.turns none now rises
+      -- a dial that opened its connection, and the run behind it
+      knows_opened : (d : Course) (conn : ℕ) (address : List ℕ) (a : Met) (turns : List Turn) → d.loop.sessions ≡ [] → d.loop.moment ≡ at
+          → Rises 0 (opened_in (Dials address (Some conn) ∷ ((opens plan caller d conn a).calls ++ (run plan (opens plan caller d conn a).state turns).calls)))
+          → Known ((opens plan caller d conn a).entries ++ (run plan (opens plan caller d conn a).state turns).entries)
+          (Dials address (Some conn) ∷ ((opens plan caller d conn a).calls ++ (run plan (opens plan caller d conn a).state turns).calls))
+          (run plan (opens plan caller d conn a).state turns).state.loop.sessions
+      unfolding called
+      knows_opened d conn address a turns none now rises =
+          let o = opens plan caller d conn a in
+          let e = run plan o.state turns in
+          let bs : List Call = Dials address (Some conn) ∷ o.calls in
+          let r = subst (λ z. Rises 0 z) (opened_in-append bs e.calls) rises in
+          knows_on plan Q c own K E k o.state turns o.entries bs (rises_rest 0 (opened_in bs) (opened_in e.calls) r)
+          (knows_by (next_user d.loop.users) d.loop conn address a none now)
 
-    pub knows_dial_of : (d : Course) (address : List ℕ) (a : Dialled) → d.loop.sessions ≡ [] → max d.loop.moment a.first ≡ at
-        → Rises 0 (opened_in (dials plan caller d address a).calls)
-        → Known (dials plan caller d address a).entries (dials plan caller d address a).calls (dials plan caller d address a).state.loop.sessions
-    unfolding dials
-    knows_dial_of d address a none now rises = knows_to a.conn d address a none now rises
+      knows_to : (conn : Option ℕ) (d : Course) (address : List ℕ) (a : Dialled) → d.loop.sessions ≡ [] → max d.loop.moment a.first ≡ at
+          → Rises 0 (opened_in (dials_to conn plan caller d address a).calls)
+          → Known (dials_to conn plan caller d address a).entries (dials_to conn plan caller d address a).calls (dials_to conn plan caller d address a).state.loop.sessions
+      unfolding calls_at opened_in Fits of session_of Apart
+      knows_to None d address a none now rises = rw none (record { fits = λ n. k.never; apart = tt; low = λ n up. (refl, refl, refl) })
+      knows_to (Some conn) d address a none now rises = knows_opened (asks a.first d) conn address a.met a.turns none now rises
+
+      knows_from : (d : Course) (address : List ℕ) (a : Dialled) → d.loop.sessions ≡ [] → max d.loop.moment a.first ≡ at
+          → Rises 0 (opened_in (dials plan caller d address a).calls)
+          → Known (dials plan caller d address a).entries (dials plan caller d address a).calls (dials plan caller d address a).state.loop.sessions
+      unfolding dials
+      knows_from d address a none now rises = knows_to a.conn d address a none now rises
+
+    -- where it holds behind the events of the opening
+    module _ (at : ℕ) (first : (l : Loop) (conn : ℕ) (mind : Mind) (says : Says) → l.moment ≡ at
+        → K (handled (rules_of plan) l.moment (begun conn (calling plan caller l) mind) (Begins caller.engine plan.rbc (next_u64 l.words).0) says).0
+        (handled (rules_of plan) l.moment (begun conn (calling plan caller l) mind) (Begins caller.engine plan.rbc (next_u64 l.words).0) says).1 [])
+      where
+        begins_handled : KnowsFirst at
+        unfolding served
+        begins_handled mind l conn address a none now =
+            let r = rules_of plan in
+            let m = l.moment in
+            let s = begun conn (calling plan caller l) mind in
+            let g = Begins caller.engine plan.rbc (next_u64 l.words).0 in
+            let says = first_of nothing_said a.says in
+            let h = handled r m s g says in
+            let o = steady_handled r (λ g. Unit {0}) Own (own_steady r) any_usual m s g says tt in
+            left_of conn address h.0 (rests r m h.0 a.wrote).state h.1 (rests r m h.0 a.wrote).entries (rests r m h.0 a.wrote).calls
+            o.number o.entries (first l conn mind says now) (c.at_rest m h.0 a.wrote)
+
+        pub knows_called : (user : Option Mind) (l : Loop) (conn : ℕ) (address : List ℕ) (a : Met) → l.sessions ≡ [] → l.moment ≡ at
+            → Known (called_by user plan caller l conn a).entries (Dials address (Some conn) ∷ (called_by user plan caller l conn a).calls) (called_by user plan caller l conn a).state.sessions
+        knows_called user l conn address a none now = knows_by at begins_handled user l conn address a none now
+
+        pub knows_dial_of : (d : Course) (address : List ℕ) (a : Dialled) → d.loop.sessions ≡ [] → max d.loop.moment a.first ≡ at
+            → Rises 0 (opened_in (dials plan caller d address a).calls)
+            → Known (dials plan caller d address a).entries (dials plan caller d address a).calls (dials plan caller d address a).state.loop.sessions
+        knows_dial_of d address a none now rises = knows_from at begins_handled d address a none now rises
+
+    -- where it holds before the opening, of no events and no calls, and the opening is as a visit
+    module _ (new : (l : Loop) (conn : ℕ) (mind : Mind) → K (begun conn (calling plan caller l) mind) [] [])
+        (opening : (m : ℕ) (s : Session) (g : Given) (a : Met) → Left Q s (served (rules_of plan) m s g a).state (served (rules_of plan) m s g a).entries (served (rules_of plan) m s g a).calls)
+      where
+        none_of : (conn n : ℕ) → of n [] ≡ (if conn == n then [] else [])
+        unfolding of
+        none_of conn n = elim (cases_Bool (conn == n)) [ inl p ↦ rw p refl | inr p ↦ rw p refl ]
+
+        begins_served : (at : ℕ) → KnowsFirst at
+        begins_served at mind l conn address a none now =
+            let r = rules_of plan in
+            let s = begun conn (calling plan caller l) mind in
+            let g = Begins caller.engine plan.rbc (next_u64 l.words).0 in
+            let o = served r l.moment s g a in
+            left_of conn address s o.state [] o.entries o.calls refl (none_of conn) (new l conn mind) (opening l.moment s g a)
+
+        pub knows_dial_served : (at : ℕ) (d : Course) (address : List ℕ) (a : Dialled) → d.loop.sessions ≡ [] → max d.loop.moment a.first ≡ at
+            → Rises 0 (opened_in (dials plan caller d address a).calls)
+            → Known (dials plan caller d address a).entries (dials plan caller d address a).calls (dials plan caller d address a).state.loop.sessions
+        knows_dial_served at d address a none now rises = knows_from at (begins_served at) d address a none now rises
 
 -- the same, where what holds behind the first event is kept by all that follows it
 module _ (plan : Plan) (caller : Caller) (Allowed : Given → Type 0) (Q : Session → Session → List Entry → List Call → Type 0) (q : Steady (rules_of plan) Allowed Q) (usual : Usual Allowed)
-    (c : Calls (rules_of plan) Q) (own : (s t : Session) (xs : List Entry) (cs : List Call) → Q s t xs cs → Own s t xs cs)
+    (c : AllLeft (rules_of plan) Q) (own : (s t : Session) (xs : List Entry) (cs : List Call) → Q s t xs cs → Own s t xs cs)
     (K : Session → List Entry → List Call → Type 0) (E : List Entry → List Call → Type 0) (k : Keeps plan Q K E)
     (at : ℕ) (first : (l : Loop) (conn : ℕ) (mind : Mind) → l.moment ≡ at
     → K (fed (rules_of plan) l.moment (begun conn (calling plan caller l) mind) (Begins caller.engine plan.rbc (next_u64 l.words).0)).0

@@ -15,7 +15,7 @@ use Rattle.loop_model.specs.Laws.{is_fault, one_if, faults, failures, HasFailed,
 use Rattle.loop_model.proofs.Steadies.{Steady, Usual, Quiet, Calls, steady_handled, steady_pours, follows_handled, Left, Stays, Closed, left_served, left_visited}
 use Rattle.loop_model.proofs.Loopwise.{Loopwise, wise_run}
 
-faults-append : (xs ys : List Entry) → faults (xs ++ ys) ≡ faults xs + faults ys
+pub faults-append : (xs ys : List Entry) → faults (xs ++ ys) ≡ faults xs + faults ys
 unfolding faults
 faults-append [] ys = omega arith
 faults-append (x ∷ xs) ys = let h : faults (xs ++ ys) ≡ faults xs + faults ys = faults-append xs ys in omega arith
@@ -68,7 +68,7 @@ steady r = record {
 usual : Usual IsNoFault
 usual = record { sends = λ text. tt; leaves = λ sub. tt; takes = tt }
 
-fed_fault : (r : Rules) (m : ℕ) (s : Session) → faults (fed r m s Faults).1 ≡ 1
+pub fed_fault : (r : Rules) (m : ℕ) (s : Session) → faults (fed r m s Faults).1 ≡ 1
 unfolding faults fed joined
 fed_fault r m s =
     elim (cases_Bool (nat_lt most_output (length s.output + length (octets_in (outcomes_of r m s.end Faults))))) [

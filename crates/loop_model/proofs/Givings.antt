@@ -13,13 +13,13 @@ use Rattle.loop_model.specs.Visits.{most_read}
 use Rattle.loop_model.specs.Loops.{Plan, rules_of, Loop, begun, Caller, calling, Course, run, dials}
 use Rattle.loop_model.specs.Parts.{session_of, of, calls_at}
 use Rattle.loop_model.specs.Laws.{AreAccounted, octets_of, IsBeginning, OctetsAreAccounted}
-use Rattle.loop_model.proofs.Steadies.{Steady, Calls, steady_fed}
+use Rattle.loop_model.proofs.Steadies.{Steady, Calls, AllLeft, all_left_of, steady_fed}
 use Rattle.loop_model.proofs.Lives.{Own, Keeps, Fits, Knows, knows_run}
 use Rattle.loop_model.proofs.Dialling.{knows_dial}
 use Rattle.loop_model.proofs.Owns.{Bare, AllGiven, Both, steady_both, bare_both, own_steady, own_bare, own_reads, usual_calls}
 
 -- the octets that calls gave, whichever connection they are at
-abbrev gives : Call → List ℕ
+abbrev pub gives : Call → List ℕ
 gives (Listens address listens) = []
 gives (Dials address conn) = []
 gives (Turns until happening) = []
@@ -29,7 +29,7 @@ gives (Writes conn piece write.NotNow) = []
 gives (Writes conn piece write.Failed) = []
 gives (Closes conn) = []
 
-unfoldable given_in : List Call → List ℕ
+unfoldable pub given_in : List Call → List ℕ
 given_in [] = []
 given_in (call ∷ calls) = gives call ++ given_in calls
 
@@ -62,7 +62,7 @@ given_step conn (Writes other piece write.Failed) cs p =
 given_step conn (Closes other) cs p =
     elim (cases_Bool (other == conn)) [ inl e ↦ rw e p | inr e ↦ rw e p ]
 
-given_at : (conn : ℕ) (cs : List Call) → given_of conn cs ≡ given_in (calls_at conn cs)
+pub given_at : (conn : ℕ) (cs : List Call) → given_of conn cs ≡ given_in (calls_at conn cs)
 unfolding given_of given_in calls_at
 given_at conn [] = refl
 given_at conn (call ∷ cs) = given_step conn call cs (given_at conn cs)
@@ -70,11 +70,11 @@ given_at conn (call ∷ cs) = given_step conn call cs (given_at conn cs)
 -- ---- one session
 
 -- what waited and what came are what was given and a rest; and all but what waits was given, unless it broke off
-record Gives (s t : Session) (xs : List Entry) (cs : List Call) : Type 0 where
-  rest : List ℕ
-  is : s.output ++ octets_of xs ≡ given_in cs ++ rest
-  whole : t.broken ≡ false → (s.broken ≡ false) × (rest ≡ t.output)
-  silent : s.broken ≡ true → given_in cs ≡ []
+pub record Gives (s t : Session) (xs : List Entry) (cs : List Call) : Type 0 where
+  pub rest : List ℕ
+  pub is : s.output ++ octets_of xs ≡ given_in cs ++ rest
+  pub whole : t.broken ≡ false → (s.broken ≡ false) × (rest ≡ t.output)
+  pub silent : s.broken ≡ true → given_in cs ≡ []
 
 waits : (s t : Session) (xs : List Entry) → t.output ≡ s.output ++ octets_of xs → (t.broken ≡ false → s.broken ≡ false) → Gives s t xs []
 unfolding given_in
@@ -160,31 +160,34 @@ bare = record {
   breaks = λ s gone. breaks_off s (record s { broken = true }) [] refl;
 }
 
-all_given : AllGiven (λ g. Unit {0})
+pub all_given : AllGiven (λ g. Unit {0})
 all_given = record { usual = record { sends = λ text. tt; leaves = λ sub. tt; takes = tt }; hears = λ octets. tt; ticks = tt; ends = tt; faults = tt }
 
-abbrev Q : Session → Session → List Entry → List Call → Type 0
+abbrev pub Q : Session → Session → List Entry → List Call → Type 0
 Q = Both Own Gives
 
-q_steady : (r : Rules) → Steady r (λ g. Unit {0}) Q
+pub q_steady : (r : Rules) → Steady r (λ g. Unit {0}) Q
 q_steady r = steady_both r (λ g. Unit {0}) Own Gives (own_steady r) (steady r)
 
-q_calls : (r : Rules) → Calls r Q
-q_calls r =
+pub q_each : (r : Rules) → Calls r Q
+q_each r =
     usual_calls r (λ g. Unit {0}) Q (q_steady r) all_given (bare_both Own Gives own_bare bare)
     (λ s n reading. (own_reads s n reading, bare_call s (Reads s.number most_read n reading) refl))
 
+q_calls : (r : Rules) → AllLeft r Q
+q_calls r = all_left_of r Q (q_each r)
+
 -- ---- a session and all that came at it
 
-record Given_so (s : Session) (xs : List Entry) (cs : List Call) : Type 0 where
-  rest : List ℕ
-  is : given_in cs ++ rest ≡ octets_of xs
-  whole : s.broken ≡ false → rest ≡ s.output
+pub record Given_so (s : Session) (xs : List Entry) (cs : List Call) : Type 0 where
+  pub rest : List ℕ
+  pub is : given_in cs ++ rest ≡ octets_of xs
+  pub whole : s.broken ≡ false → rest ≡ s.output
 
 abbrev Gone : List Entry → List Call → Type 0
 Gone xs cs = IsBeginning (given_in cs) (octets_of xs)
 
-more : (s t : Session) (xs ys : List Entry) (cs ds : List Call) → Given_so s xs cs → Gives s t ys ds → Given_so t (xs ++ ys) (cs ++ ds)
+pub more : (s t : Session) (xs ys : List Entry) (cs ds : List Call) → Given_so s xs cs → Gives s t ys ds → Given_so t (xs ++ ys) (cs ++ ds)
 more s t xs ys cs ds h q =
     elim (cases_Bool s.broken) [
       | inl p ↦ record {
@@ -210,7 +213,7 @@ more s t xs ys cs ds h q =
       }
     ]
 
-closed_given : (cs ds : List Call) (n : ℕ) → given_in (cs ++ (ds ++ Closes n ∷ [])) ≡ given_in (cs ++ ds)
+pub closed_given : (cs ds : List Call) (n : ℕ) → given_in (cs ++ (ds ++ Closes n ∷ [])) ≡ given_in (cs ++ ds)
 unfolding given_in
 closed_given cs ds n =
     ap given_in (sym (append_assoc cs ds (Closes n ∷ []))) ∙ given_in-append (cs ++ ds) (Closes n ∷ []) ∙ append-nil (given_in (cs ++ ds))

@@ -15,7 +15,7 @@ use Rattle.loop_model.specs.Visits.{most_read, came}
 use Rattle.loop_model.specs.Loops.{Plan, rules_of, Loop, begun, answering, Caller, calling, Course, run, dials}
 use Rattle.loop_model.specs.Parts.{session_of, of, calls_at}
 use Rattle.loop_model.specs.Points.{heard_by, heard_of, is_stalled, has_stalled, AreHeard, OctetsAreHeard}
-use Rattle.loop_model.proofs.Steadies.{Steady, Usual, Quiet, Calls, steady_handled, steady_pours, follows_handled, runs_lift}
+use Rattle.loop_model.proofs.Steadies.{Steady, Usual, Quiet, Calls, AllLeft, all_left_of, steady_handled, steady_pours, follows_handled, runs_lift}
 use Rattle.loop_model.proofs.Lives.{Own, Keeps, Fits, Knows, knows_run}
 use Rattle.loop_model.proofs.Dialling.{knows_dial_of}
 use Rattle.loop_model.proofs.Owns.{Both, calls_both, AllGiven, own_steady, own_bare, own_reads, usual_calls}
@@ -450,8 +450,8 @@ module _ (stays : ReleaseStays) (breaks_release : BreaksRelease) (uses : Uses) (
   abbrev P : Session → Session → List Entry → List Call → Type 0
   P = Q stays breaks_release uses (rules_of plan)
 
-  p_calls : Calls (rules_of plan) P
-  p_calls = q_calls stays breaks_release uses (rules_of plan)
+  p_calls : AllLeft (rules_of plan) P
+  p_calls = all_left_of (rules_of plan) P (q_calls stays breaks_release uses (rules_of plan))
 
   abbrev To : Session → List Entry → List Call → Type 0
   To = HeardTo stays breaks_release uses (rules_of plan)

@@ -17,7 +17,7 @@ kept_settled : (s : Session) → AreKept (settled s).state
 unfolding settled
 kept_settled s = elim (cases_Bool (s.broken || (is_released s && (length s.output == 0)))) [ inl p ↦ rw p tt | inr p ↦ subst (λ (b : Bool). AreKept (if b then closed s else stays s).state) (sym p) (p, tt) ]
 
-kept_rests : (r : Rules) (m : ℕ) (s : Session) (a : Wrote) → AreKept (rests r m s a).state
+pub kept_rests : (r : Rules) (m : ℕ) (s : Session) (a : Wrote) → AreKept (rests r m s a).state
 unfolding rests
 kept_rests r m s a = kept_settled (written r m s a).state
 

@@ -23,3 +23,9 @@ pub mod Ticking
 pub mod Words
 pub mod Keepers
 pub mod Progressing
+pub mod Faulting
+pub mod Opening
+pub mod Untils
+pub mod Writing
+pub mod Stalling
+pub mod Breaking

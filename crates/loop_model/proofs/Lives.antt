@@ -18,7 +18,7 @@ use Rattle.loop_model.specs.Loops.{Plan, rules_of, Loop, most_live, visit_at, un
 use Rattle.loop_model.specs.Parts.{session_of, of, calls_at, opened_by, opened_in, Rises, newest}
 use Rattle.loop_model.proofs.Projections.{split_if, of-append, calls_at-append, opened_in-append, rises_first, rises_rest, newest-append}
 use Rattle.loop_model.proofs.Loopwise.{Loopwise, wise_run}
-use Rattle.loop_model.proofs.Steadies.{is_over, Left, Stays, Closed, Calls, left_visited}
+use Rattle.loop_model.proofs.Steadies.{is_over, Left, Stays, Closed, AllLeft}
 
 pub same : (n : ℕ) → (n == n) ≡ true
 same n = eq-eqb n n refl
@@ -47,7 +47,7 @@ pub record Keeps (plan : Plan) (Q : Session → Session → List Entry → List 
   pub full : (m conn : ℕ) → E (record { moment = m; conn = conn; event = event.Full most_live; outcomes = [] } ∷ []) (Closes conn ∷ [])
   pub unserved : (m conn handed : ℕ) → E (record { moment = m; conn = conn; event = event.Unserved handed; outcomes = [] } ∷ []) (Closes conn ∷ [])
 
-module _ (plan : Plan) (Q : Session → Session → List Entry → List Call → Type 0) (c : Calls (rules_of plan) Q) (own : (s t : Session) (xs : List Entry) (cs : List Call) → Q s t xs cs → Own s t xs cs)
+module _ (plan : Plan) (Q : Session → Session → List Entry → List Call → Type 0) (c : AllLeft (rules_of plan) Q) (own : (s t : Session) (xs : List Entry) (cs : List Call) → Q s t xs cs → Own s t xs cs)
     (K : Session → List Entry → List Call → Type 0) (E : List Entry → List Call → Type 0) (k : Keeps plan Q K E) where
   -- ---- one visit of a number
 
@@ -90,7 +90,7 @@ module _ (plan : Plan) (Q : Session → Session → List Entry → List Call →
         | inl e ↦
             rw e
             (subst (λ z. Moved z (s ∷ ss) (o.state ++ ss) o.entries o.calls) (eqb-true s.number n e)
-            (here s ss o.state o.entries o.calls p (left_visited (rules_of plan) Q c visit m s a)))
+            (here s ss o.state o.entries o.calls p (c.at_visit visit m s a)))
         | inr e ↦ rw e (there n s ss (visit_at (visited (rules_of plan) m visit) n ss a).state (visit_at (visited (rules_of plan) m visit) n ss a).entries (visit_at (visited (rules_of plan) m visit) n ss a).calls e p (moved m visit n ss a p.1))
       ]
     where

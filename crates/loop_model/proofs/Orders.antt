@@ -89,7 +89,7 @@ unfolding UpTo
 up_to_left top s ss ts xs cs (Stays t p q) h = rw p (subst (λ z. (z ≤ top) × UpTo top (numbers ss)) (sym q.number) h)
 up_to_left top s ss ts xs cs (Closed t ds over p e q) h = rw p h.1
 
-visit_rises : (r : Rules) (m : ℕ) (visit : Visit) (n from : ℕ) (ss : List Session) (a : Met) → Rises from (numbers ss)
+pub visit_rises : (r : Rules) (m : ℕ) (visit : Visit) (n from : ℕ) (ss : List Session) (a : Met) → Rises from (numbers ss)
     → Rises from (numbers (visit_at (visited r m visit) n ss a).state)
 unfolding visit_at
 visit_rises r m visit n from [] a h = tt

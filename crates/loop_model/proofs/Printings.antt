@@ -26,7 +26,7 @@ use Rattle.loop_model.specs.Loops.{Plan, rules_of, Loop, begun, Caller, calling,
 use Rattle.loop_model.specs.Parts.{session_of, of, calls_at}
 use Rattle.loop_model.specs.Laws.{IsServing, IsDialling, AreTold, ConnectionsAreIsolated, JournalIsPrinted}
 use Rattle.loop_model.proofs.Projections.{of-append}
-use Rattle.loop_model.proofs.Steadies.{Steady, Calls}
+use Rattle.loop_model.proofs.Steadies.{Steady, Calls, AllLeft, all_left_of}
 use Rattle.loop_model.proofs.Lives.{Own, Keeps, Fits, knows_run}
 use Rattle.loop_model.proofs.Dialling.{knows_dial}
 use Rattle.loop_model.proofs.Owns.{Bare, AllGiven, Both, steady_both, bare_both, steady_less, own_steady, own_bare, own_reads, usual_calls}
@@ -173,10 +173,13 @@ module _ (steps : StepsAlike) (made : MadeStands) (plan : Plan) (allowed : AllAl
   pub q_steady : Steady (rules_of plan) IsOfEnd Q
   q_steady = steady_both (rules_of plan) IsOfEnd Own Goes (steady_less (rules_of plan) (λ g. Unit {0}) IsOfEnd Own (λ g p. tt) (own_steady (rules_of plan))) steady
 
-  pub q_calls : Calls (rules_of plan) Q
-  q_calls =
+  pub q_each : Calls (rules_of plan) Q
+  q_each =
       usual_calls (rules_of plan) IsOfEnd Q q_steady all_of_end (bare_both Own Goes own_bare bare)
       (λ s waits reading. (own_reads s waits reading, reads s waits reading))
+
+  pub q_calls : AllLeft (rules_of plan) Q
+  q_calls = all_left_of (rules_of plan) Q q_each
 
   -- an end and its events so far
   pub record ToldTo (k : KEnd) (xs : List Entry) : Type 0 where

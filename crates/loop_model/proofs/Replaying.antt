@@ -31,7 +31,7 @@ use Rattle.loop_model.specs.Parts.{session_of, of, opened_in, Rises, newest}
 use Rattle.loop_model.specs.Laws.{IsServing, IsDialling}
 use Rattle.loop_model.specs.Recordings.{AreEvents, ReplaysTo, RecordingsReplay}
 use Rattle.loop_model.proofs.Projections.{opened_in-append as opens-append, rises_first, rises_rest, newest-append}
-use Rattle.loop_model.proofs.Steadies.{SteadyAt, Steady, Usual, steady_handled, follows_handled_at, Calls, CallsAt, Left, Stays, Closed, is_over, left_rests_at, left_visited_at}
+use Rattle.loop_model.proofs.Steadies.{SteadyAt, Steady, Usual, steady_handled, follows_handled_at, Calls, CallsAt, AllLeft, all_left_of, Left, Stays, Closed, is_over, left_rests_at, left_visited_at}
 use Rattle.loop_model.proofs.Lives.{Own, Keeps, Fits, Knows, knows_none, moved, knows_moved, knows_turned, accepted_above, knows_opened, knows_away, same}
 use Rattle.loop_model.proofs.Dialling.{first_handled, knows_called}
 use Rattle.loop_model.proofs.Owns.{Bare, Both, calls_both, usual_calls, usual_calls_at}
@@ -262,11 +262,14 @@ module _ (steps : StepsAlike) (made : MadeStands) (shows : ShowsAlike) (waits : 
     abbrev Q : Session → Session → List Entry → List Call → Type 0
     Q = Both Told (Both Belonging (Both Sounds Rests))
 
-    q_calls : Calls r Q
-    q_calls =
-        calls_both r Told (Both Belonging (Both Sounds Rests)) (printings.q_calls steps made plan allowed)
+    q_each : Calls r Q
+    q_each =
+        calls_both r Told (Both Belonging (Both Sounds Rests)) (printings.q_each steps made plan allowed)
         (calls_both r Belonging (Both Sounds Rests) (belonging_calls r)
         (calls_both r Sounds Rests (sounds_calls stays breaks_release r) (rests_calls waits bring r)))
+
+    q_calls : AllLeft r Q
+    q_calls = all_left_of r Q q_each
 
     own : (s t : Session) (xs : List Entry) (cs : List Call) → Q s t xs cs → Own s t xs cs
     own s t xs cs p = p.0.0

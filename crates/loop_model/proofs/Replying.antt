@@ -21,7 +21,7 @@ use Rattle.loop_model.specs.Parts.{session_of, of, opened_in, Rises, newest}
 use Rattle.loop_model.specs.Laws.{IsServing, IsDialling}
 use Rattle.loop_model.specs.Points.{speech_of, user_of, AreDeclined, IsSpoken, UsersReply}
 use Rattle.loop_model.proofs.Projections.{of-append, opened_in-append as opens-append, rises_first, rises_rest, newest-append}
-use Rattle.loop_model.proofs.Steadies.{Calls, Left as LeftBy, Stays, Closed, steady_handled, left_served}
+use Rattle.loop_model.proofs.Steadies.{Calls, AllLeft, all_left_of, Left as LeftBy, Stays, Closed, steady_handled, left_served}
 use Rattle.loop_model.proofs.Lives.{Own, Keeps, LeftAt, own_left, Moved, Absent, Found, moved, Knows, knows_none, knows_moved, knows_turned, accepted_above, knows_opened, knows_away}
 use Rattle.loop_model.proofs.Dialling.{knows_called}
 use Rattle.loop_model.proofs.Owns.{Both, calls_both, own_steady}
@@ -134,8 +134,11 @@ module _ (waits : WaitsMove) (bring : OctetsBring) (stays : ReleaseStays) (break
     abbrev Q : Session → Session → List Entry → List Call → Type 0
     Q = Both Own (Speaks (rules_of plan))
 
-    q_calls : Calls (rules_of plan) Q
-    q_calls = calls_both (rules_of plan) Own (Speaks (rules_of plan)) (own_calls (rules_of plan)) (speaks_calls waits bring stays breaks_release wants_none tells_none (rules_of plan))
+    q_each : Calls (rules_of plan) Q
+    q_each = calls_both (rules_of plan) Own (Speaks (rules_of plan)) (own_calls (rules_of plan)) (speaks_calls waits bring stays breaks_release wants_none tells_none (rules_of plan))
+
+    q_calls : AllLeft (rules_of plan) Q
+    q_calls = all_left_of (rules_of plan) Q q_each
 
     own : (s t : Session) (xs : List Entry) (cs : List Call) → Q s t xs cs → Own s t xs cs
     own s t xs cs q = q.0
@@ -390,7 +393,7 @@ module _ (waits : WaitsMove) (bring : OctetsBring) (stays : ReleaseStays) (break
         ) in
         record {
           left = first_left caller l conn mind o.entries c ∙ ap other_users (sym e);
-          said = first_left_by caller l conn mind o.state o.entries o.calls c (ap next_user (sym e) ∙ is) (left_served r Q q_calls.quiet m s g a q);
+          said = first_left_by caller l conn mind o.state o.entries o.calls c (ap next_user (sym e) ∙ is) (left_served r Q q_each.quiet m s g a q);
         }
 
     dial_on : (caller : Caller) (d : Course) (conn : ℕ) (address : List ℕ) (a : Met) (turns : List Turn) → d.loop.sessions ≡ [] → d.loop.users ≡ users

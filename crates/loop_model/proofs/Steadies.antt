@@ -233,12 +233,12 @@ pub record CallsAt (r : Rules) (m : ℕ) (Q : Session → Session → List Entry
 abbrev pub is_over : Session → Bool
 is_over s = s.broken || is_released s || is_some s.closing
 
-over_settled : (a b c d : Bool) → (a || (b && c)) ≡ true → (a || b || d) ≡ true
+pub over_settled : (a b c d : Bool) → (a || (b && c)) ≡ true → (a || b || d) ≡ true
 over_settled true b c d p = refl
 over_settled false true c d p = refl
 over_settled false false c d p = absurd cc
 
-over_due : (m : ℕ) (at : Option ℕ) (b : Bool) → is_due m at ≡ true → (b || is_some at) ≡ true
+pub over_due : (m : ℕ) (at : Option ℕ) (b : Bool) → is_due m at ≡ true → (b || is_some at) ≡ true
 over_due m None b p = absurd cc
 over_due m (Some at) true p = refl
 over_due m (Some at) false p = refl
@@ -422,3 +422,16 @@ pub left_visited : (r : Rules) (Q : Session → Session → List Entry → List 
     → (visit : Visit) (m : ℕ) (s : Session) (a : Met)
     → Left Q s (visited r m visit s a).state (visited r m visit s a).entries (visited r m visit s a).calls
 left_visited r Q c visit m s a = left_visited_at r m Q (calls_now r Q c m) visit s a
+
+-- what each visit leaves, and what is left behind the events of a happening
+pub record AllLeft (r : Rules) (Q : Session → Session → List Entry → List Call → Type 0) : Type 0 where
+  pub at_visit : (visit : Visit) (m : ℕ) (s : Session) (a : Met)
+      → Left Q s (visited r m visit s a).state (visited r m visit s a).entries (visited r m visit s a).calls
+  pub at_rest : (m : ℕ) (s : Session) (a : Wrote) → Left Q s (rests r m s a).state (rests r m s a).entries (rests r m s a).calls
+
+-- where a relation holds of each call and each event, it holds of what each visit leaves
+pub all_left_of : (r : Rules) (Q : Session → Session → List Entry → List Call → Type 0) → Calls r Q → AllLeft r Q
+all_left_of r Q c = record {
+  at_visit = λ visit m s a. left_visited r Q c visit m s a;
+  at_rest = λ m s a. left_rests r Q c.quiet m s s a [] [] (c.none s);
+}

@@ -91,7 +91,7 @@ module _ (r : Rules) (m : ℕ) where
   once_none PutOff s a = refl
   once_none Failing s a = refl
 
-  acts_none : (answers : List WriteAnswer) (x : Session × Flow) → (acts writes_once x answers).entries ≡ []
+  pub acts_none : (answers : List WriteAnswer) (x : Session × Flow) → (acts writes_once x answers).entries ≡ []
   unfolding acts writes_once
   acts_none [] x = refl
   acts_none (a ∷ answers) x =
@@ -120,7 +120,7 @@ module _ (r : Rules) (m : ℕ) where
   unfolding written
   written_none s a = unless_none s.broken s a
 
-  settled_none : (s : Session) → (settled s).entries ≡ []
+  pub settled_none : (s : Session) → (settled s).entries ≡ []
   unfolding settled
   settled_none s = elim (cases_Bool (s.broken || (is_released s && (length s.output == 0)))) [ inl p ↦ rw p refl | inr p ↦ rw p refl ]
 
@@ -192,7 +192,7 @@ module _ (f : Session → Met → Out (List Session)) (none : (s : Session) (a :
       none_two o.entries (swept f ns o.state (drop 1 answers)).entries (visit_none n ss (first_of nothing_met answers)) (swept_none ns o.state (drop 1 answers))
 
 -- a visit of a number behind others
-visit_skip : (f : Session → Met → Out (List Session)) (top n : ℕ) (pre ss : List Session) (a : Met) → UpTo top (numbers pre) → top < n
+pub visit_skip : (f : Session → Met → Out (List Session)) (top n : ℕ) (pre ss : List Session) (a : Met) → UpTo top (numbers pre) → top < n
     → visit_at f n (pre ++ ss) a ≡ changed (λ now. pre ++ now) (visit_at f n ss a)
 unfolding visit_at UpTo
 visit_skip f top n [] ss a p q = refl
@@ -201,11 +201,11 @@ visit_skip f top n (t ∷ pre) ss a p q =
     let ne : (t.number == n) ≡ false = ne_eqb t.number n (λ e. let x : ⊥ = omega arith in x) in
     rw ne (ap (λ z. changed (λ now. t ∷ now) z) (visit_skip f top n pre ss a p.1 q))
 
-visit_here : (f : Session → Met → Out (List Session)) (s : Session) (ss : List Session) (a : Met) → visit_at f s.number (s ∷ ss) a ≡ changed (λ now. now ++ ss) (f s a)
+pub visit_here : (f : Session → Met → Out (List Session)) (s : Session) (ss : List Session) (a : Met) → visit_at f s.number (s ∷ ss) a ≡ changed (λ now. now ++ ss) (f s a)
 unfolding visit_at
 visit_here f s ss a = rw (same s.number) refl
 
-up_to_two : (top : ℕ) (ss ts : List Session) → UpTo top (numbers ss) → UpTo top (numbers ts) → UpTo top (numbers (ss ++ ts))
+pub up_to_two : (top : ℕ) (ss ts : List Session) → UpTo top (numbers ss) → UpTo top (numbers ts) → UpTo top (numbers (ss ++ ts))
 unfolding UpTo
 up_to_two top [] ts p q = q
 up_to_two top (s ∷ ss) ts p q = (p.0, up_to_two top ss ts p.1 q)

@@ -8,3 +8,7 @@ pub mod Laws
 pub mod Recordings
 pub mod Points
 pub mod Turnings
+pub mod Faulted
+pub mod Openings
+pub mod Writings
+pub mod Stalls

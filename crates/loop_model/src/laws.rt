@@ -1,8 +1,12 @@
 //! What holds of the loop, whatever the outside answers, as facts that a caller can cite.
 
 ghost use Rattle.loop_model.specs.Points.{OctetsAreHeard, UsersReply};
+ghost use Rattle.loop_model.specs.Faulted.{FaultsAreTold};
+ghost use Rattle.loop_model.specs.Openings.{OpeningsAreTold, DialIsOpened};
 ghost use Rattle.loop_model.specs.Recordings.{RecordingsReplay};
+ghost use Rattle.loop_model.specs.Stalls.{StallsAreTold};
 ghost use Rattle.loop_model.specs.Turnings.{EndsAreTold, OthersAreClosed, ReadableProgress, TicksAreDue, WordsAreNext};
+ghost use Rattle.loop_model.specs.Writings.{AllAreGiven, BrokenAreLeft, ExpiredAreClosed, LiveAreWhole, OutputIsWritten, RestWaits, TurnsWait};
 ghost use Rattle.loop_model.specs.Laws.{ConnectionsAreIsolated, JournalIsPrinted, OctetsAreAccounted, CallsAreOnOpen, FaultsHaveFailed, OneReadATurn, TurnsAreCounted, FewAreLive, SessionsRise};
 
 /// The outcomes of each connection are those that the end model gives to its own events, whichever session answered for it; and what is
@@ -26,6 +30,16 @@ pub fn recordings()
 /// The octets given to a connection are a beginning of those of its outcomes, in order.
 pub fn octets()
     ensures { OctetsAreAccounted }
+{}
+
+/// The octets given to a connection that was closed in order are all those of its outcomes. At a live one the rest of them waits, which is
+/// what its last write left; and where each write takes an octet at least, as wires promise, octets wait only where the last one found no
+/// room. No live connection had an event `ended`, `fault` or `stalled`, or a read or a write that failed.
+pub fn octets_given()
+    ensures all { AllAreGiven }
+    ensures rest { RestWaits }
+    ensures written { OutputIsWritten }
+    ensures whole { LiveAreWhole }
 {}
 
 /// The joined octets of a connection's events are a beginning of those taken from it, and all of them where it never stalled.
@@ -53,6 +67,14 @@ pub fn open_connections()
 pub fn faults()
     ensures { FaultsHaveFailed }
 {}
+
+/// A connection has one event `fault`, where a read or a write of it failed and its events before hadn't released it; it has none elsewhere.
+pub fn faults_told()
+    ensures { FaultsAreTold }
+{
+    er_end::laws::standing();
+    er_end::laws::keeping();
+}
 
 /// Before a turn nothing is read. Behind it a connection is read from once, exactly where it is readable, live and not released.
 pub fn reads()
@@ -82,6 +104,21 @@ pub fn endings()
     ensures { EndsAreTold }
 {}
 
+/// An event `stalled` comes exactly where the octets that wait at a connection and the new ones together are more than 262,144, directly
+/// behind the event that gave the new ones; and no more wait at a live connection.
+pub fn stalls()
+    ensures { StallsAreTold }
+{
+    er_end::laws::keeping();
+}
+
+/// In a visit in which a line ends or a session stalls nothing is written to it, and behind a read or a write that fails nothing is.
+pub fn broken()
+    ensures { BrokenAreLeft }
+{
+    er_end::laws::keeping();
+}
+
 /// Each end that is opened has the next random word.
 pub fn words()
     ensures { WordsAreNext }
@@ -96,4 +133,18 @@ pub fn closings()
 /// live connection is readable that isn't released takes an octet from it where one waits, or the read fails.
 pub fn progress()
     ensures { ReadableProgress }
+{}
+
+/// Each connection that is accepted has one event that opens it with the next random word, or says why it isn't opened: 256 are live, or no
+/// user is left; it is closed then. The one that is dialled begins with such an event.
+pub fn openings()
+    ensures accepted { OpeningsAreTold }
+    ensures dialled { DialIsOpened }
+{}
+
+/// Before a turn, behind the ticks, exactly those connections are closed whose closing moment is at or below the moment; and a turn waits
+/// until the least of the deadlines and closing moments that are left.
+pub fn moments()
+    ensures expired { ExpiredAreClosed }
+    ensures until { TurnsWait }
 {}

@@ -1,0 +1,5 @@
+use Rattle.loop_model.proofs.laws.stalls.Goals as goal
+use Rattle.loop_model.proofs.Stalling.{stalls_are_told}
+
+pub returns : goal.returns
+returns c = stalls_are_told c.keeping.ensures.stays c.keeping.ensures.breaks

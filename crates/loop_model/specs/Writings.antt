@@ -1,0 +1,226 @@
+-- What is written and closed, and when: output is written until nothing waits or there is no room; what waits is what was told and not
+-- given; a released connection is closed at its closing moment; a turn waits until the least of the moments that are left.
+use Rattle.std.specs.Prelude.{ℕ, ◌≡◌, ◌≤◌, ◌⊎◌, Bool, true, false, ◌||◌, if◌then◌else◌, List, [], ◌∷◌, ◌++◌, drop, Option, Some, None}
+use Rattle.er_end.specs.KeptEnds.{deadline_of}
+use Rattle.er_trace.specs.declared.event.Event.{Event}
+use Rattle.er_trace.specs.declared.event.Event.TheVariants.{Call, Answer, Octets, Send, Take, Release, Tick, Ended, Fault, Stalled, Full, Unserved}
+use Rattle.link_trait.specs.Wires as wires
+use Rattle.link_trait.specs.Wires.{Listens, Dials, Turns, Reads, Writes, Closes, given_of}
+use Rattle.link_trait.specs.declared.wires.WriteAnswer.{WriteAnswer}
+use Rattle.link_trait.specs.declared.wires.WriteAnswer.TheVariants as write
+use Rattle.loop_model.specs.Journals.{Entry}
+use Rattle.loop_model.specs.Outs.{Out}
+use Rattle.loop_model.specs.Sessions.{Rules, Session}
+use Rattle.loop_model.specs.Visits.{is_due, Visit, Tick as Ticks, Met, visited}
+use Rattle.loop_model.specs.Loops.{Plan, numbers, swept, Sweeps, before, Course, Turn, readied, went}
+use Rattle.loop_model.specs.Parts.{session_of, of, calls_at, Rises}
+use Rattle.loop_model.specs.Laws.{octets_of, is_failed, Holds}
+use Rattle.loop_model.specs.Faulted.{has_failed}
+use Rattle.loop_model.specs.Points.{is_stalled}
+use Rattle.loop_model.specs.Turnings.{is_ended}
+use Rattle.loop_model.specs.Stalls.{IsBounded}
+
+-- ---- what waits
+
+-- what a write leaves of its octets
+abbrev pub left_by : WriteAnswer → List ℕ → List ℕ
+left_by (write.Some n) piece = drop n piece
+left_by write.NotNow piece = piece
+left_by write.Failed piece = piece
+
+abbrev pub left_at : wires.Call → List ℕ → List ℕ
+left_at (Listens address listens) waits = waits
+left_at (Dials address conn) waits = waits
+left_at (Turns until happening) waits = waits
+left_at (Reads conn size octets reading) waits = waits
+left_at (Writes conn piece answer) waits = left_by answer piece
+left_at (Closes conn) waits = waits
+
+-- what the last write left, where so much waited before the first
+unfoldable pub left_after : List ℕ → List wires.Call → List ℕ
+left_after waits [] = waits
+left_after waits (call ∷ calls) = left_after (left_at call waits) calls
+
+-- an event behind which a connection is closed at once
+abbrev pub is_break : Event → Bool
+is_break (Call engine rbc rb) = false
+is_break (Answer rbc ra) = false
+is_break (Octets octets) = false
+is_break (Send text) = false
+is_break Take = false
+is_break (Release sub) = false
+is_break Tick = false
+is_break Ended = true
+is_break Fault = true
+is_break Stalled = true
+is_break (Full count) = false
+is_break (Unserved count) = false
+
+unfoldable pub has_broken : List Entry → Bool
+has_broken [] = false
+has_broken (x ∷ xs) = is_break x.event || has_broken xs
+
+-- a connection was closed in order: its line neither ended, failed nor stalled, no write failed, and the last one left nothing
+pub record IsInOrder (conn : ℕ) (xs : List Entry) (calls : List wires.Call) : Type 0 where
+  pub before : List wires.Call
+  pub closed : calls ≡ before ++ Closes conn ∷ []
+  pub whole : has_broken xs ≡ false
+  pub written : has_failed calls ≡ false
+  pub left : left_after [] calls ≡ []
+
+-- then the octets given to it are all the joined octets of its outcomes
+abbrev pub IsAllGiven : Plan → Out Course → Type 0
+IsAllGiven plan o = (conn : ℕ) → IsInOrder conn (of conn o.entries) (calls_at conn o.calls) → given_of conn o.calls ≡ octets_of (of conn o.entries)
+
+abbrev pub AllAreGiven : Type 0
+AllAreGiven = Holds IsAllGiven
+
+-- and what waits at a live connection is the rest of them, which is what the last write left
+pub record Waits (conn : ℕ) (s : Session) (o : Out Course) : Type 0 where
+  pub rest : given_of conn o.calls ++ s.output ≡ octets_of (of conn o.entries)
+  pub left : s.output ≡ left_after [] (calls_at conn o.calls)
+
+abbrev pub AllWait : Plan → Out Course → Type 0
+AllWait plan o = (conn : ℕ) (s : Session) → session_of conn o.state.loop.sessions ≡ Some s → Waits conn s o
+
+abbrev pub RestWaits : Type 0
+RestWaits = Holds AllWait
+
+-- none such had an event behind which it is closed at once, or a read or a write that failed
+abbrev pub IsWhole : Plan → Out Course → Type 0
+IsWhole plan o =
+    (conn : ℕ) (s : Session) → session_of conn o.state.loop.sessions ≡ Some s
+    → (has_broken (of conn o.entries) ≡ false) × (has_failed (calls_at conn o.calls) ≡ false)
+
+abbrev pub LiveAreWhole : Type 0
+LiveAreWhole = Holds IsWhole
+
+-- ---- writing
+
+-- a write takes an octet at least, as wires promise
+abbrev pub TakesOne : WriteAnswer → Type 0
+TakesOne (write.Some n) = 1 ≤ n
+TakesOne write.NotNow = Unit {0}
+TakesOne write.Failed = Unit {0}
+
+abbrev pub TakesOneBy : wires.Call → Type 0
+TakesOneBy (Listens address listens) = Unit {0}
+TakesOneBy (Dials address conn) = Unit {0}
+TakesOneBy (Turns until happening) = Unit {0}
+TakesOneBy (Reads conn size waits reading) = Unit {0}
+TakesOneBy (Writes conn piece answer) = TakesOne answer
+TakesOneBy (Closes conn) = Unit {0}
+
+abbrev pub AllTakeOne : List wires.Call → Type 0
+AllTakeOne [] = Unit {0}
+AllTakeOne (call ∷ calls) = TakesOneBy call × AllTakeOne calls
+
+-- the answer of the last write
+abbrev pub answered : wires.Call → Option WriteAnswer → Option WriteAnswer
+answered (Listens address listens) last = last
+answered (Dials address conn) last = last
+answered (Turns until happening) last = last
+answered (Reads conn size waits reading) last = last
+answered (Writes conn piece answer) last = Some answer
+answered (Closes conn) last = last
+
+unfoldable pub last_answer : Option WriteAnswer → List wires.Call → Option WriteAnswer
+last_answer last [] = last
+last_answer last (call ∷ calls) = last_answer (answered call last) calls
+
+-- octets wait at a live connection only where the last write found no room
+abbrev pub IsWritten : Plan → Out Course → Type 0
+IsWritten plan o =
+    (conn : ℕ) (s : Session) → session_of conn o.state.loop.sessions ≡ Some s → AllTakeOne (calls_at conn o.calls)
+    → (s.output ≡ []) ⊎ (last_answer None (calls_at conn o.calls) ≡ Some write.NotNow)
+
+abbrev pub OutputIsWritten : Type 0
+OutputIsWritten = Holds IsWritten
+
+-- ---- what breaks off
+
+-- whether the line ended, or the session stalled
+unfoldable pub has_stopped : List Entry → Bool
+has_stopped [] = false
+has_stopped (x ∷ xs) = (is_ended x.event || is_stalled x.event) || has_stopped xs
+
+abbrev pub IsNoWrite : wires.Call → Type 0
+IsNoWrite (Listens address listens) = Unit {0}
+IsNoWrite (Dials address conn) = Unit {0}
+IsNoWrite (Turns until happening) = Unit {0}
+IsNoWrite (Reads conn size waits reading) = Unit {0}
+IsNoWrite (Writes conn piece answer) = ⊥
+IsNoWrite (Closes conn) = Unit {0}
+
+-- nothing is written
+abbrev pub WriteNone : List wires.Call → Type 0
+WriteNone [] = Unit {0}
+WriteNone (call ∷ calls) = IsNoWrite call × WriteNone calls
+
+-- nothing is written behind a call that failed
+abbrev pub EndAtFailure : List wires.Call → Type 0
+EndAtFailure [] = Unit {0}
+EndAtFailure (call ∷ calls) = (is_failed call ≡ true → WriteNone calls) × EndAtFailure calls
+
+-- in a visit in which the line ends or the session stalls nothing is written, and behind a read or a write that fails nothing is. (Behind
+-- that visit the session is closed: no live one broke off)
+pub record BrokenAreLeft : Type 0 where
+  pub stopped : (r : Rules) (m : ℕ) (visit : Visit) (s : Session) (a : Met) → IsBounded s
+      → has_stopped (visited r m visit s a).entries ≡ true → WriteNone (visited r m visit s a).calls
+  pub failed : (r : Rules) (m : ℕ) (visit : Visit) (s : Session) (a : Met) → EndAtFailure (visited r m visit s a).calls
+
+-- ---- closing moments
+
+-- the sessions whose closing moment has come, and the others
+abbrev pub expired : ℕ → List Session → List wires.Call
+expired m [] = []
+expired m (s ∷ ss) = if is_due m s.closing then Closes s.number ∷ expired m ss else expired m ss
+
+abbrev pub unexpired : ℕ → List Session → List Session
+unexpired m [] = []
+unexpired m (s ∷ ss) = if is_due m s.closing then unexpired m ss else s ∷ unexpired m ss
+
+-- before a turn, behind the ticks, exactly those are closed whose closing moment is at or below the moment
+pub record ExpiredAreClosed : Type 0 where
+  pub state : (r : Rules) (m : ℕ) (ss : List Session) (a : Sweeps) → Rises 0 (numbers ss)
+      → (before r m ss a).state ≡ unexpired m (swept (visited r m Ticks) (numbers ss) ss a.ticks).state
+  pub entries : (r : Rules) (m : ℕ) (ss : List Session) (a : Sweeps) → Rises 0 (numbers ss)
+      → (before r m ss a).entries ≡ (swept (visited r m Ticks) (numbers ss) ss a.ticks).entries
+  pub calls : (r : Rules) (m : ℕ) (ss : List Session) (a : Sweeps) → Rises 0 (numbers ss)
+      → (before r m ss a).calls
+      ≡ (swept (visited r m Ticks) (numbers ss) ss a.ticks).calls ++ expired m (swept (visited r m Ticks) (numbers ss) ss a.ticks).state
+
+-- ---- until when a turn waits
+
+abbrev pub IsNotBefore : ℕ → Option ℕ → Type 0
+IsNotBefore m None = Unit {0}
+IsNotBefore m (Some at) = m ≤ at
+
+-- no deadline and no closing moment lies before this one
+abbrev pub NoneIsBefore : ℕ → List Session → Type 0
+NoneIsBefore m [] = Unit {0}
+NoneIsBefore m (s ∷ ss) = IsNotBefore m (deadline_of s.end) × IsNotBefore m s.closing × NoneIsBefore m ss
+
+-- it is one of them
+abbrev pub IsOneOf : ℕ → List Session → Type 0
+IsOneOf m [] = ⊥
+IsOneOf m (s ∷ ss) = (deadline_of s.end ≡ Some m) ⊎ ((s.closing ≡ Some m) ⊎ IsOneOf m ss)
+
+-- there is none
+abbrev pub HaveNone : List Session → Type 0
+HaveNone [] = Unit {0}
+HaveNone (s ∷ ss) = (deadline_of s.end ≡ None) × (s.closing ≡ None) × HaveNone ss
+
+abbrev pub IsLeast : Option ℕ → List Session → Type 0
+IsLeast None ss = HaveNone ss
+IsLeast (Some m) ss = NoneIsBefore m ss × IsOneOf m ss
+
+-- the turn comes behind what is done before it, and waits until the least of the deadlines and closing moments that are left
+pub record WaitsUntil (plan : Plan) (c : Course) (a : Turn) : Type 0 where
+  pub until : Option ℕ
+  pub rest : List wires.Call
+  pub is : (went plan c a).calls ≡ (readied plan c a).calls ++ Turns until a.happening ∷ rest
+  pub least : IsLeast until (readied plan c a).state.loop.sessions
+
+abbrev pub TurnsWait : Type 0
+TurnsWait = (plan : Plan) (c : Course) (a : Turn) → c.halt ≡ None → (readied plan c a).state.halt ≡ None → WaitsUntil plan c a
