@@ -42,6 +42,11 @@ impl Script {
         self.act(Act::Shut { conn }, 2)
     }
 
+    /// The peer of a connection takes nothing any more.
+    pub(crate) fn stop_taking(&mut self, conn: u64) -> Result<(), NoMemory> {
+        self.act(Act::Room { conn, room: 0 }, 1)
+    }
+
     /// Octets come late to a connection that is closed.
     pub(crate) fn come_late(
         &mut self,

@@ -90,7 +90,8 @@ fn begun(
 }
 
 // Three users are handed in: the first connection gets the last of them, and the first of them stays without one until the loop is over.
-// The second train leaves behind its fourth report, which was on its way by then.
+// The first train leaves behind its third report, which was on its way by then. Its wire has no room any more, so its connection
+// stays open to the end; its user is let go as it is released.
 const WRITTEN_DOWN: &str = "\
 c connected 5
 b connected 6
@@ -98,11 +99,11 @@ c message position-report-00000001
 b message position-report-00000001
 c message position-report-00000002
 b message position-report-00000002
-c released 15l
+c message position-report-00000003
+c released 07p
 c let go
 b message position-report-00000003
-b message position-report-00000004
-b released 07p
+b released 15l
 b let go
 a let go
 ";
@@ -113,10 +114,11 @@ fn a_user_hears_each_thing_once_and_is_let_go(rt: HostRuntime) -> Result<(), Fai
     let keys = keys(alloc)?;
     let mut trains = two_trains(alloc)?;
     let mut script = begun(alloc, &keys, 5, &mut trains)?;
-    script.shut(1)?;
+    script.stop_taking(1)?;
+    trains.0.leave(7);
+    script.speak(alloc, &keys, 1, &mut trains.0)?;
     script.speak(alloc, &keys, 2, &mut trains.1)?;
-    trains.1.leave(7);
-    script.speak(alloc, &keys, 2, &mut trains.1)?;
+    script.shut(2)?;
     let heard = Rc::new(alloc, RefCell::new(Heard::new()))?;
     let mut users: Vec<Box<dyn SafeUser>> = Vec::new(alloc);
     for name in *b"abc" {
