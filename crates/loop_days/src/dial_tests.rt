@@ -48,12 +48,12 @@ fn a_call_gives_its_set_up_frame(rt: HostRuntime) -> Result<(), Fail> {
             &mut clock,
             &mut randoms,
             &mut sink,
-        );
+        )?;
         assert!(rt;
-            done == Ok(Served {
+            done == Served {
                 turns: 1,
                 why: Stop::Ended
-            })
+            }
         );
         assert!(rt; sink.held() == PRINTED.as_bytes());
         let mut given = Vec::new(alloc);
