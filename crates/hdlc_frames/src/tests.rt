@@ -3,59 +3,55 @@
 use super::laws::frame_length;
 use super::{Control, Deframer, Found, Frame, control, control_extended, first_frame, put_frame};
 use er_base::Room;
-use std::process::Abort;
 use std::test::Fail;
 
-// Feeds a piece until it is used whole, and compares what was found with what is expected from the place
-// `next` on. Gives the place behind it.
+// Feeds a piece until it is used whole. Gives the place behind what is expected of it, from the place `next` on, or
+// None where something else is found.
 fn feed_whole(
-    rt: &impl Abort,
     deframer: &mut Deframer,
     piece: &[u8],
     expected: &[Found<'_>],
     next: usize,
-) -> usize {
+) -> Option<usize> {
     let mut next = next;
     let mut rest = piece;
     for _ in 0..piece.len() + 1 {
         let (used, found) = deframer.feed(rest);
         if let Some(found) = found {
-            assert!(rt; next < expected.len());
-            assert_eq!(rt; found, expected[next]);
+            if next >= expected.len() || found != expected[next] {
+                return None;
+            }
             next += 1;
         }
         rest = &rest[used..];
     }
-    next
+    Some(next)
 }
 
-// Reads a stream whole, and in every cut into two and into three pieces.
-fn in_cuts_of_three(rt: &impl Abort, stream: &[u8], expected: &[Found<'_>]) {
+// Whether this is found in a stream that comes in these pieces.
+fn is_found_in(pieces: [&[u8]; 3], expected: &[Found<'_>]) -> bool {
+    let mut deframer = Deframer::new();
+    let mut next = 0;
+    for piece in pieces {
+        match feed_whole(&mut deframer, piece, expected, next) {
+            Some(behind) => next = behind,
+            None => return false,
+        }
+    }
+    next == expected.len()
+}
+
+// Whether this is found in a stream, whole and in every cut into two and into three pieces.
+fn is_found_in_every_cut(stream: &[u8], expected: &[Found<'_>]) -> bool {
     for first in 0..stream.len() + 1 {
         for second in first..stream.len() + 1 {
-            let mut deframer = Deframer::new();
-            let next = feed_whole(rt, &mut deframer, &stream[..first], expected, 0);
-            let next = feed_whole(rt, &mut deframer, &stream[first..second], expected, next);
-            let next = feed_whole(rt, &mut deframer, &stream[second..], expected, next);
-            assert_eq!(rt; next, expected.len());
-        }
-    }
-}
-
-// Reads six octets in each of the 32 ways to cut them: bit `i` of a mask cuts behind octet `i`.
-fn in_every_cut(rt: &impl Abort, stream: &[u8; 6], expected: &[Found<'_>]) {
-    for mask in 0..32u8 {
-        let mut deframer = Deframer::new();
-        let mut next = 0;
-        let mut start = 0;
-        for place in 1..7usize {
-            if place == 6 || mask >> (place - 1) & 1 == 1 {
-                next = feed_whole(rt, &mut deframer, &stream[start..place], expected, next);
-                start = place;
+            let pieces = [&stream[..first], &stream[first..second], &stream[second..]];
+            if !is_found_in(pieces, expected) {
+                return false;
             }
         }
-        assert_eq!(rt; next, expected.len());
     }
+    true
 }
 
 const SABM: Found<'static> = Found::Frame(Frame {
@@ -63,47 +59,38 @@ const SABM: Found<'static> = Found::Frame(Frame {
     body: &[0x3f],
 });
 
-#[test]
-fn six_octets_in_every_cut(rt: HostRuntime) {
-    in_every_cut(&rt, &[0x7e, 0x01, 0x3f, 0xeb, 0xdf, 0x7e], &[SABM]);
-    in_every_cut(&rt, &[0x7e, 0x01, 0x3f, 0xea, 0xdf, 0x7e], &[Found::BadFcs]);
-    in_every_cut(
-        &rt,
-        &[0x7e, 0x01, 0x3f, 0x7d, 0xdf, 0x7e],
-        &[Found::TooShort],
-    );
-    in_every_cut(
-        &rt,
-        &[0x7e, 0x01, 0x3f, 0xeb, 0x7d, 0x7e],
-        &[Found::Aborted],
-    );
+fn finds_in_six_octets() -> bool {
+    is_found_in_every_cut(&[0x7e, 0x01, 0x3f, 0xeb, 0xdf, 0x7e], &[SABM])
+        && is_found_in_every_cut(&[0x7e, 0x01, 0x3f, 0xea, 0xdf, 0x7e], &[Found::BadFcs])
+        && is_found_in_every_cut(&[0x7e, 0x01, 0x3f, 0x7d, 0xdf, 0x7e], &[Found::TooShort])
+        && is_found_in_every_cut(&[0x7e, 0x01, 0x3f, 0xeb, 0x7d, 0x7e], &[Found::Aborted])
+}
+
+fn finds_in_short_pieces() -> bool {
+    is_found_in_every_cut(&[0x7e, 0x01, 0x7e], &[Found::TooShort])
+        && is_found_in_every_cut(&[0x7e, 0x01, 0x7d, 0x7e], &[Found::Aborted])
+        && is_found_in_every_cut(&[0x7e, 0x7e, 0x7e], &[])
+}
+
+// Frames that share a flag.
+fn finds_in_a_stream() -> bool {
+    let stream = [
+        0x55, 0x7e, 0x01, 0x3f, 0xeb, 0xdf, 0x7e, 0x7d, 0x7e, 0x01, 0x3f, 0xeb, 0xdf, 0x7e, 0x01,
+    ];
+    is_found_in_every_cut(&stream, &[SABM, Found::Aborted, SABM])
 }
 
 #[test]
-fn short_aborted_and_empty_pieces(rt: HostRuntime) {
-    in_cuts_of_three(&rt, &[0x7e, 0x01, 0x7e], &[Found::TooShort]);
-    in_cuts_of_three(&rt, &[0x7e, 0x01, 0x7d, 0x7e], &[Found::Aborted]);
-    in_cuts_of_three(&rt, &[0x7e, 0x7e, 0x7e], &[]);
+fn finds_what_a_stream_holds(rt: HostRuntime) {
+    assert!(rt; finds_in_six_octets());
+    assert!(rt; finds_in_short_pieces());
+    assert!(rt; finds_in_a_stream());
 }
 
-#[test]
-fn frames_share_a_flag(rt: HostRuntime) {
-    in_cuts_of_three(
-        &rt,
-        &[
-            0x55, 0x7e, 0x01, 0x3f, 0xeb, 0xdf, 0x7e, 0x7d, 0x7e, 0x01, 0x3f, 0xeb, 0xdf, 0x7e,
-            0x01,
-        ],
-        &[SABM, Found::Aborted, SABM],
-    );
-}
-
-// Feeds a whole stream that has one frame, closed by its last octet.
-fn whole(rt: &impl Abort, stream: &[u8], expected: Found<'_>) {
+// Whether a whole stream has this alone, closed by its last octet.
+fn closes(stream: &[u8], expected: Found<'_>) -> bool {
     let mut deframer = Deframer::new();
-    let (used, found) = deframer.feed(stream);
-    assert_eq!(rt; used, stream.len());
-    assert_eq!(rt; found, Some(expected));
+    deframer.feed(stream) == (stream.len(), Some(expected))
 }
 
 #[test]
@@ -111,13 +98,13 @@ fn the_greatest_length(rt: HostRuntime) {
     let mut stream = [0x41; 1036];
     stream[0] = 0x7e;
     stream[1033] = 0x7e;
-    whole(&rt, &stream[..1034], Found::BadFcs);
+    assert!(rt; closes(&stream[..1034], Found::BadFcs));
     stream[1033] = 0x41;
     stream[1034] = 0x7e;
-    whole(&rt, &stream[..1035], Found::TooLong);
+    assert!(rt; closes(&stream[..1035], Found::TooLong));
     stream[1034] = 0x7d;
     stream[1035] = 0x7e;
-    whole(&rt, &stream, Found::Aborted);
+    assert!(rt; closes(&stream, Found::Aborted));
 }
 
 // Address 03 and body 7e7d05eb, whose check sequence has two octets that are escaped too. Spelled by a
@@ -130,96 +117,107 @@ const ESCAPED: [u8; 13] = [
 #[test]
 fn a_frame_is_written_and_read(rt: HostRuntime) -> Result<(), Fail> {
     frame_length();
+    let body = [0x7e, 0x7d, 0x05, 0xeb].as_slice();
     let mut out = Room::with_capacity(rt.alloc(), 100)?;
-    put_frame(0x03, &[0x7e, 0x7d, 0x05, 0xeb], &mut out);
-    assert_eq!(rt; out.held(), ESCAPED.as_slice());
-    in_cuts_of_three(
-        &rt,
-        &ESCAPED,
-        &[Found::Frame(Frame {
-            address: 0x03,
-            body: &[0x7e, 0x7d, 0x05, 0xeb],
-        })],
-    );
+    put_frame(0x03, body, &mut out);
+    assert!(rt; out.held() == ESCAPED.as_slice());
+    let frame = Found::Frame(Frame {
+        address: 0x03,
+        body,
+    });
+    assert!(rt; is_found_in_every_cut(&ESCAPED, &[frame]));
     Ok(())
+}
+
+fn ends_first_frames() -> bool {
+    first_frame(&[]).is_none()
+        && first_frame(&[0x7e, 0x7e, 0x7e]).is_none()
+        && first_frame(&[0x01, 0x7e, 0x01]).is_none()
+        && first_frame(&[0x01, 0x7e, 0x7e, 0x7d, 0x7e, 0x01, 0x7e]) == Some(5)
+        && first_frame(&[0x7e, 0x01, 0x3f, 0xeb, 0xdf, 0x7e]) == Some(6)
 }
 
 #[test]
 fn the_first_frame_ends(rt: HostRuntime) {
-    assert_eq!(rt; first_frame(&[]), None);
-    assert_eq!(rt; first_frame(&[0x7e, 0x7e, 0x7e]), None);
-    assert_eq!(rt; first_frame(&[0x01, 0x7e, 0x01]), None);
-    assert_eq!(rt;
-        first_frame(&[0x01, 0x7e, 0x7e, 0x7d, 0x7e, 0x01, 0x7e]),
-        Some(5)
-    );
-    assert_eq!(rt; first_frame(&[0x7e, 0x01, 0x3f, 0xeb, 0xdf, 0x7e]), Some(6));
+    assert!(rt; ends_first_frames());
 }
 
-// Controls with their octets at modulo 8; the P/F bit is set in the last of each pair.
-const MODULO_8: [(Control, u8, u8); 9] = [
-    (Control::Info { ns: 0, nr: 0 }, 0x00, 0x10),
-    (Control::Info { ns: 7, nr: 5 }, 0xae, 0xbe),
-    (Control::Rr { nr: 3 }, 0x61, 0x71),
-    (Control::Rnr { nr: 0 }, 0x05, 0x15),
-    (Control::Rej { nr: 7 }, 0xe9, 0xf9),
-    (Control::Srej { nr: 1 }, 0x2d, 0x3d),
-    (Control::Ua, 0x63, 0x73),
-    (Control::Dm, 0x0f, 0x1f),
-    (Control::Frmr, 0x87, 0x97),
-];
+// Whether a control is read at modulo 8 from each of two octets; the P/F bit is set in the second.
+fn is_read(expected: Control, clear: u8, set: u8) -> bool {
+    control(&[clear, 0x0a]) == Some((expected, [0x0a].as_slice()))
+        && control(&[set]) == Some((expected, [].as_slice()))
+}
+
+fn reads_modulo_8() -> bool {
+    is_read(Control::Info { ns: 0, nr: 0 }, 0x00, 0x10)
+        && is_read(Control::Info { ns: 7, nr: 5 }, 0xae, 0xbe)
+        && is_read(Control::Rr { nr: 3 }, 0x61, 0x71)
+        && is_read(Control::Rnr { nr: 0 }, 0x05, 0x15)
+        && is_read(Control::Rej { nr: 7 }, 0xe9, 0xf9)
+        && is_read(Control::Srej { nr: 1 }, 0x2d, 0x3d)
+        && is_read(Control::Ua, 0x63, 0x73)
+        && is_read(Control::Dm, 0x0f, 0x1f)
+        && is_read(Control::Frmr, 0x87, 0x97)
+        && control(&[0x3f]) == Some((Control::Sabm { poll: true }, [].as_slice()))
+        && control(&[0x43]) == Some((Control::Disc { poll: false }, [].as_slice()))
+}
+
+fn refuses_modulo_8() -> bool {
+    control(&[0x03]).is_none()
+        && control(&[0x6f]).is_none()
+        && control(&[0x7f]).is_none()
+        && control(&[0xef]).is_none()
+        && control(&[]).is_none()
+}
+
+fn writes_modulo_8() -> bool {
+    Control::Info { ns: 7, nr: 5 }.octets(true).as_slice() == [0xbe].as_slice()
+        && Control::Sabm { poll: true }.octets(false).as_slice() == [0x3f].as_slice()
+}
 
 #[test]
 fn controls_modulo_8(rt: HostRuntime) {
-    for (expected, clear, set) in MODULO_8 {
-        assert_eq!(rt;
-            control(&[clear, 0x0a]),
-            Some((expected, [0x0a].as_slice()))
-        );
-        assert_eq!(rt; control(&[set]), Some((expected, [].as_slice())));
-    }
-    let sabm = Control::Sabm { poll: true };
-    let disc = Control::Disc { poll: false };
-    assert_eq!(rt; control(&[0x3f]), Some((sabm, [].as_slice())));
-    assert_eq!(rt; control(&[0x43]), Some((disc, [].as_slice())));
-    for octet in [0x03, 0x6f, 0x7f, 0xef] {
-        assert_eq!(rt; control(&[octet]), None);
-    }
-    assert_eq!(rt; control(&[]), None);
-    assert_eq!(rt;
-        Control::Info { ns: 7, nr: 5 }.octets(true).as_slice(),
-        [0xbe].as_slice()
-    );
-    assert_eq!(rt; sabm.octets(false).as_slice(), [0x3f].as_slice());
+    assert!(rt; reads_modulo_8());
+    assert!(rt; refuses_modulo_8());
+    assert!(rt; writes_modulo_8());
+}
+
+// Whether octets are read at modulo 128 as a control and what stands behind it.
+fn is_read_extended(octets: &[u8], expected: Control, behind: &[u8]) -> bool {
+    control_extended(octets) == Some((expected, behind))
+}
+
+fn reads_modulo_128() -> bool {
+    is_read_extended(
+        &[0xfe, 0x81, 0x41],
+        Control::Info { ns: 127, nr: 64 },
+        &[0x41],
+    ) && is_read_extended(&[0x01, 0x02], Control::Rr { nr: 1 }, &[])
+        && is_read_extended(&[0x7f], Control::Sabme { poll: true }, &[])
+        && is_read_extended(&[0x73, 0x02], Control::Ua, &[0x02])
+}
+
+fn refuses_modulo_128() -> bool {
+    control_extended(&[0x3f, 0x00]).is_none()
+        && control_extended(&[0x11, 0x02]).is_none()
+        && control_extended(&[0x03, 0x00]).is_none()
+        && control_extended(&[0x01]).is_none()
+        && control_extended(&[]).is_none()
+}
+
+fn writes_modulo_128() -> bool {
+    let info = Control::Info { ns: 127, nr: 64 };
+    info.octets_extended(true).as_slice() == [0xfe, 0x81].as_slice()
+        && Control::Rr { nr: 1 }.octets_extended(false).as_slice() == [0x01, 0x02].as_slice()
+        && Control::Sabme { poll: true }
+            .octets_extended(false)
+            .as_slice()
+            == [0x7f].as_slice()
 }
 
 #[test]
 fn controls_modulo_128(rt: HostRuntime) {
-    let info = Control::Info { ns: 127, nr: 64 };
-    let rr = Control::Rr { nr: 1 };
-    let sabme = Control::Sabme { poll: true };
-    assert_eq!(rt;
-        control_extended(&[0xfe, 0x81, 0x41]),
-        Some((info, [0x41].as_slice()))
-    );
-    assert_eq!(rt; control_extended(&[0x01, 0x02]), Some((rr, [].as_slice())));
-    assert_eq!(rt; control_extended(&[0x7f]), Some((sabme, [].as_slice())));
-    assert_eq!(rt;
-        control_extended(&[0x73, 0x02]),
-        Some((Control::Ua, [0x02].as_slice()))
-    );
-    for octets in [[0x3f, 0x00], [0x11, 0x02], [0x03, 0x00]] {
-        assert_eq!(rt; control_extended(&octets), None);
-    }
-    assert_eq!(rt; control_extended(&[0x01]), None);
-    assert_eq!(rt; control_extended(&[]), None);
-    assert_eq!(rt;
-        info.octets_extended(true).as_slice(),
-        [0xfe, 0x81].as_slice()
-    );
-    assert_eq!(rt;
-        rr.octets_extended(false).as_slice(),
-        [0x01, 0x02].as_slice()
-    );
-    assert_eq!(rt; sabme.octets_extended(false).as_slice(), [0x7f].as_slice());
+    assert!(rt; reads_modulo_128());
+    assert!(rt; refuses_modulo_128());
+    assert!(rt; writes_modulo_128());
 }
