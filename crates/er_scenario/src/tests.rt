@@ -1,9 +1,6 @@
-use crate::grammar::Grammar;
-use crate::printer::put_text;
-use crate::reader::read_by;
-use crate::{Level, Numbered, Scenario, Step, StepList, laws, print, read};
+use crate::{Level, Scenario, Step, laws, print, read};
 use des_block::TripleKey;
-use er_base::{NoMemory, Octets, Side, TextFault, Why};
+use er_base::{NoMemory, Side, TextFault, Why};
 use er_settings::Settings;
 use std::alloc::Global;
 use std::test::Fail;
@@ -33,68 +30,108 @@ fn spelled_out(alloc: Global, text: &str) -> Result<Vec<u8>, NoMemory> {
 }
 
 // The line and the word of a text's fault.
-fn fault_in(
-    alloc: Global,
-    grammar: Grammar,
-    text: &[u8],
-) -> Result<Option<(usize, Why)>, NoMemory> {
-    match read_by(alloc, grammar, text) {
+fn fault_in(alloc: Global, text: &[u8]) -> Result<Option<(usize, Why)>, NoMemory> {
+    match read(alloc, text) {
         Ok(_) => Ok(None),
         Err(TextFault::At { line, why }) => Ok(Some((line, why))),
         Err(TextFault::NoMemory(want)) => Err(want),
     }
 }
 
-const SEALED_MESSAGE: &str = "drill 1 safe\nfixed 1 5 9 K K\nsend 1 e 41\npass 1 e\n";
+fn opens_with_fixed_keys(step: &Step) -> bool {
+    match step {
+        Step::Fixed {
+            link: 1,
+            engine: 5,
+            rbc: 9,
+            ke,
+            kr,
+        } => *ke == KEYS && *kr == KEYS,
+        _ => false,
+    }
+}
+
+fn sends_one_octet(step: &Step) -> bool {
+    match step {
+        Step::Send {
+            link: 1,
+            side: Side::E,
+            text,
+        } => text.as_slice() == b"A".as_slice(),
+        _ => false,
+    }
+}
+
+fn passes(step: &Step) -> bool {
+    matches!(
+        step,
+        Step::Pass {
+            link: 1,
+            side: Side::E
+        }
+    )
+}
+
+fn is_one_sealed_message(scenario: &Scenario) -> bool {
+    let [opening, sending, passing] = scenario.steps.as_slice() else {
+        return false;
+    };
+    scenario.level == Level::Safe
+        && scenario.settings == Settings::usual()
+        && !scenario.show
+        && opens_with_fixed_keys(&opening.step)
+        && sends_one_octet(&sending.step)
+        && passes(&passing.step)
+        && (opening.line, sending.line, passing.line) == (2, 3, 4)
+}
 
 #[test]
-fn reads_and_prints_one_sealed_message(rt: HostRuntime) -> Result<(), Fail> {
-    let text = spelled_out(rt.alloc(), SEALED_MESSAGE)?;
+fn reads_one_sealed_message(rt: HostRuntime) -> Result<(), Fail> {
+    let text = spelled_out(
+        rt.alloc(),
+        "drill 1 safe;fixed 1 5 9 K K;send 1 e 41;pass 1 e;",
+    )?;
     let scenario = read(rt.alloc(), text.as_slice())?;
-    assert_eq!(rt; scenario.level, Level::Safe);
-    assert_eq!(rt; scenario.settings, Settings::usual());
-    assert!(rt; !scenario.show);
-    let [opening, sending, passing] = scenario.steps.as_slice() else {
-        return Ok(assert!(rt; false));
-    };
-    let Step::Fixed {
-        link: 1,
-        engine: 5,
-        rbc: 9,
-        ke,
-        kr,
-    } = &opening.step
-    else {
-        return Ok(assert!(rt; false));
-    };
-    assert_eq!(rt; *ke, KEYS);
-    assert_eq!(rt; *kr, KEYS);
-    let Step::Send {
-        link: 1,
-        side: Side::E,
-        text: message,
-    } = &sending.step
-    else {
-        return Ok(assert!(rt; false));
-    };
-    assert_eq!(rt; message.as_slice(), b"A".as_slice());
-    assert!(rt;
-        matches!(
-            passing.step,
-            Step::Pass {
-                link: 1,
-                side: Side::E
-            }
-        )
-    );
-    assert_eq!(rt; (opening.line, sending.line, passing.line), (2, 3, 4));
-    let mut out = Vec::from_slice(rt.alloc(), b"> ".as_slice())?;
-    print(rt.alloc(), &scenario, &mut out)?;
-    let mut expected = Vec::from_slice(rt.alloc(), b"> ".as_slice())?;
-    expected.extend_from_slice(text.as_slice())?;
-    assert_eq!(rt; out.as_slice(), expected.as_slice());
+    assert!(rt; is_one_sealed_message(&scenario));
     laws::printed_is_read();
     Ok(())
+}
+
+fn opens_without_a_key(step: &Step) -> bool {
+    match step {
+        Step::Link {
+            link: 1,
+            engine: 5,
+            rbc: 9,
+            ke,
+            kr: None,
+            ra: 0x0123_4567_89AB_CDEF,
+            rb: 0xFEDC_BA98_7654_3210,
+        } => *ke == KEYS,
+        _ => false,
+    }
+}
+
+fn opens_with_keys(step: &Step) -> bool {
+    match step {
+        Step::Link {
+            link: 2,
+            engine: 7,
+            rbc: 8,
+            ke,
+            kr: Some(kr),
+            ra: 1,
+            rb: 0x0123_4567_89AB_CDEF,
+        } => *ke == KEYS && *kr == KEYS,
+        _ => false,
+    }
+}
+
+fn opens_both(scenario: &Scenario) -> bool {
+    let [keyless, keyed] = scenario.steps.as_slice() else {
+        return false;
+    };
+    opens_without_a_key(&keyless.step) && opens_with_keys(&keyed.step)
 }
 
 #[test]
@@ -102,89 +139,68 @@ fn reads_links_with_and_without_a_key(rt: HostRuntime) -> Result<(), Fail> {
     let lines = "drill 1 safe;link 1 5 9 K - R FEDCBA9876543210;link 2 7 8 K K 0000000000000001 R";
     let text = spelled_out(rt.alloc(), lines)?;
     let scenario = read(rt.alloc(), text.as_slice())?;
-    let [keyless, keyed] = scenario.steps.as_slice() else {
-        return Ok(assert!(rt; false));
-    };
-    let Step::Link {
-        link: 1,
-        engine: 5,
-        rbc: 9,
-        ke,
-        kr: None,
-        ra: 0x0123_4567_89AB_CDEF,
-        rb: 0xFEDC_BA98_7654_3210,
-    } = &keyless.step
-    else {
-        return Ok(assert!(rt; false));
-    };
-    assert_eq!(rt; *ke, KEYS);
-    let Step::Link {
-        link: 2,
-        engine: 7,
-        rbc: 8,
-        ke,
-        kr: Some(kr),
-        ra: 1,
-        rb: 0x0123_4567_89AB_CDEF,
-    } = &keyed.step
-    else {
-        return Ok(assert!(rt; false));
-    };
-    assert_eq!(rt; *ke, KEYS);
-    assert_eq!(rt; *kr, KEYS);
+    assert!(rt; opens_both(&scenario));
     Ok(())
 }
 
 // Each line as it is written and as it is printed, behind its header, by hand from the table of lines.
 const PRINTED: &str = "\
-safe|fixed 64 0 16777215 K K|fixed 64 0 16777215 K K
-safe|link 64 0 16777215 K - 0000000000000000 FFFFFFFFffffffff|link 64 0 16777215 K - 0000000000000000 ffffffffffffffff
-full|link 1 5 9 K K R 00000000000000aB|link 1 5 9 K K R 00000000000000ab
-link|wire 64|wire 64
-safe| send  1 e -  |send 1 e -
-link|send 1 r 0aFf|send 1 r 0aff
-safe|pass 1 e|pass 1 e
-full|lose 2 r|lose 2 r
-link|repeat 3 e|repeat 3 e
-safe|alter 1 e 18446744073709551615 FF|alter 1 e 18446744073709551615 ff
-full|put 1 r 00|put 1 r 00
-safe|copy 1 e 64 r|copy 1 e 64 r
-full|take 1 r|take 1 r
-link|release 1 r 255|release 1 r 255
-full|tick 1000000000000000|tick 1000000000000000
-link|drain 1 100000|drain 1 100000
-safe|set window 1|set window 1
-safe|set credit 1|set credit 1
-safe|set size 1024|set size 1024
-safe|set t1 60000|set t1 60000
-safe|set n2 10|set n2 10
-safe|set setup 1000|set setup 1000
-safe|set show 1|set show 1
-safe|set window 1;set window 2;set n2 5|set window 2
-safe|set show 1;set size 256;set show 0;set credit 3|set credit 3;set size 256
-link|set n2 1;set modulo 128;set window 31|set modulo 128;set window 31;set n2 1
+safe|fixed 64 0 16777215 K K|fixed 64 0 16777215 K K;
+safe|link 64 0 16777215 K - 0000000000000000 FFFFFFFFffffffff|link 64 0 16777215 K - 0000000000000000 ffffffffffffffff;
+full|link 1 5 9 K K R 00000000000000aB|link 1 5 9 K K R 00000000000000ab;
+link|wire 64|wire 64;
+safe| send  1 e -  |send 1 e -;
+link|send 1 r 0aFf|send 1 r 0aff;
+safe|pass 1 e|pass 1 e;
+full|lose 2 r|lose 2 r;
+link|repeat 3 e|repeat 3 e;
+safe|alter 1 e 18446744073709551615 FF|alter 1 e 18446744073709551615 ff;
+full|put 1 r 00|put 1 r 00;
+safe|copy 1 e 64 r|copy 1 e 64 r;
+full|take 1 r|take 1 r;
+link|release 1 r 255|release 1 r 255;
+full|tick 1000000000000000|tick 1000000000000000;
+link|drain 1 100000|drain 1 100000;
+safe|set window 1|set window 1;
+safe|set credit 1|set credit 1;
+safe|set size 1024|set size 1024;
+safe|set t1 60000|set t1 60000;
+safe|set n2 10|set n2 10;
+safe|set setup 1000|set setup 1000;
+safe|set show 1|set show 1;
+safe|set window 1;set window 2;set n2 5|set window 2;
+safe|set show 1;set size 256;set show 0;set credit 3|set credit 3;set size 256;
+link|set n2 1;set modulo 128;set window 31|set modulo 128;set window 31;set n2 1;
 link|set modulo 128;set window 31;set window 7;set modulo 8|
-safe|set modulo 128|set modulo 128
-safe|# set window 9;;   ;pass 1 e;#|pass 1 e";
+safe|set modulo 128|set modulo 128;
+safe|# set window 9;;   ;pass 1 e;#|pass 1 e;";
+
+// A drill's text, read and printed again.
+fn printed(alloc: Global, text: &[u8]) -> Result<Vec<u8>, Fail> {
+    let scenario = read(alloc, text)?;
+    let mut out = Vec::new(alloc);
+    print(alloc, &scenario, &mut out)?;
+    Ok(out)
+}
+
+// The header of a drill, and lines.
+fn drill(alloc: Global, level: &str, lines: &str) -> Result<Vec<u8>, Fail> {
+    let text = format!(in alloc; "drill 1 {level};{lines}")?;
+    Ok(spelled_out(alloc, text.as_str())?)
+}
+
+fn is_printed(alloc: Global, row: &str) -> Result<bool, Fail> {
+    let (level, lines) = row.split_once('|').ok_or("no level")?;
+    let (written, again) = lines.split_once('|').ok_or("no lines")?;
+    let text = drill(alloc, level, written)?;
+    let expected = drill(alloc, level, again)?;
+    Ok(printed(alloc, text.as_slice())?.as_slice() == expected.as_slice())
+}
 
 #[test]
 fn prints_each_line_as_it_is_written(rt: HostRuntime) -> Result<(), Fail> {
     for row in PRINTED.split('\n') {
-        let Some((level, lines)) = row.split_once('|') else {
-            return Ok(assert!(rt; false, "{row}"));
-        };
-        let Some((written, printed)) = lines.split_once('|') else {
-            return Ok(assert!(rt; false, "{row}"));
-        };
-        let text = format!(in rt.alloc(); "drill 1 {level};{written}")?;
-        let text = spelled_out(rt.alloc(), text.as_str())?;
-        let scenario = read_by(rt.alloc(), Grammar::Whole, text.as_slice())?;
-        let mut out = Vec::new(rt.alloc());
-        put_text(rt.alloc(), &scenario, &mut out)?;
-        let end = if printed.is_empty() { "" } else { ";" };
-        let expected = format!(in rt.alloc(); "drill 1 {level};{printed}{end}")?;
-        let expected = spelled_out(rt.alloc(), expected.as_str())?;
-        assert_eq!(rt; out.as_slice(), expected.as_slice(), "{row}");
+        assert!(rt; is_printed(rt.alloc(), row)?, "{row}");
     }
     Ok(())
 }
@@ -436,16 +452,11 @@ const FAULTS: &str = "\
 2 Count|drill 1 link;tick 1 2
 2 Number|drill 1 link;tick -1
 2 Number|drill 1 link;tick 01
-2 Value|drill 1 link;tick 1000000000000001";
-
-// The same of lines and levels that the program can't run yet, by the whole grammar.
-const FAULTS_OF_THE_WHOLE: &str = "\
-1 Header|drill 1 Full
+2 Value|drill 1 link;tick 1000000000000001
 2 Value|drill 1 full;set window 8
 2 Level|drill 1 full;wire 1
 2 Level|drill 1 full;fixed 1 5 9 K ?
 2 Level|drill 1 safe;take ? ?
-2 Level|drill 1 link;take 1 e
 2 Count|drill 1 full;take 1
 2 Number|drill 1 full;take a ?
 2 Value|drill 1 full;take 0 ?
@@ -453,102 +464,56 @@ const FAULTS_OF_THE_WHOLE: &str = "\
 2 Number|drill 1 full;tick 01
 2 Value|drill 1 full;tick 1000000000000001";
 
-// The first row of a table whose text isn't refused as is written before it.
-fn first_wrong(
-    alloc: Global,
-    grammar: Grammar,
-    rows: &'static str,
-) -> Result<Option<&'static str>, Fail> {
-    for row in rows.split('\n') {
-        let Some((expected, written)) = row.split_once('|') else {
-            return Ok(Some(row));
-        };
-        let text = spelled_out(alloc, written)?;
-        let Some((line, why)) = fault_in(alloc, grammar, text.as_slice())? else {
-            return Ok(Some(row));
-        };
-        let fault = format!(in alloc; "{line} {why:?}")?;
-        if fault.as_str() != expected {
-            return Ok(Some(row));
-        }
-    }
-    Ok(None)
+fn is_refused(alloc: Global, row: &str) -> Result<bool, Fail> {
+    let (expected, written) = row.split_once('|').ok_or("no text")?;
+    let text = spelled_out(alloc, written)?;
+    let (line, why) = fault_in(alloc, text.as_slice())?.ok_or("no fault")?;
+    let fault = format!(in alloc; "{line} {why:?}")?;
+    Ok(fault.as_str() == expected)
 }
 
 #[test]
 fn refuses_each_fault_in_each_place(rt: HostRuntime) -> Result<(), Fail> {
-    let running = first_wrong(rt.alloc(), Grammar::Running, FAULTS)?;
-    assert_eq!(rt; running, None);
-    let whole = first_wrong(rt.alloc(), Grammar::Whole, FAULTS_OF_THE_WHOLE)?;
-    assert_eq!(rt; whole, None);
-    Ok(())
-}
-
-#[test]
-fn takes_hex_words_of_4096_octets(rt: HostRuntime) -> Result<(), Fail> {
-    for word in ["send", "put"] {
-        let mut text = Vec::new(rt.alloc());
-        text.extend_from_slice(b"drill 1 safe\n")?;
-        text.extend_from_slice(word.as_bytes())?;
-        text.extend_from_slice(b" 1 e ")?;
-        for _ in 0..4_096 {
-            text.extend_from_slice(b"5a")?;
-        }
-        assert_eq!(rt;
-            fault_in(rt.alloc(), Grammar::Running, text.as_slice())?,
-            None,
-            "{word}"
-        );
-        text.extend_from_slice(b"5a")?;
-        let fault = fault_in(rt.alloc(), Grammar::Running, text.as_slice())?;
-        assert_eq!(rt; fault, Some((2, Why::Value)), "{word}");
+    for row in FAULTS.split('\n') {
+        assert!(rt; is_refused(rt.alloc(), row)?, "{row}");
     }
     Ok(())
 }
 
-#[test]
-fn takes_files_of_16_mebibytes(rt: HostRuntime) -> Result<(), Fail> {
-    let mut text = Vec::from_slice(rt.alloc(), b"drill 1 safe\n".as_slice())?;
-    text.resize(16_777_216, b'\n')?;
-    assert_eq!(rt;
-        fault_in(rt.alloc(), Grammar::Running, text.as_slice())?,
-        None
-    );
-    text.push(b'\n')?;
-    let fault = fault_in(rt.alloc(), Grammar::Running, text.as_slice())?;
-    assert_eq!(rt; fault, Some((0, Why::Long)));
-    Ok(())
+// Whether a text that is filled up with one octet may have so many octets and no more: `over` are too many.
+fn has_bound(
+    alloc: Global,
+    lines: &str,
+    octet: u8,
+    most: usize,
+    over: usize,
+    fault: (usize, Why),
+) -> Result<bool, NoMemory> {
+    let mut text = spelled_out(alloc, lines)?;
+    text.resize(most, octet)?;
+    let within = fault_in(alloc, text.as_slice())?;
+    text.resize(over, octet)?;
+    let beyond = fault_in(alloc, text.as_slice())?;
+    Ok(within.is_none() && beyond == Some(fault))
 }
 
+// Texts of 4,096 octets, 8,192 digits behind 22 or 21 octets, and files of 16 MiB.
 #[test]
-fn keeps_a_list_of_steps(rt: HostRuntime) -> Result<(), Fail> {
-    let text = Octets::new(Vec::from_slice(rt.alloc(), b"A".as_slice())?);
-    let step = Step::Put {
-        link: 1,
-        side: Side::R,
-        text,
-    };
-    let mut list = Vec::new(rt.alloc());
-    list.push(Numbered { line: 7, step })?;
-    let scenario = Scenario {
-        level: Level::Safe,
-        settings: Settings::usual(),
-        show: true,
-        steps: StepList::new(list),
-    };
-    let [numbered] = scenario.steps.as_slice() else {
-        return Ok(assert!(rt; false));
-    };
-    assert_eq!(rt; numbered.line, 7);
+fn takes_texts_and_files_up_to_their_limits(rt: HostRuntime) -> Result<(), Fail> {
+    let send = "drill 1 safe;send 1 e ";
+    let put = "drill 1 safe;put 1 e ";
+    let (text, file) = ((2, Why::Value), (0, Why::Long));
+    assert!(rt; has_bound(rt.alloc(), send, b'5', 8_214, 8_216, text)?);
+    assert!(rt; has_bound(rt.alloc(), put, b'a', 8_213, 8_215, text)?);
     assert!(rt;
-        matches!(
-            numbered.step,
-            Step::Put {
-                link: 1,
-                side: Side::R,
-                ..
-            }
-        )
+        has_bound(
+            rt.alloc(),
+            "drill 1 safe;",
+            b'\n',
+            16_777_216,
+            16_777_217,
+            file
+        )?
     );
     Ok(())
 }
