@@ -93,100 +93,147 @@ fn rbc() -> Safe {
     Safe::responder(RBC, 0x1112131415161718)
 }
 
+/// Whether a deed tells that the connection with this peer is made.
+fn connects(deed: SafeDeed, with: u32) -> bool {
+    match deed {
+        SafeDeed::Connected { peer } => peer == with,
+        _ => false,
+    }
+}
+
+/// Whether a deed tells this message.
+fn accepts(deed: SafeDeed, message: &[u8]) -> bool {
+    match deed {
+        SafeDeed::Accepted(octets) => octets == message,
+        _ => false,
+    }
+}
+
+fn set_up(engine: &mut Safe, rbc: &mut Safe, to_engine: &mut Room, to_rbc: &mut Room) -> bool
+    requires engine { 1032 ≤ to_engine.old.capacity }
+    requires rbc { 1032 ≤ to_rbc.old.capacity }
+    ensures engine { to_engine.new.capacity ≡ to_engine.old.capacity }
+    ensures rbc { to_rbc.new.capacity ≡ to_rbc.old.capacity }
+{
+    to_rbc.clear();
+    if engine.state() == SafeState::Ready {
+        engine.start(to_rbc);
+    }
+    let begins = to_rbc.held() == AU1.as_slice();
+    received(rbc, to_rbc.held(), to_engine);
+    received(engine, to_engine.held(), to_rbc);
+    let agrees = engine.verified() == rbc.sealed();
+    let is_rbc_connected = connects(received(rbc, to_rbc.held(), to_engine), ENGINE);
+    let is_engine_connected = connects(received(engine, to_engine.held(), to_rbc), RBC);
+    begins && agrees && is_rbc_connected && is_engine_connected
+}
+
+fn carry(engine: &mut Safe, rbc: &mut Safe, to_engine: &mut Room, to_rbc: &mut Room) -> bool
+    requires engine { 1032 ≤ to_engine.old.capacity }
+    requires rbc { 1032 ≤ to_rbc.old.capacity }
+    ensures engine { to_engine.new.capacity ≡ to_engine.old.capacity }
+    ensures rbc { to_rbc.new.capacity ≡ to_rbc.old.capacity }
+{
+    let is_one_session = engine.session().is_some() && engine.session() == rbc.session();
+    to_rbc.clear();
+    let is_sent = engine.send(b"ab", to_rbc) == Ok(());
+    let is_sealed = engine.sealed() == Some([0, 6, 0, 0, 9, 0x0A, 0x61, 0x62].as_slice());
+    let is_accepted = accepts(received(rbc, to_rbc.held(), to_engine), b"ab");
+    is_one_session && is_sent && is_sealed && is_accepted && rbc.verified() == engine.sealed()
+}
+
+fn end(rbc: &mut Safe, to_engine: &mut Room) -> bool
+    requires { 1032 ≤ to_engine.old.capacity }
+{
+    to_engine.clear();
+    let is_refused = rbc.send(&[], to_engine) == Err(SealRefused::Length(0));
+    let is_kept = rbc.verified().is_some();
+    rbc.forget();
+    let is_forgotten = rbc.verified().is_none();
+    to_engine.clear();
+    rbc.release(3, to_engine);
+    is_refused && is_kept && is_forgotten && to_engine.held() == [0x11, 0, 3].as_slice()
+}
+
 #[test]
 fn sets_up_and_carries_messages(rt: HostRuntime) -> Result<(), Fail> {
     let mut to_rbc = Room::with_capacity(rt.alloc(), 1032)?;
     let mut to_engine = Room::with_capacity(rt.alloc(), 1032)?;
     let mut engine = engine();
     let mut rbc = rbc();
-    if engine.state() == SafeState::Ready {
-        engine.start(&mut to_rbc);
-    }
-    assert_eq!(rt; to_rbc.held(), AU1.as_slice());
-    received(&mut rbc, to_rbc.held(), &mut to_engine);
-    received(&mut engine, to_engine.held(), &mut to_rbc);
-    assert_eq!(rt; engine.verified(), rbc.sealed());
-    let connected = received(&mut rbc, to_rbc.held(), &mut to_engine);
-    assert_eq!(rt; connected, SafeDeed::Connected { peer: ENGINE });
-    let connected = received(&mut engine, to_engine.held(), &mut to_rbc);
-    assert_eq!(rt; connected, SafeDeed::Connected { peer: RBC });
-    assert!(rt; engine.session().is_some());
-    assert_eq!(rt; engine.session(), rbc.session());
-    to_rbc.clear();
-    assert_eq!(rt; engine.send(b"ab", &mut to_rbc), Ok(()));
-    assert_eq!(rt;
-        engine.sealed(),
-        Some([0, 6, 0, 0, 9, 0x0A, 0x61, 0x62].as_slice())
-    );
-    let accepted = received(&mut rbc, to_rbc.held(), &mut to_engine);
-    assert_eq!(rt; accepted, SafeDeed::Accepted(b"ab"));
-    to_engine.clear();
-    assert_eq!(rt; rbc.send(&[], &mut to_engine), Err(SealRefused::Length(0)));
-    assert_eq!(rt; rbc.verified(), engine.sealed());
-    rbc.forget();
-    assert_eq!(rt; rbc.verified(), None);
-    to_engine.clear();
-    rbc.release(3, &mut to_engine);
-    assert_eq!(rt; to_engine.held(), [0x11, 0, 3].as_slice());
+    assert!(rt; set_up(&mut engine, &mut rbc, &mut to_engine, &mut to_rbc));
+    assert!(rt; carry(&mut engine, &mut rbc, &mut to_engine, &mut to_rbc));
+    assert!(rt; end(&mut rbc, &mut to_engine));
     Ok(())
 }
 
-/// Octets that a connected RBC receives, and its release.
-const RECEIVED: [(&[u8], u8, u8); 6] = [
-    (&[0xFF], 5, 2),
-    (&[0x0A; 9], 5, 2),
-    (&[0x0A; 1033], 5, 2),
-    (&AU1, 5, 1),
-    (&[0x0A; 10], 4, 1),
-    (&[0x11, 7, 8], 4, 2),
-];
+/// Whether a connected RBC that receives these octets releases so, and ignores what comes then.
+fn is_released(octets: &[u8], reason: u8, sub: u8, room: &mut Room) -> bool
+    requires { 1032 ≤ room.old.capacity }
+    ensures { room.new.capacity ≡ room.old.capacity }
+{
+    let mut side = Safe::fixed(RBC, ENGINE, Role::Responder, KEY);
+    let release = release_of(received(&mut side, octets, room));
+    let is_told = room.held() == [0x11, reason, sub].as_slice();
+    let is_ignored = matches!(received(&mut side, octets, room), SafeDeed::Ignored);
+    is_told && is_ignored && release == Some((reason, sub))
+}
+
+fn releases_by_first_faults(room: &mut Room) -> bool
+    requires { 1032 ≤ room.old.capacity }
+    ensures { room.new.capacity ≡ room.old.capacity }
+{
+    is_released(&[0xFF], 5, 2, room)
+        && is_released(&[0x0A; 9], 5, 2, room)
+        && is_released(&[0x0A; 1033], 5, 2, room)
+        && is_released(&AU1, 5, 1, room)
+        && is_released(&[0x0A; 10], 4, 1, room)
+        && is_released(&[0x11, 7, 8], 4, 2, room)
+}
+
+/// The sub-reason for which an RBC releases an AU1 of this number and safety feature at a moment.
+fn au1_refused(number: u8, feature: u8, now: u64, room: &mut Room) -> Option<(u8, u8)>
+    requires { 1032 ≤ room.old.capacity }
+    ensures { room.new.capacity ≡ room.old.capacity }
+{
+    let mut side = rbc();
+    let au1 = [0x42, 0, 0, number, feature, 1, 2, 3, 4, 5, 6, 7, 8];
+    room.clear();
+    release_of(side.receive(&KEYS, now, &au1, room))
+}
+
+/// The sub-reason for which an engine that has started releases an AU2 of this number and safety feature.
+fn au2_refused(number: u8, feature: u8, room: &mut Room) -> Option<(u8, u8)>
+    requires { 1032 ≤ room.old.capacity }
+    ensures { room.new.capacity ≡ room.old.capacity }
+{
+    let mut side = engine();
+    room.clear();
+    if side.state() == SafeState::Ready {
+        side.start(room);
+    }
+    let mut au2 = [0x42; 21];
+    au2[..5].copy_from_slice(&[0x25, 0, 0, number, feature]);
+    release_of(received(&mut side, &au2, room))
+}
+
+fn releases_in_set_up(room: &mut Room) -> bool
+    requires { 1032 ≤ room.old.capacity }
+    ensures { room.new.capacity ≡ room.old.capacity }
+{
+    au1_refused(5, 2, 1000, room) == Some((3, 6))
+        && au1_refused(6, 1, 1000, room) == Some((3, 1))
+        && au1_refused(5, 1, 2000, room) == Some((3, 1))
+        && au2_refused(10, 1, room) == Some((3, 5))
+        && au2_refused(9, 2, room) == Some((3, 6))
+        && au2_refused(9, 1, room) == Some((3, 2))
+}
 
 #[test]
 fn releases_by_the_first_fault(rt: HostRuntime) -> Result<(), Fail> {
-    for (octets, reason, sub) in RECEIVED {
-        let mut room = Room::with_capacity(rt.alloc(), 1032)?;
-        let mut side = Safe::fixed(RBC, ENGINE, Role::Responder, KEY);
-        let deed = received(&mut side, octets, &mut room);
-        assert_eq!(rt; release_of(deed), Some((reason, sub)), "{octets:?}");
-        assert_eq!(rt; room.held(), [0x11, reason, sub].as_slice());
-        assert_eq!(rt; received(&mut side, octets, &mut room), SafeDeed::Ignored);
-    }
-    Ok(())
-}
-
-/// An AU1 or AU2 by its number, its safety feature and the moment, and the sub-reason of the release.
-const SET_UP: [(bool, u8, u8, u64, u8); 6] = [
-    (false, 5, 2, 1000, 6),
-    (false, 6, 1, 1000, 1),
-    (false, 5, 1, 2000, 1),
-    (true, 10, 1, 1000, 5),
-    (true, 9, 2, 1000, 6),
-    (true, 9, 1, 1000, 2),
-];
-
-#[test]
-fn releases_where_a_set_up_fails(rt: HostRuntime) -> Result<(), Fail> {
-    for (to_engine, number, feature, now, sub) in SET_UP {
-        let mut room = Room::with_capacity(rt.alloc(), 1032)?;
-        let mut side = rbc();
-        let mut octets = [0x42; 21];
-        let mut length = 13;
-        if to_engine {
-            side = engine();
-            if side.state() == SafeState::Ready {
-                side.start(&mut room);
-            }
-            octets[0] = 0x25;
-            length = 21;
-        }
-        octets[1] = 0;
-        octets[2] = 0;
-        octets[3] = number;
-        octets[4] = feature;
-        room.clear();
-        let deed = side.receive(&KEYS, now, &octets[..length], &mut room);
-        assert_eq!(rt; release_of(deed), Some((3, sub)));
-    }
+    let mut room = Room::with_capacity(rt.alloc(), 1032)?;
+    assert!(rt; releases_by_first_faults(&mut room));
+    assert!(rt; releases_in_set_up(&mut room));
     Ok(())
 }
 
@@ -217,28 +264,45 @@ fn release_where_altered(alloc: Global, at: usize) -> Result<Option<(u8, u8)>, N
 #[test]
 fn releases_where_a_mac_is_altered(rt: HostRuntime) -> Result<(), Fail> {
     for (at, sub) in [(2, 2), (3, 3), (4, 4)] {
-        assert_eq!(rt; release_where_altered(rt.alloc(), at)?, Some((3, sub)));
+        assert!(rt; release_where_altered(rt.alloc(), at)? == Some((3, sub)));
     }
     Ok(())
+}
+
+fn refuses(room: &mut Room) -> bool
+    requires { 1032 ≤ room.old.capacity }
+    ensures { room.new.capacity ≡ room.old.capacity }
+{
+    let long = [7; 1024];
+    room.clear();
+    let mut rbc = rbc();
+    let is_early = rbc.send(&long, room) == Err(SealRefused::NotConnected);
+    let mut side = Safe::fixed(ENGINE, RBC, Role::Initiator, KEY);
+    let is_one = side.role() == Role::Initiator && side.me() == ENGINE;
+    room.clear();
+    let is_long = side.send(&long, room) == Err(SealRefused::Length(1024));
+    is_early && is_one && is_long && room.held().is_empty()
+}
+
+/// A side takes its own message as one of the wrong direction, and then refuses to send.
+fn refuses_behind_a_release(room: &mut Room, answer: &mut Room) -> bool
+    requires room { 1032 ≤ room.old.capacity }
+    requires answer { 1032 ≤ answer.old.capacity }
+{
+    let mut side = Safe::fixed(ENGINE, RBC, Role::Initiator, KEY);
+    room.clear();
+    let is_sent = side.send(&[7; 1023], room) == Ok(()) && room.held().len() == 1032;
+    let release = release_of(received(&mut side, room.held(), answer));
+    answer.clear();
+    let is_refused = matches!(side.send(&[7], answer), Err(SealRefused::Released(_)));
+    is_sent && is_refused && release == Some((4, 2))
 }
 
 #[test]
 fn refuses_sends(rt: HostRuntime) -> Result<(), Fail> {
     let mut room = Room::with_capacity(rt.alloc(), 1032)?;
-    let long = [7; 1024];
-    let mut rbc = rbc();
-    assert_eq!(rt; rbc.send(&long, &mut room), Err(SealRefused::NotConnected));
-    let mut side = Safe::fixed(ENGINE, RBC, Role::Initiator, KEY);
-    assert_eq!(rt; side.role(), Role::Initiator);
-    assert_eq!(rt; side.me(), ENGINE);
-    assert_eq!(rt; side.send(&long, &mut room), Err(SealRefused::Length(1024)));
-    assert!(rt; room.held().is_empty());
-    assert_eq!(rt; side.send(&long[..1023], &mut room), Ok(()));
-    assert_eq!(rt; room.held().len(), 1032);
     let mut answer = Room::with_capacity(rt.alloc(), 1032)?;
-    let deed = received(&mut side, room.held(), &mut answer);
-    assert_eq!(rt; release_of(deed), Some((4, 2)));
-    answer.clear();
-    assert!(rt; matches!(side.send(&[7], &mut answer), Err(SealRefused::Released(_))));
+    assert!(rt; refuses(&mut room));
+    assert!(rt; refuses_behind_a_release(&mut room, &mut answer));
     Ok(())
 }
