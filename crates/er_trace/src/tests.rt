@@ -1,8 +1,8 @@
 ghost use Rattle.er_settings.specs.Ranges.{AllAllowed};
 
 use crate::{
-    Entry, EntryList, Event, Outcome, Trace, laws, print_entry, print_header, print_octets,
-    print_outcome, print_send, read,
+    Event, Outcome, Trace, laws, print_entry, print_header, print_octets, print_outcome,
+    print_send, read,
 };
 use er_base::{NoMemory, Release, TextFault, Why};
 use er_settings::Settings;
@@ -44,43 +44,44 @@ fn printed(alloc: Global, trace: &Trace) -> Result<Vec<u8>, NoMemory>
 
 // Each line as it is written and as it is printed, by hand from the table of lines; outcomes are dropped.
 const PRINTED: &str = "\
-> 0 0 call 5 9 0123456789abCDEF|> 0 0 call 5 9 0123456789abcdef
-> 1000000000000000 18446744073709551615 answer 16777215 0000000000000001|> 1000000000000000 18446744073709551615 answer 16777215 0000000000000001
->  7 1  octets - |> 7 1 octets -
-> 7 1 octets 7E01|> 7 1 octets 7e01
-> 7 1 send -|> 7 1 send -
-> 7 1 send 0aFf|> 7 1 send 0aff
-> 7 1 take|> 7 1 take
-> 7 1 release 255|> 7 1 release 255
-> 7 1 tick|> 7 1 tick
-> 7 1 ended|> 7 1 ended
-> 7 1 fault|> 7 1 fault
-> 7 1 stalled|> 7 1 stalled
-> 7 1 full 256|> 7 1 full 256
-> 7 1 unserved 18446744073709551615|> 7 1 unserved 18446744073709551615
-> 7 1 tick;# > 7 1 foo;;  ;> 6 2 tick|> 7 1 tick;> 6 2 tick
+> 0 0 call 5 9 0123456789abCDEF|> 0 0 call 5 9 0123456789abcdef;
+> 1000000000000000 18446744073709551615 answer 16777215 0000000000000001|> 1000000000000000 18446744073709551615 answer 16777215 0000000000000001;
+>  7 1  octets - |> 7 1 octets -;
+> 7 1 octets 7E01|> 7 1 octets 7e01;
+> 7 1 send -|> 7 1 send -;
+> 7 1 send 0aFf|> 7 1 send 0aff;
+> 7 1 take|> 7 1 take;
+> 7 1 release 255|> 7 1 release 255;
+> 7 1 tick|> 7 1 tick;
+> 7 1 ended|> 7 1 ended;
+> 7 1 fault|> 7 1 fault;
+> 7 1 stalled|> 7 1 stalled;
+> 7 1 full 256|> 7 1 full 256;
+> 7 1 unserved 18446744073709551615|> 7 1 unserved 18446744073709551615;
+> 7 1 tick;# > 7 1 foo;;  ;> 6 2 tick|> 7 1 tick;> 6 2 tick;
 < 1 connected 16777215;< 0 accepted 41;< 18446744073709551615 taken -|
 < 1 none;< 1 refused released 255 0;< 1 refused notconnected;< 1 refused length 0|
 < 1 refused full 18446744073709551615;< 1 released 0 255 local;< 1 released 1 5 peer;< 1 octets 7e|
-> 7 1 take;< 1 taken 41;> 8 1 take;< 1 none|> 7 1 take;> 8 1 take";
+> 7 1 take;< 1 taken 41;> 8 1 take;< 1 none|> 7 1 take;> 8 1 take;";
+
+// A header, and lines.
+fn trace_of(alloc: Global, lines: &str) -> Result<Vec<u8>, Fail> {
+    let text = format!(in alloc; "trace 1 1 2 512 100 10 600000;{lines}")?;
+    Ok(spelled_out(alloc, text.as_str())?)
+}
+
+fn is_printed(alloc: Global, row: &str) -> Result<bool, Fail> {
+    let (written, again) = row.split_once('|').ok_or("no lines")?;
+    let text = trace_of(alloc, written)?;
+    let expected = trace_of(alloc, again)?;
+    let trace = read(alloc, text.as_slice())?;
+    Ok(printed(alloc, &trace)?.as_slice() == expected.as_slice())
+}
 
 #[test]
 fn prints_each_event_as_it_is_written(rt: HostRuntime) -> Result<(), Fail> {
-    let alloc = rt.alloc();
     for row in PRINTED.split('\n') {
-        let Some((written, again)) = row.split_once('|') else {
-            return Ok(assert!(rt; false, "{row}"));
-        };
-        let text = format!(in alloc; "trace 1 1 2 512 100 10 600000;{written}")?;
-        let trace = read(alloc, spelled_out(alloc, text.as_str())?.as_slice())?;
-        let end = if again.is_empty() { "" } else { ";" };
-        let expected = format!(in alloc; "trace 1 1 2 512 100 10 600000;{again}{end}")?;
-        let expected = spelled_out(alloc, expected.as_str())?;
-        assert_eq!(rt;
-            printed(alloc, &trace)?.as_slice(),
-            expected.as_slice(),
-            "{row}"
-        );
+        assert!(rt; is_printed(rt.alloc(), row)?, "{row}");
     }
     laws::printed_is_read();
     Ok(())
@@ -201,93 +202,111 @@ const FAULTS: &str = "\
 4 Word|H;> 0 1 tick;# a comment;foo;> x 1 tick
 3 Hex|H;< 1 none;> 0 1 octets 7";
 
+fn is_refused(alloc: Global, row: &str) -> Result<bool, Fail> {
+    let (expected, text) = row.split_once('|').ok_or("no text")?;
+    let text = text.replace(alloc, "H", "trace 1 7 15 128 1000 5 40000")?;
+    let text = spelled_out(alloc, text.as_str())?;
+    let (line, why) = fault_in(alloc, text.as_slice())?.ok_or("no fault")?;
+    let fault = format!(in alloc; "{line} {why:?}")?;
+    Ok(fault.as_str() == expected)
+}
+
 #[test]
 fn tells_the_first_faulty_line(rt: HostRuntime) -> Result<(), Fail> {
-    let alloc = rt.alloc();
     for row in FAULTS.split('\n') {
-        let Some((expected, text)) = row.split_once('|') else {
-            return Ok(assert!(rt; false, "{row}"));
-        };
-        let text = text.replace(alloc, "H", "trace 1 7 15 128 1000 5 40000")?;
-        let text = spelled_out(alloc, text.as_str())?;
-        let Some((line, why)) = fault_in(alloc, text.as_slice())? else {
-            return Ok(assert!(rt; false, "{row}"));
-        };
-        let told = format!(in alloc; "{line} {why:?}")?;
-        assert_eq!(rt; told.as_str(), expected, "{row}");
+        assert!(rt; is_refused(rt.alloc(), row)?, "{row}");
     }
     Ok(())
 }
 
 const SENT: &[u8] = b"\x0A\xFF";
 
-#[test]
-fn prints_outcomes_and_what_is_lent(rt: HostRuntime) -> Result<(), Fail> {
-    let local = Release {
-        reason: 1,
-        sub: 5,
-        by_peer: false,
-    };
-    let peer = Release::by_peer_di(0, 7);
-    let mut out = Vec::from_slice(rt.alloc(), b"trace 1 7 15 128 1000 5 40000\n".as_slice())?;
+const LOCAL: Release = Release {
+    reason: 1,
+    sub: 5,
+    by_peer: false,
+};
+
+const PEER: Release = Release {
+    reason: 0,
+    sub: 7,
+    by_peer: true,
+};
+
+const OUTCOMES: [Outcome<'static>; 11] = [
+    Outcome::Connected(9),
+    Outcome::Accepted(SENT),
+    Outcome::Taken(SENT),
+    Outcome::Empty,
+    Outcome::RefusedReleased(PEER),
+    Outcome::RefusedNotConnected,
+    Outcome::RefusedLength(1_024),
+    Outcome::RefusedFull(16),
+    Outcome::Released(LOCAL),
+    Outcome::Released(PEER),
+    Outcome::Octets(b"\x7E"),
+];
+
+const OUTCOME_LINES: &str = "\
+trace 1 7 15 128 1000 5 40000;> 7 1 octets -;> 8 2 send 0aff;< 1 connected 9;< 1 accepted 0aff;< 1 taken 0aff;< 1 none;\
+< 1 refused released 0 7;< 1 refused notconnected;< 1 refused length 1024;< 1 refused full 16;\
+< 1 released 1 5 local;< 1 released 0 7 peer;< 1 octets 7e;";
+
+// A trace of what is lent: two events and each outcome.
+fn lent(alloc: Global) -> Result<Vec<u8>, Fail> {
+    let mut out = spelled_out(alloc, "trace 1 7 15 128 1000 5 40000;")?;
     print_octets(7, 1, b"", &mut out)?;
     print_send(8, 2, SENT, &mut out)?;
-    print_outcome(1, &Outcome::Connected(9), &mut out)?;
-    print_outcome(1, &Outcome::Accepted(SENT), &mut out)?;
-    print_outcome(1, &Outcome::Taken(SENT), &mut out)?;
-    print_outcome(1, &Outcome::Empty, &mut out)?;
-    print_outcome(1, &Outcome::RefusedReleased(peer), &mut out)?;
-    print_outcome(1, &Outcome::RefusedNotConnected, &mut out)?;
-    print_outcome(1, &Outcome::RefusedLength(1_024), &mut out)?;
-    print_outcome(1, &Outcome::RefusedFull(16), &mut out)?;
-    print_outcome(1, &Outcome::Released(local), &mut out)?;
-    print_outcome(1, &Outcome::Released(peer), &mut out)?;
-    print_outcome(2, &Outcome::Octets(b"\x7E"), &mut out)?;
-    let expected =
-        "trace 1 7 15 128 1000 5 40000;> 7 1 octets -;> 8 2 send 0aff;< 1 connected 9;< 1 accepted 0aff;\
-< 1 taken 0aff;< 1 none;< 1 refused released 0 7;< 1 refused notconnected;< 1 refused length 1024;< 1 refused full 16;\
-< 1 released 1 5 local;< 1 released 0 7 peer;< 2 octets 7e;";
-    assert_eq!(rt;
-        out.as_slice(),
-        spelled_out(rt.alloc(), expected)?.as_slice()
-    );
-    let trace = read(rt.alloc(), out.as_slice())?;
-    assert_eq!(rt; trace.settings, Settings::usual());
+    for outcome in &OUTCOMES {
+        print_outcome(1, outcome, &mut out)?;
+    }
+    Ok(out)
+}
+
+fn is_lent(trace: &Trace) -> bool {
     let [came, sent] = trace.entries.as_slice() else {
-        return Ok(assert!(rt; false));
+        return false;
     };
-    assert_eq!(rt; (came.line, came.moment, came.conn), (2, 7, 1));
-    assert_eq!(rt; (sent.line, sent.moment, sent.conn), (3, 8, 2));
-    assert!(rt; matches!(came.event, Event::Octets(_)));
-    Ok(())
+    trace.settings == Settings::usual()
+        && (came.line, came.moment, came.conn) == (2, 7, 1)
+        && (sent.line, sent.moment, sent.conn) == (3, 8, 2)
+        && matches!(came.event, Event::Octets(_))
+        && matches!(sent.event, Event::Send(_))
 }
 
 #[test]
+fn prints_outcomes_and_what_is_lent(rt: HostRuntime) -> Result<(), Fail> {
+    let text = lent(rt.alloc())?;
+    let expected = spelled_out(rt.alloc(), OUTCOME_LINES)?;
+    assert!(rt; text.as_slice() == expected.as_slice());
+    assert!(rt; is_lent(&read(rt.alloc(), text.as_slice())?));
+    Ok(())
+}
+
+// Whether a text that is filled up with one octet may have so many octets and no more: `over` are too many.
+fn has_bound(
+    alloc: Global,
+    lines: &str,
+    octet: u8,
+    most: usize,
+    over: usize,
+    fault: (usize, Why),
+) -> Result<bool, NoMemory> {
+    let mut text = spelled_out(alloc, lines)?;
+    text.resize(most, octet)?;
+    let within = fault_in(alloc, text.as_slice())?;
+    text.resize(over, octet)?;
+    let beyond = fault_in(alloc, text.as_slice())?;
+    Ok(within.is_none() && beyond == Some(fault))
+}
+
+// A text of 4,096 octets, 8,192 digits behind 43 octets, and a file of 16 MiB.
+#[test]
 fn takes_texts_and_files_up_to_their_limits(rt: HostRuntime) -> Result<(), Fail> {
-    let alloc = rt.alloc();
-    let mut text = Vec::from_slice(
-        alloc,
-        b"trace 1 7 15 128 1000 5 40000\n> 0 1 octets ".as_slice(),
-    )?;
-    let digits = text.len() + 8_192;
-    text.resize(digits, b'0')?;
-    assert_eq!(rt; fault_in(alloc, text.as_slice())?, None);
-    text.resize(digits + 2, b'0')?;
-    assert_eq!(rt; fault_in(alloc, text.as_slice())?, Some((2, Why::Value)));
-    text.truncate(digits);
-    text.extend_from_slice(b"\n#")?;
-    text.resize(16_777_216, b'x')?;
-    assert_eq!(rt; fault_in(alloc, text.as_slice())?, None);
-    text.push(b'\n')?;
-    assert_eq!(rt; fault_in(alloc, text.as_slice())?, Some((0, Why::Long)));
-    let entry = Entry {
-        line: 1,
-        moment: 0,
-        conn: 1,
-        event: Event::Tick,
-    };
-    let mut list = Vec::new(alloc);
-    list.push(entry)?;
-    assert_eq!(rt; EntryList::new(list).as_slice().len(), 1);
+    let octets = "trace 1 7 15 128 1000 5 40000;> 0 1 octets ";
+    let comment = "trace 1 7 15 128 1000 5 40000;#";
+    let (text, file) = ((2, Why::Value), (0, Why::Long));
+    assert!(rt; has_bound(rt.alloc(), octets, b'0', 8_235, 8_237, text)?);
+    assert!(rt; has_bound(rt.alloc(), comment, b'x', 16_777_216, 16_777_217, file)?);
     Ok(())
 }
