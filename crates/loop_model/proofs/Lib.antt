@@ -29,3 +29,4 @@ pub mod Untils
 pub mod Writing
 pub mod Stalling
 pub mod Breaking
+pub mod Expiring

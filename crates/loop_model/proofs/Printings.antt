@@ -47,7 +47,7 @@ unfolding behind
 tells-append settings finds m [] ys p q = q
 tells-append settings finds m (x ∷ xs) ys p q = (p.0, tells-append settings finds (happens settings finds x.moment x.event m).0 xs ys p.1 q)
 
-behind-append : (settings : Settings) (finds : Finds) (m : Option End) (xs ys : List Entry)
+pub behind-append : (settings : Settings) (finds : Finds) (m : Option End) (xs ys : List Entry)
     → behind settings finds m (xs ++ ys) ≡ behind settings finds (behind settings finds m xs) ys
 unfolding behind
 behind-append settings finds m [] ys = refl

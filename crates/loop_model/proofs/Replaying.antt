@@ -68,7 +68,7 @@ pub plain-append : (m n : ℕ) (xs ys : List Entry) → ArePlain m n xs → AreP
 plain-append m n [] ys p q = q
 plain-append m n (x ∷ xs) ys p q = (p.0, plain-append m n xs ys p.1 q)
 
-pub Plainly : ℕ → Session → Session → List Entry → List Call → Type 0
+unfoldable pub Plainly : ℕ → Session → Session → List Entry → List Call → Type 0
 Plainly m s t xs cs = (t.number ≡ s.number) × ArePlain m s.number xs
 
 pub plainly : (r : Rules) (m : ℕ) → SteadyAt r m IsOfEnd (Plainly m)

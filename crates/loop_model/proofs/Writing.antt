@@ -299,7 +299,7 @@ stands : (r : Rules) (s : Session) → Visits s s [] []
 unfolding left_after last_answer
 stands r s = record { each = (each_steady r).none s; goes = record { left = λ p. refl; done = λ last all p. inr (inr (refl, refl)) } }
 
-left_settled : (Q : Session → Session → List Entry → List Call → Type 0) (s t : Session) (xs : List Entry) (cs : List Call) → Q s t xs cs
+pub left_settled : (Q : Session → Session → List Entry → List Call → Type 0) (s t : Session) (xs : List Entry) (cs : List Call) → Q s t xs cs
     → Left Q s (settled t).state (xs ++ (settled t).entries) (cs ++ (settled t).calls)
 unfolding settled
 left_settled Q s t xs cs p =

@@ -12,3 +12,4 @@ pub mod Faulted
 pub mod Openings
 pub mod Writings
 pub mod Stalls
+pub mod Expiries

@@ -1,6 +1,7 @@
 //! What holds of the loop, whatever the outside answers, as facts that a caller can cite.
 
 ghost use Rattle.loop_model.specs.Points.{OctetsAreHeard, UsersReply};
+ghost use Rattle.loop_model.specs.Expiries.{ClosingsAreInTime};
 ghost use Rattle.loop_model.specs.Faulted.{FaultsAreTold};
 ghost use Rattle.loop_model.specs.Openings.{OpeningsAreTold, DialIsOpened};
 ghost use Rattle.loop_model.specs.Recordings.{RecordingsReplay};
@@ -148,3 +149,11 @@ pub fn moments()
     ensures expired { ExpiredAreClosed }
     ensures until { TurnsWait }
 {}
+
+/// A live connection has a closing moment exactly where its events released it: the set-up time behind the event that did.
+pub fn closing_moments()
+    ensures { ClosingsAreInTime }
+{
+    er_end::laws::standing();
+    er_end::laws::keeping();
+}
