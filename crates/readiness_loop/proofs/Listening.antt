@@ -27,7 +27,7 @@ use Rattle.loop_visit.specs.Acting.{Seen, AreAnsweredSo, Counts, Acted, Began, B
 use Rattle.readiness_loop.specs.declared.line_plan.Served.{Served}
 use Rattle.readiness_loop.specs.Claims.{Outside, IsDone, IsBegun, IsLawful, HasTurns, AreSpoken, HasServed, NotListening, TurnFailed, FailsToServe, BreaksOffServing, halt_for}
 use Rattle.readiness_loop.specs.Courses.{Around, Came, Went, WentOff, WentWrong, Runs, Serves, outside_of, course_of, loop_of}
-use Rattle.readiness_loop.proofs.Sequences.{began_then}
+use Rattle.loop_visit.specs.Sequels.{began_then}
 use Rattle.readiness_loop.proofs.Acceptings.{no_sessions}
 
 -- the laws of the loop, as a function cites them

@@ -11,7 +11,8 @@ use Rattle.loop_session.specs.declared.loop_fault.LoopFault.TheVariants.{Wires, 
 use Rattle.loop_visit.specs.Acting.{Seen, Acted, BreaksAt}
 use Rattle.readiness_loop.specs.declared.live_loop.Next.{Next}
 use Rattle.readiness_loop.specs.Courses.{Around, Came, Went, WentOff, WentWrong, Turns, Runs, course_of, halt_of}
-use Rattle.readiness_loop.proofs.Sequences.{acted_still, acted_then, breaks_first, breaks_then}
+use Rattle.loop_visit.specs.Sequels.{breaks_first}
+use Rattle.readiness_loop.proofs.Sequences.{acted_still, acted_then, breaks_then}
 use Rattle.readiness_loop.proofs.Openings.{opened_in-append}
 use Rattle.readiness_loop.proofs.Sweeps.{after, after_after}
 
