@@ -17,8 +17,6 @@ mod round_keys;
 mod rounds;
 mod spread_boxes;
 mod tables;
-#[cfg(test)]
-mod tests;
 mod triple_key;
 mod triple_schedule;
 

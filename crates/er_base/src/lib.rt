@@ -12,8 +12,6 @@ mod cursor;
 mod hexadecimal;
 pub mod laws;
 mod line_fault;
-#[cfg(test)]
-mod line_tests;
 mod line_writer;
 mod lines;
 mod no_memory;
@@ -23,8 +21,6 @@ mod octets;
 mod release;
 mod room;
 mod side;
-#[cfg(test)]
-mod tests;
 mod text_fault;
 mod why;
 mod words;

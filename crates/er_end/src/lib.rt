@@ -18,6 +18,3 @@ mod line;
 
 pub use deeds::{Deeds, SendRefused, Taken};
 pub use end::End;
-
-#[cfg(test)]
-mod tests;

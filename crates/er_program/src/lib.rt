@@ -5,8 +5,6 @@
 #![tactic(auto)]
 
 mod bits;
-#[cfg(test)]
-mod bits_tests;
 mod bulk;
 mod calling;
 mod command;
@@ -19,16 +17,12 @@ mod last_lines;
 mod line_command;
 mod machine_clock;
 mod migrate;
-#[cfg(test)]
-mod off_line_tests;
 mod replay;
 mod serving;
 mod status;
 mod stdout_sink;
 mod stop;
 mod top;
-#[cfg(test)]
-mod top_tests;
 
 pub use endings::unmade;
 pub use file_cabinet::{FileCabinet, MOST_FILE_OCTETS};

@@ -51,15 +51,3 @@ impl<R: SystemClock + Drop> Clock for MachineClock<R> {
         self.last
     }
 }
-
-#[cfg(test)]
-mod tests {
-    use super::{Clock, MOST_MOMENT, MachineClock};
-
-    #[test]
-    fn the_system_has_a_clock(rt: HostRuntime) {
-        let mut clock = MachineClock::new(rt);
-        let moment = clock.now();
-        assert!(rt; 1 <= moment && moment <= MOST_MOMENT);
-    }
-}

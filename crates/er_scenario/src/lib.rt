@@ -19,8 +19,6 @@ mod step;
 mod step_list;
 mod step_name;
 mod steps;
-#[cfg(test)]
-mod tests;
 
 pub use level::Level;
 pub use numbered::Numbered;

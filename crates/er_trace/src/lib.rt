@@ -21,8 +21,6 @@ mod printer;
 mod reader;
 mod refusal_name;
 mod said;
-#[cfg(test)]
-mod tests;
 mod trace;
 
 pub use entry::Entry;

@@ -25,6 +25,3 @@ mod world;
 
 pub use drill_model::{Totals, WorldFault};
 pub use world::World;
-
-#[cfg(test)]
-mod tests;

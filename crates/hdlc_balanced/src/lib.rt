@@ -11,8 +11,6 @@ pub mod laws;
 mod ring;
 mod sending;
 mod station;
-#[cfg(test)]
-mod tests;
 mod timing;
 
 pub use deeds::{Full, LinkDeed};

@@ -26,6 +26,3 @@ pub use deframer::Deframer;
 pub use found::{Found, Frame};
 pub use scanning::first_frame;
 pub use writing::put_frame;
-
-#[cfg(test)]
-mod tests;

@@ -11,8 +11,6 @@ mod key_file_fault;
 mod key_reader;
 mod key_store;
 mod key_writer;
-#[cfg(test)]
-mod tests;
 mod version;
 mod want;
 

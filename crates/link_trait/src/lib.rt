@@ -18,8 +18,6 @@ mod memory_wires;
 mod planned_calls;
 mod sink;
 mod wires;
-#[cfg(test)]
-mod wires_tests;
 
 pub use act::Act;
 pub use cabinet::{Cabinet, FetchFault};

@@ -88,27 +88,3 @@ impl Sink for MemorySink {
         Ok(())
     }
 }
-
-#[cfg(test)]
-mod tests {
-    use super::{Failed, MemorySink, Sink};
-    use std::test::Fail;
-
-    // The second write is listed, and the third has one octet too many.
-    fn fails_twice(sink: &mut MemorySink) -> bool {
-        sink.write(b"one") == Ok(())
-            && sink.write(b"no") == Err(Failed)
-            && sink.write(b"four") == Err(Failed)
-            && sink.write(b"two") == Ok(())
-            && sink.held() == b"onetwo".as_slice()
-            && sink.faults == 2
-    }
-
-    #[test]
-    fn a_listed_call_and_a_spent_capacity_fail(rt: HostRuntime) -> Result<(), Fail> {
-        let mut sink = MemorySink::with_capacity(rt.alloc(), 6)?;
-        sink.fail(2)?;
-        assert!(rt; fails_twice(&mut sink));
-        Ok(())
-    }
-}

@@ -16,6 +16,8 @@ mod script;
 #[cfg(test)]
 mod serving;
 #[cfg(test)]
+mod smallest_tests;
+#[cfg(test)]
 mod train;
 #[cfg(test)]
 mod user_tests;

@@ -13,8 +13,6 @@ mod loop_plan;
 mod one_pair;
 mod opening;
 mod serving;
-#[cfg(test)]
-mod tests;
 mod wake_times;
 
 pub use book::MOST_LIVE;

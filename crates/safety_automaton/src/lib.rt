@@ -15,8 +15,6 @@ mod phase;
 mod role;
 mod safe;
 mod safe_state;
-#[cfg(test)]
-mod tests;
 mod text;
 
 pub use deed::{SafeDeed, SealRefused};

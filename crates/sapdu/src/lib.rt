@@ -12,8 +12,6 @@ mod message;
 mod pdu;
 mod reader;
 mod sealed_text;
-#[cfg(test)]
-mod tests;
 mod writer;
 
 pub use fault::SaFault;

@@ -10,6 +10,3 @@ mod run;
 
 pub use run::replay;
 pub use trace_model::ReplayFault;
-
-#[cfg(test)]
-mod tests;

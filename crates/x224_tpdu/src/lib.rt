@@ -19,6 +19,3 @@ pub use fault::TpFault;
 pub use reading::read;
 pub use tpdu::Tpdu;
 pub use writing::write_into;
-
-#[cfg(test)]
-mod tests;

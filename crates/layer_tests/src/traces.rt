@@ -1,11 +1,11 @@
 ghost use Rattle.er_settings.specs.Ranges.{AllAllowed};
 
-use crate::{
+use er_base::{NoMemory, Release, TextFault, Why};
+use er_settings::Settings;
+use er_trace::{
     Event, Outcome, Trace, laws, print_entry, print_header, print_octets, print_outcome,
     print_send, read,
 };
-use er_base::{NoMemory, Release, TextFault, Why};
-use er_settings::Settings;
 use std::alloc::Global;
 use std::test::Fail;
 

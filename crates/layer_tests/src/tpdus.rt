@@ -2,10 +2,10 @@ ghost use Rattle.std.specs.Prelude.{◌≡◌, ◌≤◌, length};
 ghost use Rattle.x224_tpdu.specs.Spelling.{pdu_of};
 ghost use Rattle.x224_tpdu.specs.Writing.{IsWritable, written_octets};
 
-use crate::{TpFault, Tpdu, read, write_into};
 use er_base::{NoMemory, Room, octets_of};
 use std::alloc::Global;
 use std::test::Fail;
+use x224_tpdu::{TpFault, Tpdu, read, write_into};
 
 // Octets in hexadecimal, and what is read of them. They were worked out by hand from the tables of ITU-T X.224, clause 13,
 // and from this profile's order of faults, and compared with a second reader written in Python.

@@ -1,6 +1,6 @@
-use crate::{KeyFileFault, KeyStore};
 use des_block::TripleKey;
 use er_base::NoMemory;
+use key_store::{KeyFileFault, KeyStore};
 use safety_automaton::KeyFinder;
 use std::alloc::Global;
 use std::test::Fail;

@@ -1,10 +1,10 @@
-use crate::{LinePlan, LoopFault, Served, Stop, serve};
 use er_settings::Settings;
 use er_users::{SafeUser, Silent};
 use key_store::KeyStore;
 use link_trait::{Act, MemoryClock, MemorySink, MemoryWires};
 use rand_core::SeedableRng;
 use rand_pcg::Lcg64Xsh32;
+use readiness_loop::{LinePlan, LoopFault, Served, Stop, serve};
 use std::test::Fail;
 
 // How many users are handed in, how many turns are to be done, and what is printed behind the header.

@@ -1,6 +1,5 @@
 ghost use Rattle.std.specs.Prelude.{[], ◌∷◌};
 
-use crate::{ReplayFault, replay};
 use des_block::TripleKey;
 use er_base::{NoMemory, decimal_word};
 use er_trace::read;
@@ -8,6 +7,7 @@ use link_trait::MemorySink;
 use safety_automaton::KeyFinder;
 use std::alloc::Global;
 use std::test::Fail;
+use trace_replay::{ReplayFault, replay};
 
 const KEY: TripleKey = TripleKey {
     first: 0x0123456789abcdef,

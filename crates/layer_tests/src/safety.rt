@@ -1,8 +1,8 @@
 ghost use Rattle.std.specs.Prelude.{◌≡◌, ◌≤◌, [], ◌∷◌};
 
-use crate::{KeyFinder, Role, Safe, SafeDeed, SafeState, SealRefused};
 use des_block::TripleKey;
 use er_base::{NoMemory, Release, Room};
+use safety_automaton::{KeyFinder, Role, Safe, SafeDeed, SafeState, SealRefused};
 use std::alloc::Global;
 use std::test::Fail;
 

@@ -1,8 +1,10 @@
 //! Streams and frames from outside, in every cut.
 
-use super::laws::frame_length;
-use super::{Control, Deframer, Found, Frame, control, control_extended, first_frame, put_frame};
 use er_base::Room;
+use hdlc_frames::laws::frame_length;
+use hdlc_frames::{
+    Control, Deframer, Found, Frame, control, control_extended, first_frame, put_frame,
+};
 use std::test::Fail;
 
 // Feeds a piece until it is used whole. Gives the place behind what is expected of it, from the place `next` on, or

@@ -1,10 +1,10 @@
 ghost use Rattle.sapdu.specs.Spelling.{HasUserOctets, HasNumber};
 ghost use Rattle.sapdu.specs.Reading.{view};
 
-use crate::{
+use er_base::Room;
+use sapdu::{
     MOST_OCTETS, SaFault, SaPdu, SealedText, is_message, laws, peers_di, read, write_into,
 };
-use er_base::Room;
 use std::alloc::Global;
 use std::process::Abort;
 use std::test::Fail;

@@ -1,4 +1,4 @@
-use crate::{
+use er_base::{
     LineFault, NoMemory, Octets, PrintedWord, Side, Why, decimal_word, laws, next_row, put_line,
     read_exact, read_number, read_number16, read_side, read_text,
 };

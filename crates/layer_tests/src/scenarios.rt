@@ -1,6 +1,6 @@
-use crate::{Level, Scenario, Step, laws, print, read};
 use des_block::TripleKey;
 use er_base::{NoMemory, Side, TextFault, Why};
+use er_scenario::{Level, Scenario, Step, laws, print, read};
 use er_settings::Settings;
 use std::alloc::Global;
 use std::test::Fail;

@@ -1,6 +1,6 @@
-use crate::off_line_tests::run_off_line;
-use crate::{MemoryCabinet, MemorySink, Status};
+use crate::program_off_line::run_off_line;
 use er_base::NoMemory;
+use er_program::{MemoryCabinet, MemorySink, Status};
 use std::alloc::Global;
 use std::test::Fail;
 

@@ -2,12 +2,11 @@ ghost use Rattle.std.specs.Prelude.{◌≡◌, false, IfOk};
 ghost use Rattle.er_scenario.specs.declared.level.Level.TheVariants as level;
 ghost use Rattle.drill_model.specs.Steps.{IsOfLevel, HasEtcsNumbers, HasMoment};
 
-use crate::lines::put_count;
-use crate::{World, WorldFault};
 use des_block::TripleKey;
-use er_base::{NoMemory, Octets, Side};
+use er_base::{NoMemory, Octets, Side, decimal_word};
 use er_scenario::{Level, Step};
 use er_settings::Settings;
+use er_world::{World, WorldFault};
 use std::alloc::Global;
 use std::test::Fail;
 
@@ -36,6 +35,12 @@ enum Move<'a> {
     Copy(Side, Side),
     Release(Side, u8),
     Drain,
+}
+
+// A word and a number behind it.
+fn put_count(word: &[u8], number: u64, line: &mut Vec<u8>) -> Result<(), NoMemory> {
+    line.extend_from_slice(word)?;
+    decimal_word(number, line)
 }
 
 /// The step of a move on a link.

@@ -1,6 +1,6 @@
 //! Known answers, outside vectors, and the two bodies side by side.
 
-use crate::{ChainingValue, KeySchedule, TripleKey, TripleSchedule, decipher, encipher, plain};
+use des_block::{ChainingValue, KeySchedule, TripleKey, TripleSchedule, decipher, encipher, plain};
 use std::test::Fail;
 
 // Keys, blocks and what DES makes of them, that have stood in print for long.

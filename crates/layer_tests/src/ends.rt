@@ -1,9 +1,9 @@
 ghost use Rattle.std.specs.Prelude.{[], ◌∷◌, ◌≤◌};
 
-use crate::{Deeds, End, SendRefused};
 use arrayvec::ArrayVec;
 use des_block::TripleKey;
 use er_base::{NoMemory, Release, decimal, next_word};
+use er_end::{Deeds, End, SendRefused};
 use er_settings::Settings;
 use hdlc_frames::first_frame;
 use safety_automaton::KeyFinder;

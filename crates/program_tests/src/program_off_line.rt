@@ -1,7 +1,7 @@
 //! Runs without wires, for the tests of the commands that need none.
 
-use crate::{MemoryCabinet, MemorySink, Status, run};
 use er_base::NoMemory;
+use er_program::{MemoryCabinet, MemorySink, Status, run};
 use link_trait::{MemoryClock, MemoryWires};
 use rand_core::SeedableRng;
 use rand_pcg::Lcg64Xsh32;

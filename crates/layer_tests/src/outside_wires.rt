@@ -1,7 +1,7 @@
-use crate::{
+use er_base::Octets;
+use link_trait::{
     Act, Clock, Conn, Happening, MemoryClock, MemoryWires, ReadAnswer, Wires, WriteAnswer,
 };
-use er_base::Octets;
 use std::test::Fail;
 
 // An act of a script.

@@ -1,4 +1,4 @@
-use crate::{
+use er_base::{
     Cause, Cursor, HexFault, NoMemory, Octets, Release, Room, Side, TextFault, decimal,
     decimal_word, eight_of, hex_word, next_word, number_of, octets_of, three_of, two_of,
 };
