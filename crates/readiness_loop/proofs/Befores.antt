@@ -12,7 +12,8 @@ use Rattle.loop_model.specs.Visits.{Met, visited, is_due, wakes, Tick, Expire}
 use Rattle.loop_model.specs.Loops.{visit_at, swept, numbers, until, before, Sweeps}
 use Rattle.loop_session.specs.declared.loop_fault.LoopFault.{LoopFault}
 use Rattle.loop_visit.specs.Acting.{Seen, Acted, BreaksAt, Did, Stopped}
-use Rattle.readiness_loop.proofs.Sequences.{acted_still, acted_then, breaks_first, breaks_then}
+use Rattle.loop_visit.specs.Sequels.{breaks_first}
+use Rattle.readiness_loop.proofs.Sequences.{acted_still, acted_then, breaks_then}
 
 pub before_did : (a b c : Seen) (r : Rules) (m : ℕ) (ss mid now : List Session)
     → Did a b mid (swept (visited r m Tick) (numbers ss) ss) → Did b c now (swept (visited r m Expire) (numbers mid) mid)
