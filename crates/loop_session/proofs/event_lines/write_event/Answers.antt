@@ -1,6 +1,6 @@
 use Rattle.std.proofs.Common.{List, [], ◌∷◌, ℕ, subst, ◌∙◌}
 use Rattle.std.proofs.lemmas.Result.{err_from_is_err_and}
-use Rattle.loop_model.specs.Journals.{Entry, text}
+use Rattle.loop_model.specs.Journals.{text}
 use Rattle.loop_session.specs.Parts.{Puts}
 use Rattle.loop_session.proofs.Written.{event_line, puts_wanted}
 use Rattle.loop_session.proofs.event_lines.write_event.Goals as goal
