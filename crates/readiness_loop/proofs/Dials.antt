@@ -23,10 +23,10 @@ use Rattle.loop_session.specs.Parts.{FailedFor, Breaks}
 use Rattle.loop_session.specs.declared.loop_fault.LoopFault.{LoopFault}
 use Rattle.loop_session.specs.declared.loop_fault.LoopFault.TheVariants.{Wires, Sink, NoMemory}
 use Rattle.loop_visit.specs.Acting.{Seen, Acted, Counts, BreaksAt}
-use Rattle.loop_visit.specs.Sequels.{breaks_first, began_none, began_then, failed_behind}
 use Rattle.readiness_loop.specs.declared.line_plan.Served.{Served}
 use Rattle.readiness_loop.specs.Claims.{Outside, pair_of, IsDone, IsBegun, IsLawful, HasTurns, AreSpoken, HasDialled, NotDialling, LineFailed, FailsToDial, BreaksOffDialling, halt_for}
 use Rattle.readiness_loop.specs.Courses.{Around, Came, Went, WentOff, WentWrong, Runs, Dials, outside_of, course_of, opening, Opened, Opens, caller_of, halt_if}
+use Rattle.loop_visit.specs.Sequels.{breaks_first, began_none, began_then, failed_behind}
 use Rattle.readiness_loop.proofs.Sequences.{acted_then, breaks_then}
 use Rattle.readiness_loop.proofs.Sweeps.{after}
 use Rattle.readiness_loop.proofs.Openings.{turns_of-append}

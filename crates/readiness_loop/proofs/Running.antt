@@ -9,9 +9,9 @@ use Rattle.loop_model.specs.Parts.{opened_in, Rises, newest}
 use Rattle.loop_session.specs.declared.loop_fault.LoopFault.{LoopFault}
 use Rattle.loop_session.specs.declared.loop_fault.LoopFault.TheVariants.{Wires, Sink, NoMemory}
 use Rattle.loop_visit.specs.Acting.{Seen, Acted, BreaksAt}
-use Rattle.loop_visit.specs.Sequels.{breaks_first}
 use Rattle.readiness_loop.specs.declared.live_loop.Next.{Next}
 use Rattle.readiness_loop.specs.Courses.{Around, Came, Went, WentOff, WentWrong, Turns, Runs, course_of, halt_of}
+use Rattle.loop_visit.specs.Sequels.{breaks_first}
 use Rattle.readiness_loop.proofs.Sequences.{acted_still, acted_then, breaks_then}
 use Rattle.readiness_loop.proofs.Openings.{opened_in-append}
 use Rattle.readiness_loop.proofs.Sweeps.{after, after_after}

@@ -7,28 +7,12 @@ use Rattle.loop_model.specs.Journals.{Entry, entry_text, text}
 use Rattle.loop_model.specs.Outs.{Out, still, next}
 use Rattle.loop_model.specs.Laws.{failures, one_if, is_failed}
 use Rattle.loop_session.specs.declared.loop_fault.LoopFault.{LoopFault}
-use Rattle.loop_visit.specs.Acting.{Seen, IsAnsweredSo, AreAnsweredSo, Counts, Acted, Began, BreaksAt}
-use Rattle.loop_visit.specs.Sequels.{failed_behind}
-
-pub text-append : (xs ys : List Entry) → text (xs ++ ys) ≡ text xs ++ text ys
-text-append [] ys = refl
-text-append (x ∷ xs) ys = ap (λ z. entry_text x ++ z) (text-append xs ys) ∙ sym (append_assoc (entry_text x) (text xs) (text ys))
-
-answered-append : (cs ds : List Call) → AreAnsweredSo cs → AreAnsweredSo ds → AreAnsweredSo (cs ++ ds)
-answered-append [] ds p q = q
-answered-append (c ∷ cs) ds p q = (p.0, answered-append cs ds p.1 q)
-
-pub failures-append : (cs ds : List Call) → failures (cs ++ ds) ≡ failures cs + failures ds
-unfolding failures
-failures-append [] ds = omega arith
-failures-append (c ∷ cs) ds = (let h = failures-append cs ds in omega (arith, h))
+use Rattle.loop_visit.specs.Acting.{Seen, AreAnsweredSo, Counts, Acted, Began, BreaksAt}
+use Rattle.loop_visit.specs.Sequels.{text_parts, answered_parts, counts_then, began_then, failed_behind}
 
 pub failures-none : failures [] ≡ 0
 unfolding failures
 failures-none = refl
-
-pub counts_then : (x y z : ℕ) (cs ds : List Call) → Counts x y cs → Counts y z ds → Counts x z (cs ++ ds)
-counts_then x y z cs ds p q = rw (failures-append cs ds) (omega (arith, p, q))
 
 -- what happened, spelled otherwise
 pub record SaysSame {S T : Type 0} (o : Out S) (p : Out T) : Type 0 where
@@ -67,40 +51,19 @@ acted_still a x y is = record {
 pub acted_then : {S T : Type 0} (a b c : Seen) (x : S) (y : T) (o : Out S) (f : S → Out T) → Acted a b x o → Acted b c y (f o.state) → Acted a c y (next o f)
 acted_then a b c x y o f p q = record {
   state = q.state;
-  printed = subst (λ z. Grew a.held c.held z) (sym (text-append o.entries (f o.state).entries))
+  printed = subst (λ z. Grew a.held c.held z) (sym (text_parts o.entries (f o.state).entries))
       (grew_then a.held b.held c.held (text o.entries) (text (f o.state).entries) p.printed q.printed);
   later = (let h : a.sunk ≤ b.sunk = p.later in let k : b.sunk ≤ c.sunk = q.later in omega arith);
   told = grew_then a.calls b.calls c.calls o.calls (f o.state).calls p.told q.told;
-  answered = answered-append o.calls (f o.state).calls p.answered q.answered;
+  answered = answered_parts o.calls (f o.state).calls p.answered q.answered;
   counted = counts_then a.failed b.failed c.failed o.calls (f o.state).calls p.counted q.counted;
 }
 
--- the first part breaks off
-pub began_more : (a b : Seen) (cs ds : List Call) → Began a b cs → Began a b (cs ++ ds)
-began_more a b cs ds p = record {
-  part = p.part;
-  rest = p.rest ++ ds;
-  is = sym (append_assoc p.part p.rest ds) ∙ ap (λ z. z ++ ds) p.is;
-  told = p.told;
-  answered = p.answered;
-  counted = p.counted;
-}
-
 -- the second part breaks off
-pub began_then : (a b c : Seen) (cs ds : List Call) → Grew a.calls b.calls cs → AreAnsweredSo cs → Counts a.failed b.failed cs → Began b c ds → Began a c (cs ++ ds)
-began_then a b c cs ds told answered counted q = record {
-  part = cs ++ q.part;
-  rest = q.rest;
-  is = append_assoc cs q.part q.rest ∙ ap (λ z. cs ++ z) q.is;
-  told = grew_then a.calls b.calls c.calls cs q.part told q.told;
-  answered = answered-append cs q.part answered q.answered;
-  counted = counts_then a.failed b.failed c.failed cs q.part counted q.counted;
-}
-
 pub breaks_then : {S T : Type 0} (a b c : Seen) (x : S) (o : Out S) (f : S → Out T) (fault : LoopFault) → Acted a b x o → BreaksAt b c (f o.state) fault
     → BreaksAt a c (next o f) fault
 breaks_then a b c x o f fault p q = record {
-  begun = subst (λ z. GrewPart a.held c.held z) (sym (text-append o.entries (f o.state).entries))
+  begun = subst (λ z. GrewPart a.held c.held z) (sym (text_parts o.entries (f o.state).entries))
       (part_then a.held b.held c.held (text o.entries) (text (f o.state).entries) p.printed q.begun);
   calls = began_then a b c o.calls (f o.state).calls p.told p.answered p.counted q.calls;
   failed = failed_behind a.sunk b.sunk c.sunk fault p.later q.failed;

@@ -15,8 +15,8 @@ use Rattle.loop_session.specs.declared.loop_fault.LoopFault.{LoopFault}
 use Rattle.loop_session.specs.declared.loop_fault.LoopFault.TheVariants.{NoMemory}
 use Rattle.er_base.specs.declared.no_memory.NoMemory.{NoMemory as Want}
 use Rattle.loop_visit.specs.Acting.{Seen, Acted, BreaksAt, Did, Stopped, Does}
-use Rattle.loop_visit.specs.Sequels.{breaks_first, breaks_wanted}
 use Rattle.readiness_loop.specs.Books.{seat, seats, sessions, sessions_at, IsSeat, IsApart, AreSeated}
+use Rattle.loop_visit.specs.Sequels.{breaks_first, breaks_wanted}
 use Rattle.readiness_loop.proofs.Sequences.{acted_still, acted_then, breaks_then}
 
 -- ---- one part, then another, then a third
