@@ -3,7 +3,7 @@
 
 mod objects;
 
-use crate::objects::{MOST_LIVE, position_reports};
+use crate::objects::position_reports;
 use er_base::NoMemory;
 use er_program::{FileCabinet, MachineClock, MemoryWires, Sink, Status, StdoutSink, run, unmade};
 use er_users::{Echo, SafeUser};
@@ -12,6 +12,7 @@ use rand::make_rng;
 use rand_chacha::ChaCha20Rng;
 use rand_core::SeedableRng;
 use rand_pcg::Lcg64Xsh32;
+use readiness_loop::MOST_LIVE;
 use std::process::ExitCode;
 use std::{env, io};
 

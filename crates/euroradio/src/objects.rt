@@ -4,9 +4,6 @@ use er_base::NoMemory;
 use er_users::Lister;
 use std::alloc::Global;
 
-// The most connections that are live at once: so many users are handed in.
-pub(crate) const MOST_LIVE: usize = 256;
-
 // The user of an engine: it says three position reports.
 pub(crate) fn position_reports(alloc: Global) -> Result<Lister, NoMemory> {
     let mut texts = Vec::with_capacity(alloc, 3)?;

@@ -51,12 +51,12 @@ before_breaks_then a b c r m ss mid fault p q =
 
 -- ---- nobody is due
 
-not_due_first : (m : ℕ) (a b : Option ℕ) → is_due m (first_moment a b) ≡ false → is_due m a ≡ false
+pub not_due_first : (m : ℕ) (a b : Option ℕ) → is_due m (first_moment a b) ≡ false → is_due m a ≡ false
 not_due_first m None b p = refl
 not_due_first m (Some x) None p = p
 not_due_first m (Some x) (Some y) p = grind (arith, nat_tests, p)
 
-not_due_second : (m : ℕ) (a b : Option ℕ) → is_due m (first_moment a b) ≡ false → is_due m b ≡ false
+pub not_due_second : (m : ℕ) (a b : Option ℕ) → is_due m (first_moment a b) ≡ false → is_due m b ≡ false
 not_due_second m None b p = p
 not_due_second m (Some x) None p = refl
 not_due_second m (Some x) (Some y) p = grind (arith, nat_tests, p)

@@ -5,6 +5,13 @@ mod Booked
 mod Sweeps
 mod Joining
 mod Befores
+mod Risings
+mod WakePairs
+mod DuePairs
+mod Awaited
+mod DueNumbers
+mod Numbers
+mod Fills
 mod Acceptings
 mod Turning
 mod Going

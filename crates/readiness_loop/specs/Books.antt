@@ -1,8 +1,12 @@
 -- Representation: the sessions of a book, each in a slot that is found by the number of its connection; no claim rests on it.
-use Rattle.std.specs.Prelude.{◌≡◌, ◌≢◌, ◌≤◌, ℕ, List, [], ◌∷◌, Option, Some, None, map}
-use Rattle.std.specs.BTreeMap.{BTreeMap}
+use Rattle.std.specs.Prelude.{◌≡◌, ◌≢◌, ◌≤◌, ℕ, if◌then◌else◌, List, [], ◌∷◌, Option, Some, None, map}
+use Rattle.std.specs.Ordering.{nat_cmp}
+use Rattle.std.specs.BTreeMap.{BTreeMap, get_by, IsOrdered}
+use Rattle.std.specs.BTreeSet.{BTreeSet}
 use Rattle.slab.specs.Slab.{Slab, get}
 use Rattle.loop_model.specs.Sessions.{Session}
+use Rattle.loop_model.specs.Visits.{Visit, Tick, Read, Write, Expire, is_due, wakes}
+use Rattle.readiness_loop.specs.WakeTimes.{has, is_moment}
 
 -- the session of a slot, where there is one, before others
 abbrev pub seat : Option Session → List Session → List Session
@@ -36,3 +40,34 @@ IsApart k (e ∷ es) = (e.1 ≢ k) × IsApart k es
 unfoldable pub AreSeated : ℕ → Slab Session → List (ℕ × ℕ) → Type 0
 AreSeated newest slots [] = Unit {0}
 AreSeated newest slots (e ∷ es) = (e.0 ≤ newest) × IsSeat e.0 (get slots e.1) × IsApart e.1 es × AreSeated newest slots es
+
+-- ---- when the sessions are to be visited next
+
+abbrev pub wake_of : Option Session → Option ℕ
+wake_of None = None
+wake_of (Some s) = wakes s
+
+abbrev pub wake_in : Slab Session → Option ℕ → Option ℕ
+wake_in slots None = None
+wake_in slots (Some k) = wake_of (get slots k)
+
+-- that of this number
+unfoldable pub wake_at : Slab Session → BTreeMap ℕ ℕ → ℕ → Option ℕ
+wake_at slots places n = wake_in slots (get_by (nat_cmp n) places)
+
+-- the moments that are kept are those of the sessions; and the numbers of the places rise
+pub record AreAwaited (slots : Slab Session) (places : BTreeMap ℕ ℕ) (pairs : BTreeSet (ℕ × ℕ)) : Type 0 where
+  pub rise : IsOrdered nat_cmp places
+  pub kept : (m n : ℕ) → has pairs m n ≡ is_moment m (wake_at slots places n)
+
+-- the numbers of the sessions whose moment has come, in rising order
+unfoldable pub due_numbers : ℕ → List Session → List ℕ
+due_numbers m [] = []
+due_numbers m (s ∷ ss) = if is_due m (wakes s) then s.number ∷ due_numbers m ss else due_numbers m ss
+
+-- a visit that the clock brings: a tick, a closing
+abbrev pub IsTimed : Visit → Type 0
+IsTimed Tick = Unit {0}
+IsTimed Read = ⊥
+IsTimed Write = ⊥
+IsTimed Expire = Unit {0}

@@ -1,3 +1,4 @@
 pub mod Books
 pub mod Claims
 pub mod Courses
+pub mod WakeTimes

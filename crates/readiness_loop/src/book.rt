@@ -1,15 +1,14 @@
 //! The sessions of the live connections.
 
 ghost use Rattle.std.specs.Prelude.{◌≡◌, ◌≤◌, ◌<◌, ◌+◌, ◌-◌, ◌++◌, ◌∷◌, [], ℕ, length, IfOk, OnOk};
-ghost use Rattle.std.specs.BTreeMap.{keys as keys_of};
-ghost use Rattle.end_model.specs.Steps.{first_of as first_moment};
 ghost use Rattle.loop_model.specs.Visits.{visited};
 ghost use Rattle.loop_model.specs.Loops.{visit_at, swept, numbers, until};
 ghost use Rattle.loop_session.specs.Parts.{rules};
 ghost use Rattle.loop_visit.specs.Acting.{seen, Does};
 ghost use Rattle.loop_visit.specs.Visiting.{visit_of};
-ghost use Rattle.readiness_loop.specs.Books.{AreSeated, sessions};
+ghost use Rattle.readiness_loop.specs.Books.{AreSeated, AreAwaited, IsTimed, sessions};
 
+use crate::wake_times::WakeTimes;
 use er_base::NoMemory;
 use er_users::SafeUser;
 use link_trait::{Sink, Wires};
@@ -20,35 +19,28 @@ use slab::Slab;
 use std::alloc::Global;
 use std::collections::BTreeMap;
 
-// The most connections that are live.
-pub(crate) const MOST_LIVE: usize = 256;
+/// The most connections that are live.
+pub const MOST_LIVE: usize = 256;
 
-// The sessions of the live connections: each stands in a slot, which is found by the number of its connection.
+// The sessions of the live connections: each stands in a slot, which is found by the number of its connection. When each is to be visited
+// next is kept in order, so that what comes by the clock costs by the sessions that are due.
 #[derive(Drop)]
 pub(crate) struct Book<U: SafeUser> {
     pub(crate) slots: Slab<Session<U>>,
     pub(crate) places: BTreeMap<u64, usize>,
-}
-
-// The first of two moments.
-fn first_of(one: Option<u64>, other: Option<u64>) -> Option<u64>
-    ensures { result ≡ first_moment one other }
-{
-    match (one, other) {
-        (Some(one), Some(other)) => Some(one.min(other)),
-        (Some(one), None) => Some(one),
-        (None, other) => other,
-    }
+    pub(crate) wake_times: WakeTimes,
 }
 
 impl<U: SafeUser> Book<U> {
     // No session, with the room for as many as may be live.
     pub(crate) fn new(alloc: Global) -> Result<Book<U>, NoMemory>
-        ensures { IfOk result (λ book. book.places.entries ≡ []) }
+        ensures empty { IfOk result (λ book. book.places.entries ≡ []) }
+        ensures awaited { IfOk result (λ book. AreAwaited book.slots book.places book.wake_times.pairs) }
     {
         Ok(Book {
             slots: Slab::with_capacity(alloc, MOST_LIVE)?,
             places: BTreeMap::new(alloc),
+            wake_times: WakeTimes::new(alloc),
         })
     }
 
@@ -59,41 +51,29 @@ impl<U: SafeUser> Book<U> {
         self.places.len()
     }
 
-    // The number of each, in rising order.
-    fn numbers(&self, out: &mut Vec<u64>) -> Result<(), NoMemory>
-        ensures { OnOk result (out.new.items ≡ keys_of self.now.places) }
-    {
-        out.clear();
-        for number in self.places.keys() {
-            out.push(*number)?;
-        }
-        Ok(())
-    }
-
     // The first moment at which one of them is to be visited.
     pub(crate) fn until(&self) -> Option<u64>
+        requires awaited { AreAwaited self.now.slots self.now.places self.now.wake_times.pairs }
         ensures { result ≡ until (sessions self.now.slots self.now.places) }
     {
-        let mut first = None;
-        for slot in self.places.values() {
-            if let Some(session) = self.slots.get(*slot) {
-                first = first_of(first, session.wakes());
-            }
-        }
-        first
+        self.wake_times.first()
     }
 
     // A session joins the others; its number is above theirs.
     pub(crate) fn add(&mut self, session: Session<U>) -> Result<(), NoMemory>
         requires seated { AreSeated (session.number - 1) self.old.slots self.old.places.entries }
+        requires awaited { AreAwaited self.old.slots self.old.places self.old.wake_times.pairs }
         requires number { 0 < session.number }
         ensures sessions { OnOk result (sessions self.new.slots self.new.places ≡ sessions self.old.slots self.old.places ++ session ∷ []) }
         ensures seated { OnOk result (AreSeated session.number self.new.slots self.new.places.entries) }
+        ensures awaited { OnOk result (AreAwaited self.new.slots self.new.places self.new.wake_times.pairs) }
     {
         let number = session.number();
+        let wake = session.wakes();
         self.slots.reserve(1)?;
         let slot = self.slots.insert_reserved(session);
         self.places.insert(number, slot)?;
+        self.wake_times.change(number, None, wake)?;
         Ok(())
     }
 
@@ -111,11 +91,13 @@ impl<U: SafeUser> Book<U> {
         requires moment { when.moment ≤ 1000000000000000 }
         requires setup { when.setup ≤ 600000 }
         requires seated { AreSeated (W.opened wires.old) self.old.slots self.old.places.entries }
+        requires awaited { AreAwaited self.old.slots self.old.places self.old.wake_times.pairs }
         ensures does { Does (seen (S.held sink.old) (S.faults sink.old) (W.calls wires.old) (W.faults wires.old))
             (seen (S.held sink.new) (S.faults sink.new) (W.calls wires.new) (W.faults wires.new))
             (sessions self.new.slots self.new.places)
             (visit_at (visited (rules (K.entries keys.now) when.setup) when.moment (visit_of reason)) number (sessions self.old.slots self.old.places)) result }
         ensures seated { OnOk result (AreSeated (W.opened wires.new) self.new.slots self.new.places.entries) }
+        ensures awaited { OnOk result (AreAwaited self.new.slots self.new.places self.new.wake_times.pairs) }
         ensures opened { W.opened wires.new ≡ W.opened wires.old }
         ensures turn_count { W.turn_faults wires.new ≡ W.turn_faults wires.old }
         ensures sunk { S.faults sink.old ≤ S.faults sink.new }
@@ -126,19 +108,29 @@ impl<U: SafeUser> Book<U> {
         let Some(session) = self.slots.get_mut(slot) else {
             return Ok(());
         };
+        let before = session.wakes();
         match visit_session(session, reason, keys, when, scratch, wires, sink) {
-            Ok(true) => Ok(()),
+            Ok(true) => {
+                let now = session.wakes();
+                match self.wake_times.change(number, before, now) {
+                    Ok(()) => Ok(()),
+                    Err(want) => Err(LoopFault::NoMemory(want)),
+                }
+            }
             Ok(false) => {
                 self.places.remove(&number);
                 self.slots.try_remove(slot);
-                Ok(())
+                match self.wake_times.change(number, before, None) {
+                    Ok(()) => Ok(()),
+                    Err(want) => Err(LoopFault::NoMemory(want)),
+                }
             }
             Err(fault) => Err(fault),
         }
     }
 
     #[tactic(auto, using(crate::proofs::Sweeps::want_stopped))]
-    // The sessions are visited, one after the other in rising number.
+    // The sessions are visited whose moment has come, one after the other in rising number.
     pub(crate) fn sweep<K: KeyFinder, W: Wires, S: Sink>(
         &mut self,
         reason: Visit,
@@ -149,19 +141,22 @@ impl<U: SafeUser> Book<U> {
         wires: &mut W,
         sink: &mut S,
     ) -> Result<(), LoopFault>
+        requires timed { IsTimed (visit_of reason) }
         requires moment { when.moment ≤ 1000000000000000 }
         requires setup { when.setup ≤ 600000 }
         requires seated { AreSeated (W.opened wires.old) self.old.slots self.old.places.entries }
+        requires awaited { AreAwaited self.old.slots self.old.places self.old.wake_times.pairs }
         ensures does { Does (seen (S.held sink.old) (S.faults sink.old) (W.calls wires.old) (W.faults wires.old))
             (seen (S.held sink.new) (S.faults sink.new) (W.calls wires.new) (W.faults wires.new))
             (sessions self.new.slots self.new.places)
             (swept (visited (rules (K.entries keys.now) when.setup) when.moment (visit_of reason)) (numbers (sessions self.old.slots self.old.places)) (sessions self.old.slots self.old.places)) result }
         ensures seated { OnOk result (AreSeated (W.opened wires.new) self.new.slots self.new.places.entries) }
+        ensures awaited { OnOk result (AreAwaited self.new.slots self.new.places self.new.wake_times.pairs) }
         ensures opened { W.opened wires.new ≡ W.opened wires.old }
         ensures turn_count { W.turn_faults wires.new ≡ W.turn_faults wires.old }
         ensures sunk { S.faults sink.old ≤ S.faults sink.new }
     {
-        match self.numbers(sequence) {
+        match self.wake_times.due(when.moment, sequence) {
             Ok(()) => {}
             Err(want) => return Err(LoopFault::NoMemory(want)),
         }
@@ -190,11 +185,13 @@ impl<U: SafeUser> Book<U> {
         requires moment { when.moment ≤ 1000000000000000 }
         requires setup { when.setup ≤ 600000 }
         requires seated { AreSeated (W.opened wires.old) self.old.slots self.old.places.entries }
+        requires awaited { AreAwaited self.old.slots self.old.places self.old.wake_times.pairs }
         ensures does { Does (seen (S.held sink.old) (S.faults sink.old) (W.calls wires.old) (W.faults wires.old))
             (seen (S.held sink.new) (S.faults sink.new) (W.calls wires.new) (W.faults wires.new))
             (sessions self.new.slots self.new.places)
             (swept (visited (rules (K.entries keys.now) when.setup) when.moment (visit_of reason)) sequence.now (sessions self.old.slots self.old.places)) result }
         ensures seated { OnOk result (AreSeated (W.opened wires.new) self.new.slots self.new.places.entries) }
+        ensures awaited { OnOk result (AreAwaited self.new.slots self.new.places self.new.wake_times.pairs) }
         ensures opened { W.opened wires.new ≡ W.opened wires.old }
         ensures turn_count { W.turn_faults wires.new ≡ W.turn_faults wires.old }
         ensures sunk { S.faults sink.old ≤ S.faults sink.new }

@@ -15,7 +15,9 @@ mod opening;
 mod serving;
 #[cfg(test)]
 mod tests;
+mod wake_times;
 
+pub use book::MOST_LIVE;
 pub use dialling::dial;
 pub use line_plan::{LinePlan, Served, Stop};
 pub use loop_session::LoopFault;

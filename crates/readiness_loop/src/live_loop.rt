@@ -10,7 +10,7 @@ ghost use Rattle.loop_model.specs.Visits.{is_due};
 ghost use Rattle.loop_model.specs.Loops.{Loop, before, until, until as first, turned_away, accepted, happened, Halt, OnClosed};
 ghost use Rattle.loop_session.specs.Parts.{rules, Puts};
 ghost use Rattle.loop_visit.specs.Acting.{seen, Does};
-ghost use Rattle.readiness_loop.specs.Books.{AreSeated, sessions};
+ghost use Rattle.readiness_loop.specs.Books.{AreSeated, AreAwaited, sessions};
 ghost use Rattle.readiness_loop.specs.Courses.{plan_of, loop_of, course_of, answer_event, answered, around, Acts, IsReadyFor, halt_after, Turned, Turns, Runs, HaltsSo};
 
 use crate::book::{Book, MOST_LIVE};
@@ -83,6 +83,7 @@ impl<U: SafeUser> LiveLoop<U> {
     // A loop with no session.
     pub(crate) fn new(alloc: Global, users: Vec<U>) -> Result<LiveLoop<U>, NoMemory>
         ensures empty { IfOk result (λ live. live.book.places.entries ≡ []) }
+        ensures awaited { IfOk result (λ live. AreAwaited live.book.slots live.book.places live.book.wake_times.pairs) }
         ensures users { IfOk result (λ live. live.users ≡ users) }
         ensures moment { IfOk result (λ live. live.moment ≡ 0) }
         ensures turns { IfOk result (λ live. live.turns ≡ 0) }
@@ -110,12 +111,14 @@ impl<U: SafeUser> LiveLoop<U> {
         requires allowed { AllAllowed plan.now.settings }
         requires moment { self.old.moment ≤ 1000000000000000 }
         requires seated { AreSeated (W.opened wires.old) self.old.book.slots self.old.book.places.entries }
+        requires awaited { AreAwaited self.old.book.slots self.old.book.places self.old.book.wake_times.pairs }
         ensures does { Does (seen (S.held sink.old) (S.faults sink.old) (W.calls wires.old) (W.faults wires.old))
             (seen (S.held sink.new) (S.faults sink.new) (W.calls wires.new) (W.faults wires.new))
             (sessions self.new.book.slots self.new.book.places)
             (before (rules (K.entries keys.now) plan.now.settings.setup) self.old.moment (sessions self.old.book.slots self.old.book.places)) result }
         ensures until { IfOk result (λ first. first ≡ until (sessions self.new.book.slots self.new.book.places)) }
         ensures seated { OnOk result (AreSeated (W.opened wires.new) self.new.book.slots self.new.book.places.entries) }
+        ensures awaited { OnOk result (AreAwaited self.new.book.slots self.new.book.places self.new.book.wake_times.pairs) }
         ensures opened { W.opened wires.new ≡ W.opened wires.old }
         ensures turn_count { W.turn_faults wires.new ≡ W.turn_faults wires.old }
         ensures users { self.new.users ≡ self.old.users }
@@ -200,12 +203,14 @@ impl<U: SafeUser> LiveLoop<U> {
         requires rbc { plan.now.rbc < 2 ^ 24 }
         requires moment { self.old.moment ≤ 1000000000000000 }
         requires seated { AreSeated (conn.0 - 1) self.old.book.slots self.old.book.places.entries }
+        requires awaited { AreAwaited self.old.book.slots self.old.book.places self.old.book.wake_times.pairs }
         requires number { 0 < conn.0 }
         ensures puts { Puts (S.held sink.old) (S.held sink.new) (S.faults sink.old) (S.faults sink.new)
             (text (answer_event (R.stream randoms.old) plan.now.rbc self.old.moment conn.0 ∷ [])) result }
         ensures sessions { OnOk result (sessions self.new.book.slots self.new.book.places ≡ sessions self.old.book.slots self.old.book.places
             ++ answered (R.stream randoms.old) plan.now.settings plan.now.rbc self.old.moment conn.0 (U.mind user) ∷ []) }
         ensures seated { OnOk result (AreSeated conn.0 self.new.book.slots self.new.book.places.entries) }
+        ensures awaited { OnOk result (AreAwaited self.new.book.slots self.new.book.places self.new.book.wake_times.pairs) }
         ensures stream { OnOk result (R.stream randoms.new ≡ (next_u64 (R.stream randoms.old)).1) }
         ensures users { self.new.users ≡ self.old.users }
         ensures moment { self.new.moment ≡ self.old.moment }
@@ -237,12 +242,14 @@ impl<U: SafeUser> LiveLoop<U> {
         requires rbc { plan.now.rbc < 2 ^ 24 }
         requires moment { self.old.moment ≤ 1000000000000000 }
         requires seated { AreSeated (conn.0 - 1) self.old.book.slots self.old.book.places.entries }
+        requires awaited { AreAwaited self.old.book.slots self.old.book.places self.old.book.wake_times.pairs }
         requires number { 0 < conn.0 }
         ensures does { (entries : List keys.Entry) → Acts (seen (S.held sink.old) (S.faults sink.old) (W.calls wires.old) (W.faults wires.old))
             (seen (S.held sink.new) (S.faults sink.new) (W.calls wires.new) (W.faults wires.new))
             (loop_of self.new.book.slots self.new.book.places (map U.mind self.new.users.items) self.new.moment (R.stream randoms.new))
             (accepted (plan_of entries plan.now) (loop_of self.old.book.slots self.old.book.places (map U.mind self.old.users.items) self.old.moment (R.stream randoms.old)) conn.0) result }
         ensures seated { OnOk result (AreSeated conn.0 self.new.book.slots self.new.book.places.entries) }
+        ensures awaited { OnOk result (AreAwaited self.new.book.slots self.new.book.places self.new.book.wake_times.pairs) }
         ensures moment { self.new.moment ≡ self.old.moment }
         ensures turns { self.new.turns ≡ self.old.turns }
         ensures opened { W.opened wires.new ≡ W.opened wires.old }
@@ -274,11 +281,13 @@ impl<U: SafeUser> LiveLoop<U> {
         requires rbc { plan.now.rbc < 2 ^ 24 }
         requires moment { self.old.moment ≤ 1000000000000000 }
         requires ready { IsReadyFor happening (W.opened wires.old) self.old.book.slots self.old.book.places.entries }
+        requires awaited { AreAwaited self.old.book.slots self.old.book.places self.old.book.wake_times.pairs }
         ensures does { Does (seen (S.held sink.old) (S.faults sink.old) (W.calls wires.old) (W.faults wires.old))
             (seen (S.held sink.new) (S.faults sink.new) (W.calls wires.new) (W.faults wires.new))
             (loop_of self.new.book.slots self.new.book.places (map U.mind self.new.users.items) self.new.moment (R.stream randoms.new))
             (happened (plan_of (K.entries keys.now) plan.now) (loop_of self.old.book.slots self.old.book.places (map U.mind self.old.users.items) self.old.moment (R.stream randoms.old)) happening) result }
         ensures seated { OnOk result (AreSeated (W.opened wires.new) self.new.book.slots self.new.book.places.entries) }
+        ensures awaited { OnOk result (AreAwaited self.new.book.slots self.new.book.places self.new.book.wake_times.pairs) }
         ensures moment { self.new.moment ≡ self.old.moment }
         ensures turns { self.new.turns ≡ self.old.turns }
         ensures opened { W.opened wires.new ≡ W.opened wires.old }
@@ -345,12 +354,14 @@ impl<U: SafeUser> LiveLoop<U> {
         requires moment { self.old.moment ≤ 1000000000000000 }
         requires turns { self.old.turns < 2 ^ 64 - 1 }
         requires seated { AreSeated (W.opened wires.old) self.old.book.slots self.old.book.places.entries }
+        requires awaited { AreAwaited self.old.book.slots self.old.book.places self.old.book.wake_times.pairs }
         requires until { until ≡ first (sessions self.old.book.slots self.old.book.places) }
         ensures does { (asked : List ℕ) → Turned (plan_of (K.entries keys.now) plan.now) (around (seen (S.held sink.old) (S.faults sink.old) (W.calls wires.old) (W.faults wires.old)) (W.turn_faults wires.old) (W.opened wires.old) (C.answers clock.old))
             (around (seen (S.held sink.new) (S.faults sink.new) (W.calls wires.new) (W.faults wires.new)) (W.turn_faults wires.new) (W.opened wires.new) (C.answers clock.new))
             (course_of (loop_of self.old.book.slots self.old.book.places (map U.mind self.old.users.items) self.old.moment (R.stream randoms.old)) self.old.turns asked)
             (loop_of self.new.book.slots self.new.book.places (map U.mind self.new.users.items) self.new.moment (R.stream randoms.new)) self.new.turns result }
         ensures seated { OnOk result (AreSeated (W.opened wires.new) self.new.book.slots self.new.book.places.entries) }
+        ensures awaited { OnOk result (AreAwaited self.new.book.slots self.new.book.places self.new.book.wake_times.pairs) }
         ensures moment { OnOk result (self.new.moment ≤ 1000000000000000) }
         ensures turns { self.new.turns ≤ self.old.turns + 1 }
         ensures sunk { S.faults sink.old ≤ S.faults sink.new }
@@ -380,11 +391,13 @@ impl<U: SafeUser> LiveLoop<U> {
         requires moment { self.old.moment ≤ 1000000000000000 }
         requires turns { self.old.turns < 2 ^ 64 - 1 }
         requires seated { AreSeated (W.opened wires.old) self.old.book.slots self.old.book.places.entries }
+        requires awaited { AreAwaited self.old.book.slots self.old.book.places self.old.book.wake_times.pairs }
         ensures does { (asked : List ℕ) → Turns (plan_of (K.entries keys.now) plan.now) (around (seen (S.held sink.old) (S.faults sink.old) (W.calls wires.old) (W.faults wires.old)) (W.turn_faults wires.old) (W.opened wires.old) (C.answers clock.old))
             (around (seen (S.held sink.new) (S.faults sink.new) (W.calls wires.new) (W.faults wires.new)) (W.turn_faults wires.new) (W.opened wires.new) (C.answers clock.new))
             (course_of (loop_of self.old.book.slots self.old.book.places (map U.mind self.old.users.items) self.old.moment (R.stream randoms.old)) self.old.turns asked)
             (loop_of self.new.book.slots self.new.book.places (map U.mind self.new.users.items) self.new.moment (R.stream randoms.new)) self.new.turns result }
         ensures seated { OnOk result (AreSeated (W.opened wires.new) self.new.book.slots self.new.book.places.entries) }
+        ensures awaited { OnOk result (AreAwaited self.new.book.slots self.new.book.places self.new.book.wake_times.pairs) }
         ensures moment { OnOk result (self.new.moment ≤ 1000000000000000) }
         ensures turns { self.new.turns ≤ self.old.turns + 1 }
         ensures sunk { S.faults sink.old ≤ S.faults sink.new }
@@ -417,6 +430,7 @@ impl<U: SafeUser> LiveLoop<U> {
         requires moment { self.old.moment ≤ 1000000000000000 }
         requires turns { self.old.turns ≡ 0 }
         requires seated { AreSeated (W.opened wires.old) self.old.book.slots self.old.book.places.entries }
+        requires awaited { AreAwaited self.old.book.slots self.old.book.places self.old.book.wake_times.pairs }
         ensures does { (asked : List ℕ) → Runs (plan_of (K.entries keys.now) plan.now) (around (seen (S.held sink.old) (S.faults sink.old) (W.calls wires.old) (W.faults wires.old)) (W.turn_faults wires.old) (W.opened wires.old) (C.answers clock.old))
             (around (seen (S.held sink.new) (S.faults sink.new) (W.calls wires.new) (W.faults wires.new)) (W.turn_faults wires.new) (W.opened wires.new) (C.answers clock.new))
             (course_of (loop_of self.old.book.slots self.old.book.places (map U.mind self.old.users.items) self.old.moment (R.stream randoms.old)) 0 asked)

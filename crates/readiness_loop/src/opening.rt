@@ -10,7 +10,7 @@ ghost use Rattle.loop_model.specs.Visits.{served};
 ghost use Rattle.loop_model.specs.Loops.{begun};
 ghost use Rattle.loop_session.specs.Parts.{rules};
 ghost use Rattle.loop_visit.specs.Acting.{seen, Does};
-ghost use Rattle.readiness_loop.specs.Books.{AreSeated, sessions};
+ghost use Rattle.readiness_loop.specs.Books.{AreSeated, AreAwaited, sessions};
 ghost use Rattle.readiness_loop.specs.Claims.{pair_of};
 ghost use Rattle.readiness_loop.specs.Courses.{plan_of, loop_of, course_of, around, caller_of, Opens};
 
@@ -44,6 +44,7 @@ impl<U: SafeUser> LiveLoop<U> {
         requires rbc { plan.now.rbc < 2 ^ 24 }
         requires moment { self.old.moment ≤ 1000000000000000 }
         requires empty { self.old.book.places.entries ≡ [] }
+        requires awaited { AreAwaited self.old.book.slots self.old.book.places self.old.book.wake_times.pairs }
         requires number { 0 < conn.0 }
         requires newest { conn.0 ≡ W.opened wires.old }
         ensures does { Does (seen (S.held sink.old) (S.faults sink.old) (W.calls wires.old) (W.faults wires.old))
@@ -54,6 +55,7 @@ impl<U: SafeUser> LiveLoop<U> {
             (Begins pair.now.engine plan.now.rbc (next_u64 (R.stream randoms.old)).0)) result }
         ensures stays { IfOk result (λ stays. (length self.new.book.places.entries == 0) ≡ (if stays then false else true)) }
         ensures seated { OnOk result (AreSeated (W.opened wires.new) self.new.book.slots self.new.book.places.entries) }
+        ensures awaited { OnOk result (AreAwaited self.new.book.slots self.new.book.places self.new.book.wake_times.pairs) }
         ensures stream { OnOk result (R.stream randoms.new ≡ (next_u64 (R.stream randoms.old)).1) }
         ensures users { self.new.users ≡ self.old.users }
         ensures moment { self.new.moment ≡ self.old.moment }
@@ -116,6 +118,7 @@ impl<U: SafeUser> LiveLoop<U> {
         requires dials { plan.now.dials ≡ true }
         requires moment { self.old.moment ≤ 1000000000000000 }
         requires empty { self.old.book.places.entries ≡ [] }
+        requires awaited { AreAwaited self.old.book.slots self.old.book.places self.old.book.wake_times.pairs }
         requires number { 0 < conn.0 }
         requires newest { conn.0 ≡ W.opened wires.old }
         ensures does { (asked : List ℕ) → Opens (plan_of (pair_of pair.now.engine pair.now.rbc pair.now.kmac ∷ []) plan.now) (caller_of pair.now.engine pair.now.kmac)
@@ -124,6 +127,7 @@ impl<U: SafeUser> LiveLoop<U> {
             (course_of (loop_of self.old.book.slots self.old.book.places (map U.mind self.old.users.items) self.old.moment (R.stream randoms.old)) self.old.turns asked) conn.0
             (loop_of self.new.book.slots self.new.book.places (map U.mind self.new.users.items) self.new.moment (R.stream randoms.new)) self.new.turns result }
         ensures seated { OnOk result (AreSeated (W.opened wires.new) self.new.book.slots self.new.book.places.entries) }
+        ensures awaited { OnOk result (AreAwaited self.new.book.slots self.new.book.places self.new.book.wake_times.pairs) }
         ensures moment { self.new.moment ≤ 1000000000000000 }
         ensures turns { self.new.turns ≡ self.old.turns }
         ensures sunk { S.faults sink.old ≤ S.faults sink.new }

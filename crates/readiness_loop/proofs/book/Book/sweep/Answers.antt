@@ -1,13 +1,22 @@
 use Rattle.std.proofs.Common.{sym, ◌∙◌}
+use Rattle.loop_model.specs.Visits.{visited}
+use Rattle.loop_session.specs.Parts.{rules}
 use Rattle.loop_visit.specs.Acting.{seen}
-use Rattle.readiness_loop.proofs.Sweeps.{numbers_are, swept_as}
+use Rattle.loop_visit.specs.Visiting.{visit_of}
+use Rattle.readiness_loop.specs.Books.{sessions}
+use Rattle.readiness_loop.proofs.DueNumbers.{due_is, numbers_rise}
+use Rattle.readiness_loop.proofs.Fills.{by_moments, due_does}
 use Rattle.readiness_loop.proofs.book.Book.sweep.Goals as goal
 
 pub returns-clause-does : goal.returns-clause-does
 returns-clause-does g c =
-    swept_as
+    due_does
     (seen (g.S.Sink.held c.args.sink.now) (g.S.Sink.faults c.args.sink.now) (g.W.Wires.calls c.args.wires.now) (g.W.Wires.faults c.args.wires.now))
     (seen (g.S.Sink.held c.visit_all.new.sink) (g.S.Sink.faults c.visit_all.new.sink) (g.W.Wires.calls c.visit_all.new.wires) (g.W.Wires.faults c.visit_all.new.wires))
-    _ c.as_slice.result.now _ _ _ c.visit_all.result
-    (c.as_slice.ensures.value ∙ c.in-Ok.ensures ∙ sym (numbers_are (g.W.Wires.opened c.args.wires.now) c.args.self.now.slots c.args.self.now.places.entries c.requires.seated))
+    c.args.when.moment (visited (rules (g.K.KeyFinder.entries c.args.keys.now) c.args.when.setup) c.args.when.moment (visit_of c.args.reason)) c.as_slice.result.now
+    (sessions c.args.self.now.slots c.args.self.now.places) _ c.visit_all.result
+    (by_moments (rules (g.K.KeyFinder.entries c.args.keys.now) c.args.when.setup) c.args.when.moment (visit_of c.args.reason) c.requires.timed)
+    (numbers_rise (g.W.Wires.opened c.args.wires.now) c.args.self.now.slots c.args.self.now.places c.args.self.now.wake_times.pairs c.requires.seated c.requires.awaited)
+    (c.as_slice.ensures.value ∙ due_is (g.W.Wires.opened c.args.wires.now) c.args.when.moment c.args.self.now.slots c.args.self.now.places c.args.self.now.wake_times.pairs _ c.requires.seated c.requires.awaited
+    c.in-Ok.ensures.ordered c.in-Ok.ensures.same c.in-Ok.ensures.sorted)
     c.visit_all.ensures.does

@@ -7,6 +7,7 @@ pub loop-number-init : goal.loop-number-init
 loop-number-init g c = record {
   swept = swept_none _ _ _ _;
   seated = c.requires.seated;
+  awaited = c.requires.awaited;
   opened = refl;
   sunk = omega arith;
   turn_count = refl;
@@ -17,6 +18,7 @@ loop-number-preserved g c = record {
   swept = swept_next _ _ _ _ c.args.sequence.now c.loop-number.number-index (get_or c.args.sequence.now c.loop-number.number-index 0) _ _ _ c.loop-number.invariant.swept
       (slice_get-get_or c.args.sequence.now c.loop-number.number-index 0 c.loop-number-test.true) c.in-Ok.ensures.does;
   seated = c.in-Ok.ensures.seated;
+  awaited = c.in-Ok.ensures.awaited;
   sunk = omega (arith, c.loop-number.invariant.sunk, c.visit.ensures.sunk);
   opened = c.visit.ensures.opened ∙ c.loop-number.invariant.opened;
   turn_count = c.visit.ensures.turn_count ∙ c.loop-number.invariant.turn_count;

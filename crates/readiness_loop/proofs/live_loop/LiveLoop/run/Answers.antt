@@ -9,6 +9,7 @@ pub loop-init : goal.loop-init
 loop-init g c = record {
   ran = λ asked. ran_start (plan_of (g.K.KeyFinder.entries c.args.keys.now) c.args.plan.now) (around (seen (g.S.Sink.held c.args.sink.now) (g.S.Sink.faults c.args.sink.now) (g.W.Wires.calls c.args.wires.now) (g.W.Wires.faults c.args.wires.now)) (g.W.Wires.turn_faults c.args.wires.now) (g.W.Wires.opened c.args.wires.now) (g.C.Clock.answers c.args.clock.now)) (loop_of c.args.self.now.book.slots c.args.self.now.book.places (map g.U.SafeUser.mind c.args.self.now.users.items) c.args.self.now.moment (g.R.Rng.stream c.args.randoms.now)) _ asked c.requires.turns;
   seated = c.requires.seated;
+  awaited = c.requires.awaited;
   moment = c.requires.moment;
   turns = omega (arith, c.requires.turns);
   sunk = omega arith;
@@ -25,6 +26,7 @@ loop-preserved g c = record {
       (loop_of c.loop.self.book.slots c.loop.self.book.places (map g.U.SafeUser.mind c.loop.self.users.items) c.loop.self.moment (g.R.Rng.stream c.loop.randoms))
       (loop_of c.go.new.self.book.slots c.go.new.self.book.places (map g.U.SafeUser.mind c.go.new.self.users.items) c.go.new.self.moment (g.R.Rng.stream c.go.new.randoms)) c.loop.self.turns c.go.new.self.turns c.loop.counter c.in-Ok-GoesOn.field-0 (c.loop.invariant.ran asked) (ap halt_of c.in-Ok-GoesOn.field-0-is) c.in-Ok-GoesOn.ensures.does;
   seated = c.in-Ok-GoesOn.ensures.seated;
+  awaited = c.in-Ok-GoesOn.ensures.awaited;
   moment = c.in-Ok-GoesOn.ensures.moment;
   turns = omega (arith, c.go.ensures.turns, c.loop.invariant.turns);
   sunk = omega (arith, c.go.ensures.sunk, c.loop.invariant.sunk);

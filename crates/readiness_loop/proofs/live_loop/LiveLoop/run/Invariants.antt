@@ -1,7 +1,7 @@
 -- So many turns were done, and the loop goes on.
 use Rattle.std.specs.Prelude.{◌≡◌, ◌≤◌, ℕ, List, map}
 use Rattle.loop_visit.specs.Acting.{seen}
-use Rattle.readiness_loop.specs.Books.{AreSeated}
+use Rattle.readiness_loop.specs.Books.{AreSeated, AreAwaited}
 use Rattle.readiness_loop.specs.Courses.{plan_of, loop_of, course_of, around}
 use Rattle.readiness_loop.proofs.Running.{RanSome}
 use Rattle.readiness_loop.proofs.live_loop.LiveLoop.run.Given as goal
@@ -15,6 +15,7 @@ invariant-loop g l = record {
       (loop_of l.self.book.slots l.self.book.places (map g.U.SafeUser.mind l.self.users.items) l.self.moment (g.R.Rng.stream l.randoms))
       l.self.turns l.counter;
   seated : AreSeated (g.W.Wires.opened l.wires) l.self.book.slots l.self.book.places.entries;
+  awaited : AreAwaited l.self.book.slots l.self.book.places l.self.book.wake_times.pairs;
   moment : l.self.moment ≤ 1000000000000000;
   turns : l.self.turns ≤ l.counter;
   sunk : g.S.Sink.faults l.fn.sink ≤ g.S.Sink.faults l.sink;
