@@ -51,6 +51,10 @@ line_breaks h i f g calls failed o line fault is p = record {
   failed = p.failed;
 }
 
+-- the event that opens a session that answers, with this random word
+abbrev pub answer_line : (rbc moment conn ra : ℕ) → Entry
+answer_line rbc moment conn ra = record { moment = moment; conn = conn; event = event.Answer rbc ra; outcomes = [] }
+
 -- memory ran out before a line was written, and behind it
 pub line_wanted : (a : Option (List ℕ)) (f : ℕ) (line : List ℕ) (want : Want) → Breaks a a f f line (NoMemory want)
 line_wanted a f line want = record { begun = part_nothing a line; failed = (let p : f ≤ f = omega arith in p) }
