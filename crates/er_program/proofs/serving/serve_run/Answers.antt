@@ -1,9 +1,9 @@
 -- The file that was fetched, and the fetch that failed, by the lemmas on endings.
-use Rattle.std.proofs.Common.{Err, refl, ap}
+use Rattle.std.proofs.Common.{Err, ap}
 use Rattle.link_trait.specs.declared.cabinet.FetchFault.{FetchFault}
 use Rattle.er_program.specs.LineCommands.{Serve}
 use Rattle.er_program.proofs.RunEndings.{has_file_kept}
-use Rattle.er_program.proofs.LineEndings.{line_read, line_unfetched, line_wanted}
+use Rattle.er_program.proofs.LineEndings.{line_read, line_unfetched}
 use Rattle.er_program.proofs.serving.serve_run.Goals as goal
 
 pub returns-in-Ok-clause-ends : goal.returns-in-Ok-clause-ends
@@ -15,6 +15,3 @@ pub returns-in-Err-Failed-clause-ends : goal.returns-in-Err-Failed-clause-ends
 returns-in-Err-Failed-clause-ends g c =
     line_unfetched (Serve c.args.keys.now c.args.address.now c.args.rbc c.args.turns) _ _ _ _ _ _ _ _ c.unfetched.result
     (c.in-Err-Failed.ensures.failed (ap (λ (e : FetchFault). Err e) c.in-Err-Failed.field-0-is)) c.unfetched.ensures.gives
-
-pub returns-in-Err-NoMemory-clause-ends : goal.returns-in-Err-NoMemory-clause-ends
-returns-in-Err-NoMemory-clause-ends g c = line_wanted (Serve c.args.keys.now c.args.address.now c.args.rbc c.args.turns) _ _ _ _ refl
