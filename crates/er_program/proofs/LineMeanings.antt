@@ -11,7 +11,7 @@ use Rattle.er_program.specs.Answers.{Files, keys_answer}
 use Rattle.er_program.specs.KeyLines.{keys_line}
 use Rattle.er_program.specs.LastLines.{fetch_line, memory_line}
 use Rattle.er_program.specs.LineCommands.{LineCommand, Serve, Call, key_file_of}
-use Rattle.er_program.specs.LineRuns.{Given, HasKeys, HasNoKey, IsKeyed, Looped, FailsWith, LacksKey, HasLineStatus, HasPairStatus, IsStatusOfPair, IsStatusBehindKeyFile, IsLineSinkFailed, IsMemoryTold, LineMeans, wires_line}
+use Rattle.er_program.specs.LineRuns.{Given, HasKeys, HasNoKey, IsKeyed, Looped, FailsWith, LacksKey, HasLineStatus, HasPairStatus, IsStatusOfPair, IsStatusBehindKeyFile, IsLineSinkFailed, RunsOut, BeforeLoop, IsMemoryTold, LineMeans, with_sink, wires_line}
 use Rattle.er_program.specs.LineWriting.{LoopEnded, HasLooped, WiresFailed, KeyLacks, FileEnded, LineEnded, NotFetched, WasRead}
 use Rattle.er_program.specs.Writing.{Exhausts}
 use Rattle.er_program.specs.declared.status.Status.{Status}
@@ -112,16 +112,17 @@ means_refused command files c d g t u before now status file fault stands is has
 
 -- ---- status 7
 
-means_forgot : (command : LineCommand) (files : Files) (c d : ℕ) (g : Given) (t u : ℕ) (before now : Outside) (status : ℕ) (held : Option (List ℕ))
-    → status ≡ 7 → Grew held now.seen.held memory_line → LineMeans command files c d t u g before now status
-means_forgot command files c d g t u before now status held is printed = record {
+means_forgot : (command : LineCommand) (files : Files) (c d : ℕ) (g : Given) (t u : ℕ) (before now : Outside) (status : ℕ) (held : Option (List ℕ)) (sunk : ℕ)
+    → status ≡ 7 → RunsOut command files g before (with_sink now held sunk) → Grew held now.seen.held memory_line
+    → LineMeans command files c d t u g before now status
+means_forgot command files c d g t u before now status held sunk is out printed = record {
   known = inr (inr (inr (inr (inr is))));
   served = λ h. absurd (omega arith);
   fetch = λ h. absurd (omega arith);
   keys = λ h. absurd (omega arith);
   sink = λ h. absurd (omega arith);
   wires = λ h. absurd (omega arith);
-  memory = λ h. record { held = held; last = printed };
+  memory = λ h. record { held = held; sunk = sunk; out = out; last = printed };
   complete = λ good fine well. inr is;
 }
 
@@ -161,7 +162,7 @@ means_fault command files c d g t u before now status file (keys.Twice j k) stan
 means_fault command files c d g t u before now status file (keys.Version n) stands is has stated printed =
     means_refused command files c d g t u before now status file (keys.Version n) stands is has stated printed
 means_fault command files c d g t u before now status file (keys.NoMemory want) stands is has stated printed =
-    means_forgot command files c d g t u before now status before.seen.held stated printed
+    means_forgot command files c d g t u before now status before.seen.held before.seen.sunk stated (BeforeLoop (grew_nothing before.seen.held)) printed
 
 means_file : (command : LineCommand) (files : Files) (c d : ℕ) (g : Given) (t u : ℕ) (before now : Outside) (status : ℕ) (file : List ℕ) (read : Result (List Entry) KeyFileFault)
     → HasFile files (key_file_of command) file → keys_of file ≡ read → FileEnded command read g t u before now status
@@ -194,13 +195,13 @@ means_line_ended command files c d g t u before now status (NotFetched is rose p
 -- ---- memory ran out
 
 pub means_line_spent : (command : LineCommand) (files : Files) (c d : ℕ) (g : Given) (t u : ℕ) (before now : Outside) (held : Option (List ℕ)) (sunk : ℕ) (s : Status)
-    → before.seen.sunk ≤ sunk → Exhausts held now.seen.held sunk now.seen.sunk s
+    → before.seen.sunk ≤ sunk → RunsOut command files g before (with_sink now held sunk) → Exhausts held now.seen.held sunk now.seen.sunk s
     → LineMeans command files c d t u g before now s.0
-means_line_spent command files c d g t u before now held sunk s later (inl told) =
-    means_forgot command files c d g t u before now s.0 held told.0 told.1
-means_line_spent command files c d g t u before now held sunk s later (inr failed) =
+means_line_spent command files c d g t u before now held sunk s later out (inl told) =
+    means_forgot command files c d g t u before now s.0 held sunk told.0 out told.1
+means_line_spent command files c d g t u before now held sunk s later out (inr failed) =
     subst (λ (n : ℕ). LineMeans command files c d t u g before now n) (sym failed.0)
     (means_line_sunk command files c d g t u before now (record {
       rose = omega (arith, later, failed.2);
-      beginning = inr (inr (record { held = held; last = failed.1 }));
+      beginning = inr (inr (record { held = held; sunk = sunk; out = out; last = failed.1 }));
     }))

@@ -84,7 +84,7 @@ LoopFails (Call keys address engine rbc turns) entries g before now =
     IsKeyed entries engine rbc before (λ kmac began.
     FailsToDial began now (dialling kmac (usual turns) engine rbc g.handed) (record { engine = engine; kmac = kmac }) address g.minds g.words)
 
--- a write of the sink failed in it: a beginning was printed
+-- a write of the sink failed or memory ran out in it: a beginning was printed and called
 abbrev pub LoopBreaks : LineCommand → List Entry → Given → Outside → Outside → Type 0
 LoopBreaks (Serve keys address rbc turns) entries g before now =
     BreaksOffServing before now (serving entries (usual turns) rbc g.handed) address g.minds g.words
@@ -166,16 +166,24 @@ pub record IsLoopBegun (command : LineCommand) (files : Files) (g : Given) (befo
   pub begun : LoopBreaks command entries g before now
       ⊎ FailsWith command entries g before now (λ held held_now. GrewPart held held_now wires_line)
 
--- what the sink held as memory ran out, and then a part of the last line of status 7
-pub record IsMemoryTold (Last : Option (List ℕ) → Option (List ℕ) → Type 0) (now : Outside) : Type 0 where
+-- memory ran out: before the loop, and nothing was printed; or in it, and a beginning was printed and called
+pub data RunsOut (command : LineCommand) (files : Files) (g : Given) (before now : Outside) : Type 0 where
+  BeforeLoop : Grew before.seen.held now.seen.held [] → RunsOut command files g before now
+  WithinLoop : (entries : List Entry) → HasKeys (key_file_of command) files entries → LoopBreaks command entries g before now
+      → RunsOut command files g before now
+
+-- memory ran out, and then a part of the last line of status 7 was written
+pub record IsMemoryTold (command : LineCommand) (files : Files) (g : Given) (before now : Outside) (Last : Option (List ℕ) → Option (List ℕ) → Type 0) : Type 0 where
   pub held : Option (List ℕ)
+  pub sunk : ℕ
+  pub out : RunsOut command files g before (with_sink now held sunk)
   pub last : Last held now.seen.held
 
 -- a write failed
 pub record IsLineSinkFailed (command : LineCommand) (files : Files) (c d : ℕ) (g : Given) (before now : Outside) : Type 0 where
   pub rose : Rose before.seen.sunk now.seen.sunk
   pub beginning : IsLastLineBegun command files c d before now ⊎ IsLoopBegun command files g before now
-      ⊎ IsMemoryTold (λ held held_now. GrewPart held held_now memory_line) now
+      ⊎ IsMemoryTold command files g before now (λ held held_now. GrewPart held held_now memory_line)
 
 -- ---- status 6
 
@@ -230,5 +238,5 @@ pub record LineMeans (command : LineCommand) (files : Files) (c d t u : ℕ) (g 
   pub keys : status ≡ 4 → IsLineKeyless command files before now
   pub sink : status ≡ 5 → IsLineSinkFailed command files c d g before now
   pub wires : status ≡ 6 → IsWiresFailed command files g t u before now
-  pub memory : status ≡ 7 → IsMemoryTold (λ held held_now. Grew held held_now memory_line) now
+  pub memory : status ≡ 7 → IsMemoryTold command files g before now (λ held held_now. Grew held held_now memory_line)
   pub complete : IsLineComplete command files c d t u before now status

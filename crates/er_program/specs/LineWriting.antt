@@ -8,7 +8,7 @@ use Rattle.readiness_loop.specs.Claims.{Outside}
 use Rattle.er_program.specs.Answers.{Files, keys_answer}
 use Rattle.er_program.specs.LastLines.{fetch_line}
 use Rattle.er_program.specs.LineCommands.{LineCommand, key_file_of}
-use Rattle.er_program.specs.LineRuns.{Given, Looped, LoopBreaks, FailsWith, LacksKey, IsLineSinkFailed, wires_line}
+use Rattle.er_program.specs.LineRuns.{Given, Looped, LoopBreaks, FailsWith, LacksKey, IsLineSinkFailed, RunsOut, wires_line}
 use Rattle.er_program.specs.declared.status.Status.{Status}
 use Rattle.er_program.specs.declared.stop.Stop.{Stop}
 use Rattle.er_program.specs.declared.stop.Stop.TheVariants as stop
@@ -29,10 +29,14 @@ pub data LoopBroke (command : LineCommand) (entries : List Entry) (g : Given) (b
   InKeyLine : LacksKey command entries before now (GrewPart before.seen.held now.seen.held)
       → LoopBroke command entries g before now
 
+-- memory ran out: nothing was printed, or a beginning in the loop
+abbrev pub LoopSpent : LineCommand → List Entry → Given → Outside → Outside → Type 0
+LoopSpent command entries g before now = Grew before.seen.held now.seen.held [] ⊎ LoopBreaks command entries g before now
+
 abbrev pub LoopEnds : LineCommand → List Entry → Given → (t u : ℕ) → Outside → Outside → Result Status Stop → Type 0
 LoopEnds command entries g t u before now (Ok s) = LoopEnded command entries g t u before now s.0
 LoopEnds command entries g t u before now (Err stop.Sink) = LoopBroke command entries g before now × Rose before.seen.sunk now.seen.sunk
-LoopEnds command entries g t u before now (Err (stop.NoMemory want)) = Unit {0}
+LoopEnds command entries g t u before now (Err (stop.NoMemory want)) = LoopSpent command entries g before now
 
 -- ---- with the octets of the key file
 
@@ -45,10 +49,14 @@ abbrev pub FileBroke : LineCommand → Result (List Entry) KeyFileFault → Give
 FileBroke command (Ok entries) g before now = LoopBroke command entries g before now
 FileBroke command (Err fault) g before now = GrewPart before.seen.held now.seen.held (keys_answer fault).text
 
+abbrev pub FileSpent : LineCommand → Result (List Entry) KeyFileFault → Given → Outside → Outside → Type 0
+FileSpent command (Ok entries) g before now = LoopSpent command entries g before now
+FileSpent command (Err fault) g before now = Grew before.seen.held now.seen.held []
+
 abbrev pub FileEnds : LineCommand → Result (List Entry) KeyFileFault → Given → (t u : ℕ) → Outside → Outside → Result Status Stop → Type 0
 FileEnds command read g t u before now (Ok s) = FileEnded command read g t u before now s.0
 FileEnds command read g t u before now (Err stop.Sink) = FileBroke command read g before now × Rose before.seen.sunk now.seen.sunk
-FileEnds command read g t u before now (Err (stop.NoMemory want)) = Unit {0}
+FileEnds command read g t u before now (Err (stop.NoMemory want)) = FileSpent command read g before now
 
 -- ---- the words
 
@@ -61,4 +69,4 @@ pub data LineEnded (command : LineCommand) (files : Files) (c d : ℕ) (g : Give
 abbrev pub LineEnds : LineCommand → Files → (c d : ℕ) → Given → (t u : ℕ) → Outside → Outside → Result Status Stop → Type 0
 LineEnds command files c d g t u before now (Ok s) = LineEnded command files c d g t u before now s.0
 LineEnds command files c d g t u before now (Err stop.Sink) = IsLineSinkFailed command files c d g before now
-LineEnds command files c d g t u before now (Err (stop.NoMemory want)) = Unit {0}
+LineEnds command files c d g t u before now (Err (stop.NoMemory want)) = RunsOut command files g before now

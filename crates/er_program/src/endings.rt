@@ -1,6 +1,8 @@
 //! How a run ends: its last line, or the lines of its links, and the status that goes with it.
 
-ghost use Rattle.std.specs.Prelude.{◌≡◌, ◌≤◌, List, false};
+ghost use Rattle.std.specs.Prelude.{◌≡◌, ◌≢◌, ◌≤◌, List, Err, false};
+ghost use Rattle.er_base.specs.declared.no_memory.NoMemory.{NoMemory as Want};
+ghost use Rattle.er_program.specs.declared.stop.Stop.TheVariants as stop;
 ghost use Rattle.er_scenario.specs.declared.step.Step.{Step as AnyStep};
 ghost use Rattle.drill_model.specs.Worlds.{Plan};
 ghost use Rattle.drill_model.specs.Texts.{last_lines};
@@ -33,6 +35,7 @@ pub fn say<K: Sink>(text: &[u8], sink: &mut K) -> Result<(), Failed>
 pub fn last<K: Sink>(status: u8, text: &[u8], sink: &mut K) -> Result<Status, Stop>
     ensures gives { Gives (record { status = status; text = text.now }) (K.held sink.old) (K.held sink.new)
         (K.faults sink.old) (K.faults sink.new) result }
+    ensures never { (want : Want) → result ≢ Err (stop.NoMemory want) }
     ensures sink_count { K.faults sink.old ≤ K.faults sink.new }
 {
     match say(text, sink) {

@@ -342,8 +342,11 @@ pub fn run<F: Cabinet, K: Sink, W: Wires, C: Clock, R: Rng>(
         (outside (seen (K.held sink.old) (K.faults sink.old) (W.calls wires.old) (W.faults wires.old)) (C.answers clock.old))
         (outside (seen (K.held sink.new) (K.faults sink.new) (W.calls wires.new) (W.faults wires.new)) (C.answers clock.new)) }
     ensures line_memory { (c : AnyLineCommand) → line_command_of (texts words.now) ≡ Some c → result.0 ≡ 7
-        → IsMemoryTold (λ held held_now. Grew held held_now memory_line)
-        (outside (seen (K.held sink.new) (K.faults sink.new) (W.calls wires.new) (W.faults wires.new)) (C.answers clock.new)) }
+        → IsMemoryTold c (F.files cabinet.new)
+        (given (length users.items) (map mind users.items) (R.stream randoms.old))
+        (outside (seen (K.held sink.old) (K.faults sink.old) (W.calls wires.old) (W.faults wires.old)) (C.answers clock.old))
+        (outside (seen (K.held sink.new) (K.faults sink.new) (W.calls wires.new) (W.faults wires.new)) (C.answers clock.new))
+        (λ held held_now. Grew held held_now memory_line) }
     ensures line_complete { (c : AnyLineCommand) → line_command_of (texts words.now) ≡ Some c
         → IsLineComplete c (F.files cabinet.new) (F.faults cabinet.old) (F.faults cabinet.new)
         (W.turn_faults wires.old) (W.turn_faults wires.new)

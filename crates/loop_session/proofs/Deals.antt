@@ -1,13 +1,11 @@
 -- Parts of a session one behind another, once for each of a list.
-use Rattle.std.proofs.Common.{◌≡◌, ◌≤◌, ◌<◌, ℕ, zero, suc, ◌+◌, ◌-◌, List, [], ◌∷◌, ◌++◌, length, take, drop, slice_index_or, Option, Some, None, Result, Ok, Err, refl, sym, ◌∙◌, ap, subst, append-nil, append_assoc, arith}
+use Rattle.std.proofs.Common.{◌≡◌, ◌<◌, ℕ, zero, suc, ◌+◌, ◌-◌, List, [], ◌∷◌, ◌++◌, length, take, drop, slice_index_or, Option, Some, None, Result, Ok, Err, refl, sym, ◌∙◌, ap, subst, append-nil, append_assoc, arith}
 use Rattle.er_users.specs.Saying.{Spoken}
 use Rattle.er_users.specs.Users.{Mind}
 use Rattle.loop_model.specs.Journals.{Entry, text}
 use Rattle.loop_model.specs.Outs.{runs, exactly}
 use Rattle.loop_model.specs.Sessions.{Rules, Session, Given, Sends, Leaves, Takes, sends_of, leave_of, heard_in, hears, silence, outcomes_of, fed, dealt, takes_all, waiting, handled, parted}
-use Rattle.er_base.specs.declared.no_memory.NoMemory.{NoMemory as Want}
 use Rattle.loop_session.specs.declared.loop_fault.LoopFault.{LoopFault}
-use Rattle.loop_session.specs.declared.loop_fault.LoopFault.TheVariants.{NoMemory}
 use Rattle.loop_session.specs.Giving.{HeardSo, events_of}
 use Rattle.loop_session.specs.Parts.{Breaks, Printed, Prints, Chose, BrokeOff, Chooses, WentSome, with_mind}
 use Rattle.loop_session.proofs.Written.{breaks_first, breaks_then, printed_then, printed_nothing}
@@ -270,12 +268,3 @@ handled_done a b c i j k r m s t u new g p q parts = record {
       let all = printed_then a b c i j k t u o (takes_all r m o.0 q.answers) p.is last in
       record { state = parts ∙ ap (λ (z : Session). parted r m z) last.state; printed = all.printed; later = all.later };
 }
-
--- ---- want of memory
-
-pub wanted : {T S A : Type 0} (a : Option (List ℕ)) (i : ℕ) (new : S) (plain : A) (model : A → S × List Entry) (res : Result T LoopFault) (fault : LoopFault) (want : Want)
-    → res ≡ Err fault → fault ≡ NoMemory want → Chooses a a i i new model res
-wanted a i new plain model (Ok done) fault want p q = absurd cc
-wanted a i new plain model (Err other) fault want p q =
-    let same : other ≡ NoMemory want = cc in
-    record { answers = plain; breaks = subst (λ z. Breaks a a i i (text (model plain).1) z) (sym same) (let z : i ≤ i = omega arith in z) }

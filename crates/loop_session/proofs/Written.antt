@@ -3,24 +3,53 @@ use Rattle.std.proofs.Common.{if◌then◌else◌, ◌≡◌, ℕ, ◌≤◌, Bo
 use Rattle.std.proofs.lemmas.Bool.{cases_Bool}
 use Rattle.std.specs.Prelude.{◌==◌}
 use Rattle.er_base.specs.LineTexts.{line_text}
+use Rattle.er_base.specs.declared.no_memory.NoMemory.{NoMemory as Want}
 use Rattle.er_trace.specs.declared.event.Event.{Event}
 use Rattle.er_trace.specs.Texts.{entry_words}
 use Rattle.trace_model.specs.Printed.{outcomes_text}
 use Rattle.er_end.specs.KeptEnds.{KEnd, happens, tells}
 use Rattle.er_users.specs.Saying.{Spoken}
 use Rattle.er_users.specs.Users.{Mind, Heard}
-use Rattle.link_trait.specs.Outside.{Grew, Rose}
-use Rattle.link_trait.specs.Growth.{grew_nothing, grew_then, part_then, part_more}
+use Rattle.link_trait.specs.Outside.{Grew, GrewPart, Rose}
+use Rattle.link_trait.specs.Growth.{grew_nothing, grew_then, part_nothing, part_then, part_more}
 use Rattle.loop_model.specs.Journals.{Entry, entry_text, text}
 use Rattle.loop_model.specs.Sessions.{Rules, Session, Given, Stalls, event_of, written, breaks, end_after, outcomes_of, octets_in, heard_in, entry_of, stalled, joined, fed}
 use Rattle.loop_session.specs.declared.loop_fault.LoopFault.{LoopFault}
 use Rattle.loop_session.specs.declared.loop_fault.LoopFault.TheVariants.{Wires, Sink, NoMemory}
 use Rattle.loop_session.specs.Giving.{too_many, joined_to, octets_of, Gave, HeardSo, peer_heard}
-use Rattle.loop_session.specs.Parts.{Breaks, Puts, Printed, Prints, with_mind}
+use Rattle.loop_session.specs.Parts.{FailedFor, Breaks, Puts, Printed, Prints, Chooses, with_mind}
 
 pub nothing_put : (a : Option (List ℕ)) (f : ℕ) (line : List ℕ) → (length line == 0) ≡ true → Grew a a line × (f ≤ f)
 nothing_put a f [] p = (grew_nothing a, omega arith)
 nothing_put a f (x ∷ xs) p = absurd (let q : ⊥ = omega (arith, eqb-true (length (x ∷ xs)) 0 p) in q)
+
+-- ---- a part that broke off at once
+
+-- the sink failed
+pub put_broke : (a b : Option (List ℕ)) (f g : ℕ) (line : List ℕ) → GrewPart a b line → Rose f g → Breaks a b f g line Sink
+put_broke a b f g line p q = record { begun = p; failed = q }
+
+-- memory ran out before anything was written
+pub breaks_wanted : (a : Option (List ℕ)) (f : ℕ) (line : List ℕ) (want : Want) → Breaks a a f f line (NoMemory want)
+breaks_wanted a f line want = record { begun = part_nothing a line; failed = (let p : f ≤ f = omega arith in p) }
+
+wanted_as : (a : Option (List ℕ)) (f : ℕ) (line : List ℕ) (fault : LoopFault) (want : Want) → fault ≡ NoMemory want → Breaks a a f f line fault
+wanted_as a f line fault want p = subst (λ z. Breaks a a f f line z) (sym p) (breaks_wanted a f line want)
+
+pub puts_wanted : {T : Type 0} (a : Option (List ℕ)) (f : ℕ) (line : List ℕ) (res : Result T LoopFault) (fault : LoopFault) (want : Want)
+    → res ≡ Err fault → fault ≡ NoMemory want → Puts a a f f line res
+puts_wanted a f line (Ok done) fault want p q = absurd cc
+puts_wanted a f line (Err other) fault want p q = wanted_as a f line other want cc
+
+pub prints_wanted : {T S : Type 0} (a : Option (List ℕ)) (f : ℕ) (new : S) (o : S × List Entry) (res : Result T LoopFault) (fault : LoopFault) (want : Want)
+    → res ≡ Err fault → fault ≡ NoMemory want → Prints a a f f new o res
+prints_wanted a f new o (Ok done) fault want p q = absurd cc
+prints_wanted a f new o (Err other) fault want p q = wanted_as a f (text o.1) other want cc
+
+pub wanted : {T S A : Type 0} (a : Option (List ℕ)) (f : ℕ) (new : S) (plain : A) (model : A → S × List Entry) (res : Result T LoopFault) (fault : LoopFault) (want : Want)
+    → res ≡ Err fault → fault ≡ NoMemory want → Chooses a a f f new model res
+wanted a f new plain model (Ok done) fault want p q = absurd cc
+wanted a f new plain model (Err other) fault want p q = record { answers = plain; breaks = wanted_as a f (text (model plain).1) other want cc }
 
 -- ---- texts
 
@@ -45,18 +74,16 @@ breaks_as a b f g xs ys fault p q = subst (λ z. Breaks a b f g z fault) p q
 
 -- a part that broke off, with all that would have come behind it
 pub breaks_more : (a b : Option (List ℕ)) (f g : ℕ) (xs ys : List ℕ) (fault : LoopFault) → Breaks a b f g xs fault → Breaks a b f g (xs ++ ys) fault
-breaks_more a b f g xs ys Wires p = p
-breaks_more a b f g xs ys Sink p = (part_more a b xs ys p.0, p.1)
-breaks_more a b f g xs ys (NoMemory want) p = p
+breaks_more a b f g xs ys fault p = record { begun = part_more a b xs ys p.begun; failed = p.failed }
+
+failed_behind : (f g h : ℕ) (fault : LoopFault) → f ≤ g → FailedFor fault g h → FailedFor fault f h
+failed_behind f g h Wires p q = q
+failed_behind f g h Sink p q = (let r : Rose g h = q in omega (arith, p, r))
+failed_behind f g h (NoMemory want) p q = (let r : g ≤ h = q in omega (arith, p, r))
 
 -- a part behind one that was done broke off
 pub breaks_behind : (a b c : Option (List ℕ)) (f g h : ℕ) (xs ys : List ℕ) (fault : LoopFault) → Grew a b xs → f ≤ g → Breaks b c g h ys fault → Breaks a c f h (xs ++ ys) fault
-breaks_behind a b c f g h xs ys Wires p q r = r
-breaks_behind a b c f g h xs ys Sink p q r = (part_then a b c xs ys p r.0, rose_later f g h q r.1)
-  where
-    rose_later : (f g h : ℕ) → f ≤ g → Rose g h → Rose f h
-    rose_later f g h p q = omega arith
-breaks_behind a b c f g h xs ys (NoMemory want) p q r = (let x : g ≤ h = r in omega arith)
+breaks_behind a b c f g h xs ys fault p q r = record { begun = part_then a b c xs ys p r.begun; failed = failed_behind f g h fault q r.failed }
 
 pub breaks_first : (a b : Option (List ℕ)) (f g : ℕ) (xs ys : List Entry) (fault : LoopFault) → Breaks a b f g (text xs) fault → Breaks a b f g (text (xs ++ ys)) fault
 breaks_first a b f g xs ys fault p = breaks_as a b f g (text xs ++ text ys) (text (xs ++ ys)) fault (sym (text_parts xs ys)) (breaks_more a b f g (text xs) (text ys) fault p)

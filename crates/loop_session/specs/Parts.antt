@@ -13,11 +13,17 @@ use Rattle.loop_session.specs.declared.loop_fault.LoopFault.TheVariants.{Wires, 
 abbrev pub rules : List keys.Entry → ℕ → Rules
 rules entries setup = record { keys = entries; setup = setup }
 
--- a part broke off: a beginning of its text was written where the sink failed
-abbrev pub Breaks : Option (List ℕ) → Option (List ℕ) → ℕ → ℕ → List ℕ → LoopFault → Type 0
-Breaks before now f g line Wires = ⊥
-Breaks before now f g line Sink = GrewPart before now line × Rose f g
-Breaks before now f g line (NoMemory want) = f ≤ g
+-- how often the sink failed, before a part that broke off and behind it: more often where it broke off for that; want of memory is no
+-- fault of the sink. No part that calls no wires breaks off for theirs
+abbrev pub FailedFor : LoopFault → ℕ → ℕ → Type 0
+FailedFor Wires f g = ⊥
+FailedFor Sink f g = Rose f g
+FailedFor (NoMemory want) f g = f ≤ g
+
+-- a part broke off, since the sink failed or memory ran out: a beginning of its text was written
+pub record Breaks (before now : Option (List ℕ)) (f g : ℕ) (line : List ℕ) (fault : LoopFault) : Type 0 where
+  pub begun : GrewPart before now line
+  pub failed : FailedFor fault f g
 
 -- a text was written, or the part broke off
 abbrev pub Puts : {T : Type 0} → Option (List ℕ) → Option (List ℕ) → ℕ → ℕ → List ℕ → Result T LoopFault → Type 0

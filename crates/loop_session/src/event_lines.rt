@@ -10,7 +10,7 @@ use er_trace::{Entry, Event, print_entry};
 use link_trait::Sink;
 
 /// Writes the lines of events, where there are any.
-#[tactic(auto, using(crate::proofs::Written::nothing_put))]
+#[tactic(auto, using(crate::proofs::Written::nothing_put, crate::proofs::Written::put_broke))]
 pub fn write_lines<S: Sink>(lines: &[u8], sink: &mut S) -> Result<(), LoopFault>
     ensures puts { Puts (S.held sink.old) (S.held sink.new) (S.faults sink.old) (S.faults sink.new) lines.now result }
     ensures later { S.faults sink.old ≤ S.faults sink.new }

@@ -1,6 +1,7 @@
--- Representation: how a part of the loop that calls wires ends: what it leaves, prints and calls, or where it breaks off; no claim rests on it.
+-- How a part of the loop that calls wires ends: what it leaves, prints and calls, or where it breaks off. What is seen of the outside, how
+-- wires answer, and how a beginning of calls was made are words of what is claimed of the loop, too.
 use Rattle.std.specs.Prelude.{◌≡◌, ℕ, ◌+◌, ◌-◌, ◌^◌, ◌≤◌, min, List, [], ◌∷◌, ◌++◌, length, Option, Result, Ok, Err}
-use Rattle.link_trait.specs.Outside.{Grew, GrewPart, Rose}
+use Rattle.link_trait.specs.Outside.{Grew, GrewPart}
 use Rattle.link_trait.specs.Wires.{Call, Listens, Dials, Turns, Reads, Writes, Closes, Reading, Gave, NotNow, End, Failed}
 use Rattle.link_trait.specs.declared.wires.WriteAnswer.{WriteAnswer}
 use Rattle.link_trait.specs.declared.wires.WriteAnswer.TheVariants as write
@@ -8,7 +9,7 @@ use Rattle.loop_model.specs.Journals.{text}
 use Rattle.loop_model.specs.Outs.{Out}
 use Rattle.loop_model.specs.Laws.{failures}
 use Rattle.loop_session.specs.declared.loop_fault.LoopFault.{LoopFault}
-use Rattle.loop_session.specs.declared.loop_fault.LoopFault.TheVariants.{Wires, Sink, NoMemory}
+use Rattle.loop_session.specs.Parts.{FailedFor}
 
 -- what is seen of a sink and of wires: the octets that it holds and how often it failed, the calls made and how often they failed
 pub record Seen : Type 0 where
@@ -67,11 +68,11 @@ pub record Began (a b : Seen) (all : List Call) : Type 0 where
   pub answered : AreAnsweredSo part
   pub counted : Counts a.failed b.failed part
 
--- a part broke off: a beginning of its text was written and a beginning of its calls was made where the sink failed
-abbrev pub BreaksAt : {S : Type 0} → Seen → Seen → Out S → LoopFault → Type 0
-BreaksAt a b o Wires = ⊥
-BreaksAt a b o Sink = GrewPart a.held b.held (text o.entries) × Began a b o.calls × Rose a.sunk b.sunk
-BreaksAt a b o (NoMemory want) = a.sunk ≤ b.sunk
+-- a part broke off, since the sink failed or memory ran out: a beginning of its text was written, and a beginning of its calls was made
+pub record BreaksAt {S : Type 0} (a b : Seen) (o : Out S) (fault : LoopFault) : Type 0 where
+  pub begun : GrewPart a.held b.held (text o.entries)
+  pub calls : Began a b o.calls
+  pub failed : FailedFor fault a.sunk b.sunk
 
 -- there are answers for which the model gives this state, prints what was written and makes the calls that were made
 pub record Did {S A : Type 0} (a b : Seen) (new : S) (model : A → Out S) : Type 0 where

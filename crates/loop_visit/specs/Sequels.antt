@@ -1,14 +1,15 @@
 -- One part of the loop behind another: lemmas on how parts end, for the proofs of the layers above.
-use Rattle.std.proofs.Common.{◌≡◌, ◌≤◌, ℕ, ◌+◌, ◌-◌, ◌^◌, min, true, false, List, [], ◌∷◌, ◌++◌, Option, refl, sym, ◌∙◌, ap, subst, append_assoc, arith}
+use Rattle.std.proofs.Common.{◌≡◌, ◌≤◌, ℕ, ◌+◌, ◌-◌, ◌^◌, min, true, false, List, [], ◌∷◌, ◌++◌, Option, refl, sym, ◌∙◌, ap, subst, append-nil, append_assoc, arith}
+use Rattle.er_base.specs.declared.no_memory.NoMemory.{NoMemory as Want}
 use Rattle.link_trait.specs.Outside.{Grew, GrewPart, Rose}
-use Rattle.link_trait.specs.Growth.{grew_nothing, grew_then, part_then, part_more}
+use Rattle.link_trait.specs.Growth.{grew_nothing, grew_then, part_nothing, part_whole, part_then, part_more}
 use Rattle.link_trait.specs.Wires.{Call}
 use Rattle.loop_model.specs.Journals.{Entry, entry_text, text}
 use Rattle.loop_model.specs.Outs.{Out, still, next, changed, prints, makes}
 use Rattle.loop_model.specs.Laws.{is_failed, failures}
 use Rattle.loop_session.specs.declared.loop_fault.LoopFault.{LoopFault}
 use Rattle.loop_session.specs.declared.loop_fault.LoopFault.TheVariants.{Wires, Sink, NoMemory}
-use Rattle.loop_session.specs.Parts.{Breaks, Printed}
+use Rattle.loop_session.specs.Parts.{FailedFor, Breaks, Printed}
 use Rattle.loop_visit.specs.Acting.{Seen, seen, IsAnsweredSo, AreAnsweredSo, Counts, Acted, Began, BreaksAt}
 
 -- ---- texts, answers and counts of both
@@ -133,36 +134,58 @@ began_none a b all same few = record {
   counted = counts_none a.failed b.failed few;
 }
 
+-- all of these calls were made
+pub began_whole : (a b : Seen) (all : List Call) → Grew a.calls b.calls all → AreAnsweredSo all → Counts a.failed b.failed all → Began a b all
+began_whole a b all told answered counted = record { part = all; rest = []; is = append-nil all; told = told; answered = answered; counted = counted }
+
+-- the sink failed no more often than before a part that went before
+pub failed_behind : (f g h : ℕ) (fault : LoopFault) → f ≤ g → FailedFor fault g h → FailedFor fault f h
+failed_behind f g h Wires p q = q
+failed_behind f g h Sink p q = (let r : Rose g h = q in omega (arith, p, r))
+failed_behind f g h (NoMemory want) p q = (let r : g ≤ h = q in omega (arith, p, r))
+
 -- the first of two parts broke off
 pub breaks_first : {S T : Type 0} (a b : Seen) (o : Out S) (f : S → Out T) (fault : LoopFault) → BreaksAt a b o fault → BreaksAt a b (next o f) fault
-breaks_first a b o f Wires p = p
-breaks_first a b o f Sink p = (
-  subst (λ z. GrewPart a.held b.held z) (sym (text_parts o.entries (f o.state).entries)) (part_more a.held b.held (text o.entries) (text (f o.state).entries) p.0),
-  began_more a b o.calls (f o.state).calls p.1,
-  p.2,
-)
-breaks_first a b o f (NoMemory want) p = p
+breaks_first a b o f fault p = record {
+  begun = subst (λ z. GrewPart a.held b.held z) (sym (text_parts o.entries (f o.state).entries)) (part_more a.held b.held (text o.entries) (text (f o.state).entries) p.begun);
+  calls = began_more a b o.calls (f o.state).calls p.calls;
+  failed = p.failed;
+}
 
 -- the second of two parts broke off
 pub breaks_next : {S T : Type 0} (a b c : Seen) (mid : S) (o : Out S) (f : S → Out T) (fault : LoopFault) → Acted a b mid o → BreaksAt b c (f mid) fault → BreaksAt a c (next o f) fault
-breaks_next a b c mid o f fault p q = behind fault (subst (λ z. BreaksAt b c (f z) fault) p.state q)
+breaks_next a b c mid o f fault p q = behind (subst (λ z. BreaksAt b c (f z) fault) p.state q)
   where
-    behind : (fault : LoopFault) → BreaksAt b c (f o.state) fault → BreaksAt a c (next o f) fault
-    behind Wires q = q
-    behind Sink q = (
-      subst (λ z. GrewPart a.held c.held z) (sym (text_parts o.entries (f o.state).entries)) (part_then a.held b.held c.held (text o.entries) (text (f o.state).entries) p.printed q.0),
-      began_then a b c o.calls (f o.state).calls p.told p.answered p.counted q.1,
-      (let x : a.sunk ≤ b.sunk = p.later in let y : Rose b.sunk c.sunk = q.2 in omega (arith, x, y)),
-    )
-    behind (NoMemory want) q = (let x : a.sunk ≤ b.sunk = p.later in let y : b.sunk ≤ c.sunk = q in omega (arith, x, y))
+    behind : BreaksAt b c (f o.state) fault → BreaksAt a c (next o f) fault
+    behind q = record {
+      begun = subst (λ z. GrewPart a.held c.held z) (sym (text_parts o.entries (f o.state).entries)) (part_then a.held b.held c.held (text o.entries) (text (f o.state).entries) p.printed q.begun);
+      calls = began_then a b c o.calls (f o.state).calls p.told p.answered p.counted q.calls;
+      failed = failed_behind a.sunk b.sunk c.sunk fault p.later q.failed;
+    }
 
 pub breaks_changed : {S T : Type 0} (a b : Seen) (g : S → T) (o : Out S) (fault : LoopFault) → BreaksAt a b o fault → BreaksAt a b (changed g o) fault
-breaks_changed a b g o Wires p = p
-breaks_changed a b g o Sink p = p
-breaks_changed a b g o (NoMemory want) p = p
+breaks_changed a b g o fault p = record { begun = p.begun; calls = p.calls; failed = p.failed }
 
 pub breaks_prints : {S : Type 0} (h i : Option (List ℕ)) (j k : ℕ) (c : Option (List Call)) (u : ℕ) (x : S × List Entry) (fault : LoopFault) → Breaks h i j k (text x.1) fault
     → BreaksAt (seen h j c u) (seen i k c u) (prints x) fault
-breaks_prints h i j k c u x Wires p = p
-breaks_prints h i j k c u x Sink p = (p.0, began_none (seen h j c u) (seen i k c u) [] refl (let z : u ≤ u = omega arith in z), p.1)
-breaks_prints h i j k c u x (NoMemory want) p = p
+breaks_prints h i j k c u x fault p = record {
+  begun = p.begun;
+  calls = began_none (seen h j c u) (seen i k c u) [] refl (let z : u ≤ u = omega arith in z);
+  failed = p.failed;
+}
+
+-- memory ran out before anything was printed and called
+pub breaks_wanted : {S : Type 0} (a : Seen) (o : Out S) (want : Want) → BreaksAt a a o (NoMemory want)
+breaks_wanted a o want = record {
+  begun = part_nothing a.held (text o.entries);
+  calls = began_none a a o.calls refl (let z : a.failed ≤ a.failed = omega arith in z);
+  failed = (let z : a.sunk ≤ a.sunk = omega arith in z);
+}
+
+-- memory ran out behind all that a part printed and called
+pub breaks_behind : {S : Type 0} (a b : Seen) (new : S) (o : Out S) (want : Want) → Acted a b new o → BreaksAt a b o (NoMemory want)
+breaks_behind a b new o want p = record {
+  begun = part_whole a.held b.held (text o.entries) p.printed;
+  calls = began_whole a b o.calls p.told p.answered p.counted;
+  failed = p.later;
+}

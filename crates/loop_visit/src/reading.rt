@@ -53,9 +53,9 @@ fn take_in<U: SafeUser, K: KeyFinder, S: Sink>(
 {
     match answer {
         ReadAnswer::Some(count) => session.pour(front(octets, count), keys, when, scratch, sink),
-        ReadAnswer::NotNow => Ok(()),
         ReadAnswer::End => session.ended(when, scratch, sink),
         ReadAnswer::Failed => session.fault(when, scratch, sink),
+        ReadAnswer::NotNow => Ok(()),
     }
 }
 

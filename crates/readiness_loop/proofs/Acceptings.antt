@@ -4,12 +4,13 @@ use Rattle.std.proofs.lemmas.List.{map-append}
 use Rattle.std.proofs.lemmas.Bool.Decides.{nat_tests}
 use Rattle.rand_core.specs.Stream.{Stream, next_u64}
 use Rattle.slab.specs.Slab.{Slab, get}
+use Rattle.er_base.specs.declared.no_memory.NoMemory.{NoMemory as Want}
 use Rattle.er_settings.specs.declared.settings.Settings.{Settings}
 use Rattle.er_trace.specs.declared.event.Event.{Event}
 use Rattle.er_trace.specs.declared.event.Event.TheVariants as event
 use Rattle.er_users.specs.Users.{Mind}
 use Rattle.link_trait.specs.Outside.{Grew, GrewPart, Rose}
-use Rattle.link_trait.specs.Growth.{grew_nothing}
+use Rattle.link_trait.specs.Growth.{grew_nothing, part_nothing, part_whole}
 use Rattle.link_trait.specs.Wires.{Call, Closes}
 use Rattle.loop_model.specs.Journals.{Entry, text}
 use Rattle.loop_model.specs.Outs.{Out, still}
@@ -19,7 +20,7 @@ use Rattle.loop_model.specs.Visits.{Met, nothing_met}
 use Rattle.loop_model.specs.Loops.{Plan, Loop, turned_away, next_user, other_users, answered_by, accepted, most_live}
 use Rattle.loop_session.specs.Parts.{Breaks, Puts}
 use Rattle.loop_session.specs.declared.loop_fault.LoopFault.{LoopFault}
-use Rattle.loop_session.specs.declared.loop_fault.LoopFault.TheVariants.{Wires, Sink, NoMemory}
+use Rattle.loop_session.specs.declared.loop_fault.LoopFault.TheVariants.{NoMemory}
 use Rattle.loop_visit.specs.Acting.{Seen, seen, AreAnsweredSo, Counts, Acted, Began, BreaksAt}
 use Rattle.readiness_loop.specs.Books.{seat, seats, sessions, sessions_at, IsSeat, AreSeated}
 use Rattle.std.specs.BTreeMap.{BTreeMap}
@@ -44,10 +45,33 @@ began_nothing h i f g calls failed all = record {
 -- a line that wasn't written whole
 pub line_breaks : {S : Type 0} (h i : Option (List ℕ)) (f g : ℕ) (calls : Option (List Call)) (failed : ℕ) (o : Out S) (line : List ℕ) (fault : LoopFault)
     → line ≡ text o.entries → Breaks h i f g line fault → BreaksAt (seen h f calls failed) (seen i g calls failed) o fault
-line_breaks h i f g calls failed o line Wires is p = p
-line_breaks h i f g calls failed o line Sink is p =
-    (subst (λ z. GrewPart h i z) is p.0, began_nothing h i f g calls failed o.calls, p.1)
-line_breaks h i f g calls failed o line (NoMemory want) is p = p
+line_breaks h i f g calls failed o line fault is p = record {
+  begun = subst (λ z. GrewPart h i z) is p.begun;
+  calls = began_nothing h i f g calls failed o.calls;
+  failed = p.failed;
+}
+
+-- the event that opens a session that answers, with this random word
+abbrev pub answer_line : (rbc moment conn ra : ℕ) → Entry
+answer_line rbc moment conn ra = record { moment = moment; conn = conn; event = event.Answer rbc ra; outcomes = [] }
+
+-- memory ran out before a line was written, and behind it
+pub line_wanted : (a : Option (List ℕ)) (f : ℕ) (line : List ℕ) (want : Want) → Breaks a a f f line (NoMemory want)
+line_wanted a f line want = record { begun = part_nothing a line; failed = (let p : f ≤ f = omega arith in p) }
+
+pub puts_wanted : {T : Type 0} (a : Option (List ℕ)) (f : ℕ) (line : List ℕ) (r : Result T LoopFault) (fault : LoopFault) (want : Want)
+    → r ≡ Err fault → fault ≡ NoMemory want → Puts a a f f line r
+puts_wanted a f line (Ok done) fault want p q = absurd cc
+puts_wanted a f line (Err other) fault want p q =
+    let same : other ≡ NoMemory want = cc in
+    subst (λ z. Breaks a a f f line z) (sym same) (line_wanted a f line want)
+
+pub puts_behind : {T : Type 0} (a b : Option (List ℕ)) (f g : ℕ) (line : List ℕ) (r : Result T LoopFault) (fault : LoopFault) (want : Want)
+    → Grew a b line × (f ≤ g) → r ≡ Err fault → fault ≡ NoMemory want → Puts a b f g line r
+puts_behind a b f g line (Ok done) fault want put p q = absurd cc
+puts_behind a b f g line (Err other) fault want put p q =
+    let same : other ≡ NoMemory want = cc in
+    subst (λ z. Breaks a b f g line z) (sym same) (record { begun = part_whole a b line put.0; failed = put.1 })
 
 -- the event of a connection that is turned away
 abbrev away_event : ℕ → ℕ → Event → Entry

@@ -10,8 +10,11 @@ use Rattle.loop_model.specs.Outs.{Out, still}
 use Rattle.loop_model.specs.Sessions.{Session}
 use Rattle.loop_model.specs.Visits.{Met, nothing_met}
 use Rattle.loop_model.specs.Loops.{visit_at}
+use Rattle.er_base.specs.declared.no_memory.NoMemory.{NoMemory as Want}
 use Rattle.loop_session.specs.declared.loop_fault.LoopFault.{LoopFault}
+use Rattle.loop_session.specs.declared.loop_fault.LoopFault.TheVariants.{NoMemory}
 use Rattle.loop_visit.specs.Acting.{Seen, Acted, BreaksAt, Did, Stopped}
+use Rattle.loop_visit.specs.Sequels.{breaks_behind}
 use Rattle.loop_visit.specs.Visiting.{left}
 use Rattle.readiness_loop.specs.Books.{seats, sessions, sessions_at, IsSeat, IsApart, AreSeated}
 use Rattle.readiness_loop.proofs.Sequences.{acted_as, acted_still, breaks_as}
@@ -93,3 +96,11 @@ stopped_visit a b f newest n k slots places s fault p q r h = record {
   breaks = breaks_as a b (f s h.answers) (visit_at f n (sessions slots places) h.answers) fault
       (visit_says f newest n k slots places.entries s h.answers p q r) h.breaks;
 }
+
+-- memory ran out behind it
+pub wanted_visit : (a b : Seen) (f : Session → Met → Out (List Session)) (newest n k : ℕ) (slots : Slab Session) (places : BTreeMap ℕ ℕ) (s t : Session) (stays : Bool) (want : Want)
+    → AreSeated newest slots places.entries → place_of n places.entries ≡ Some k → get slots k ≡ Some s
+    → Did a b (left stays t) (f s) → Stopped a b (visit_at f n (sessions slots places)) (NoMemory want)
+wanted_visit a b f newest n k slots places s t stays want p q r did =
+    stopped_visit a b f newest n k slots places s (NoMemory want) p q r
+    (record { answers = did.answers; breaks = breaks_behind a b (left stays t) (f s did.answers) want did.is })

@@ -19,6 +19,7 @@ use Rattle.loop_session.specs.Parts.{rules}
 use Rattle.loop_session.specs.declared.loop_fault.LoopFault.{LoopFault}
 use Rattle.loop_session.specs.declared.loop_fault.LoopFault.TheVariants.{Wires, Sink, NoMemory}
 use Rattle.loop_visit.specs.Acting.{Seen, Acted, BreaksAt, Did, Stopped, Does}
+use Rattle.loop_visit.specs.Sequels.{breaks_wanted, breaks_behind}
 use Rattle.loop_visit.specs.Visiting.{left, Visits}
 use Rattle.readiness_loop.specs.Books.{sessions, AreSeated}
 use Rattle.readiness_loop.specs.Courses.{Around, around, Came, Went, WentOff, loop_of, course_of, opening, Opened, Opens, halt_if}
@@ -28,8 +29,16 @@ use Rattle.readiness_loop.proofs.Openings.{OpensNone, served_opens}
 
 -- ---- the session that calls
 
-pub want_later : {S : Type 0} (a b : Seen) (model : Met → Out S) (want : Want) → a.sunk ≤ b.sunk → Stopped a b model (NoMemory want)
-want_later a b model want p = record { answers = nothing_met; breaks = p }
+-- memory ran out before it began
+pub want_first : {S : Type 0} (a : Seen) (model : Met → Out S) (want : Want) → Stopped a a model (NoMemory want)
+want_first a model want = record { answers = nothing_met; breaks = breaks_wanted a (model nothing_met) want }
+
+-- memory ran out behind it
+pub want_behind : (a b : Seen) (s : Session) (stays : Bool) (model model' : Met → Out (List Session)) (want : Want)
+    → model ≡ model' → Visits a b s model (Ok stays) → Stopped a b model' (NoMemory want)
+want_behind a b s stays model model' want same did =
+    subst (λ z. Stopped a b z (NoMemory want)) same
+    (record { answers = did.answers; breaks = breaks_behind a b (left stays s) (model did.answers) want did.is })
 
 pub call_model : (entries : List keys.Entry) (setup setup' m m' : ℕ) (s s' : Session) (engine rbc rb rb' : ℕ) → setup ≡ setup' → m ≡ m' → s ≡ s' → rb ≡ rb'
     → served (rules entries setup) m s (Begins engine rbc rb) ≡ served (rules entries setup') m' s' (Begins engine rbc rb')
@@ -116,6 +125,18 @@ called_moment plan caller l conn a = called_by_moment (next_user l.users) plan c
 pub opening_opens : (plan : Plan) (caller : Caller) (c : Course) (conn : ℕ) (x : ℕ × Met) → OpensNone (opening plan caller c conn x)
 opening_opens plan caller c conn x = called_opens plan caller (record c.loop { moment = max c.loop.moment x.0 }) conn x.1
 
+opened_off : (plan : Plan) (caller : Caller) (a b : Around) (l : Loop) (n m first conn : ℕ) (asked : List ℕ) (fault : LoopFault)
+    → m ≡ max l.moment first → Stopped a.seen b.seen (called plan caller (record l { moment = m }) conn) fault
+    → WentOff (opening plan caller (course_of l n asked) conn) a b fault
+opened_off plan caller a b l n m first conn asked fault moment did =
+    let o = called plan caller (record l { moment = max l.moment first }) conn did.answers in
+    let c = course_of l n asked in
+    let breaks : BreaksAt a.seen b.seen o fault = subst (λ z. BreaksAt a.seen b.seen (called plan caller (record l { moment = z }) conn did.answers) fault) moment did.breaks in
+    record {
+      answers = (first, did.answers);
+      breaks = breaks_as a.seen b.seen o (opening plan caller c conn (first, did.answers)) fault (record { entries = refl; calls = refl }) breaks;
+    }
+
 pub opened_so : (plan : Plan) (caller : Caller) (a b : Around) (l new : Loop) (n m first conn : ℕ) (asked : List ℕ) (r : Result Bool LoopFault)
     → m ≡ max l.moment first → first ≤ 1000000000000000 → Grew a.asked b.asked (first ∷ [])
     → Does a.seen b.seen new (called plan caller (record l { moment = m }) conn) r
@@ -146,16 +167,10 @@ opened_so plan caller a b l new n m first conn asked (Ok stays) moment early clo
       };
       early = early;
     }
-opened_so plan caller a b l new n m first conn asked (Err Wires) moment early clock did top fails halts = did.breaks
-opened_so plan caller a b l new n m first conn asked (Err Sink) moment early clock did top fails halts =
-    let o = called plan caller (record l { moment = max l.moment first }) conn did.answers in
-    let c = course_of l n asked in
-    let breaks : BreaksAt a.seen b.seen o Sink = subst (λ z. BreaksAt a.seen b.seen (called plan caller (record l { moment = z }) conn did.answers) Sink) moment did.breaks in
-    record {
-      answers = (first, did.answers);
-      breaks = breaks_as a.seen b.seen o (opening plan caller c conn (first, did.answers)) Sink (record { entries = refl; calls = refl }) breaks;
-    }
-opened_so plan caller a b l new n m first conn asked (Err (NoMemory want)) moment early clock did top fails halts = tt
+opened_so plan caller a b l new n m first conn asked (Err Wires) moment early clock did top fails halts = did.breaks.failed
+opened_so plan caller a b l new n m first conn asked (Err Sink) moment early clock did top fails halts = opened_off plan caller a b l n m first conn asked Sink moment did
+opened_so plan caller a b l new n m first conn asked (Err (NoMemory want)) moment early clock did top fails halts =
+    opened_off plan caller a b l n m first conn asked (NoMemory want) moment did
 
 -- why it halts behind the opening
 pub halt_stays : (plan : Plan) (ss : List Session) (n : ℕ) (stays : Bool) → plan.dials ≡ true → length ss ≡ n → (n == 0) ≡ (if stays then false else true)

@@ -3,12 +3,13 @@ use Rattle.std.proofs.Common.{◌≡◌, ℕ, ◌+◌, ◌-◌, ◌^◌, ◌<◌
 use Rattle.std.specs.Prelude.{IfOk, ◌==◌, ◌&&◌, if◌then◌else◌}
 use Rattle.std.proofs.lemmas.Bool.Decides.{nat_tests}
 use Rattle.rand_core.specs.Stream.{Stream}
+use Rattle.er_base.specs.declared.no_memory.NoMemory.{NoMemory as Want}
 use Rattle.des_block.specs.declared.triple_key.TripleKey.{TripleKey}
 use Rattle.safety_automaton.specs.Keys.{key_at}
 use Rattle.er_settings.specs.Ranges.{AllAllowed}
 use Rattle.er_users.specs.Users.{Mind}
 use Rattle.link_trait.specs.Outside.{Grew, GrewPart, Rose}
-use Rattle.link_trait.specs.Growth.{grew_nothing, grew_then, part_more, part_then}
+use Rattle.link_trait.specs.Growth.{grew_nothing, grew_then, part_nothing, part_more, part_then}
 use Rattle.link_trait.specs.Wires as wires
 use Rattle.link_trait.specs.Wires.{Call, given_of, taken_of}
 use Rattle.loop_model.specs.Journals.{header, text}
@@ -18,14 +19,14 @@ use Rattle.link_trait.specs.declared.wires.Happening.{Happening}
 use Rattle.loop_model.specs.Loops.{Plan, Loop, Caller, Halt, OnClosed, OnFailed, Course, Turn, asks, opens, dials_to, run, nothing_comes, beginning, Dialled, dials, printed, went}
 use Rattle.loop_model.specs.Parts.{opened_in, Rises, newest, calls_at}
 use Rattle.loop_model.specs.Laws.{IsDialling, RunsSo, HasFailed, faults, failures, turns_of, HaltsBy, greatest}
-use Rattle.loop_session.specs.Parts.{Breaks}
+use Rattle.loop_session.specs.Parts.{FailedFor, Breaks}
 use Rattle.loop_session.specs.declared.loop_fault.LoopFault.{LoopFault}
 use Rattle.loop_session.specs.declared.loop_fault.LoopFault.TheVariants.{Wires, Sink, NoMemory}
 use Rattle.loop_visit.specs.Acting.{Seen, Acted, Counts, BreaksAt}
 use Rattle.readiness_loop.specs.declared.line_plan.Served.{Served}
 use Rattle.readiness_loop.specs.Claims.{Outside, pair_of, IsDone, IsBegun, IsLawful, HasTurns, AreSpoken, HasDialled, NotDialling, LineFailed, FailsToDial, BreaksOffDialling, halt_for}
 use Rattle.readiness_loop.specs.Courses.{Around, Came, Went, WentOff, WentWrong, Runs, Dials, outside_of, course_of, opening, Opened, Opens, caller_of, halt_if}
-use Rattle.loop_visit.specs.Sequels.{breaks_first, began_then}
+use Rattle.loop_visit.specs.Sequels.{breaks_first, began_none, began_then, failed_behind}
 use Rattle.readiness_loop.proofs.Sequences.{acted_then, breaks_then}
 use Rattle.readiness_loop.proofs.Sweeps.{after}
 use Rattle.readiness_loop.proofs.Openings.{turns_of-append}
@@ -211,23 +212,36 @@ dial_done laws engine rbc kmac plan a m b minds words address conn new count why
     }
 
 -- a beginning was printed
-dial_begun : (plan : Plan) (caller : Caller) (a m b : Around) (minds : List Mind) (words : Stream) (address : List ℕ) (conn : ℕ) (x : Dialled)
-    → x.conn ≡ Some conn → HasBegun plan (wires.Dials address (Some conn)) a m → BreaksAt m.seen b.seen (whole plan caller (beginning minds words) conn x) Sink
-    → BreaksOffDialling (outside_of a) (outside_of b) plan caller address minds words × Rose a.seen.sunk b.seen.sunk
+dial_begun : (plan : Plan) (caller : Caller) (a m b : Around) (minds : List Mind) (words : Stream) (address : List ℕ) (conn : ℕ) (x : Dialled) (fault : LoopFault)
+    → x.conn ≡ Some conn → HasBegun plan (wires.Dials address (Some conn)) a m → BreaksAt m.seen b.seen (whole plan caller (beginning minds words) conn x) fault
+    → BreaksOffDialling (outside_of a) (outside_of b) plan caller address minds words
 unfolding printed
-dial_begun plan caller a m b minds words address conn x is begun breaks =
+dial_begun plan caller a m b minds words address conn x fault is begun breaks =
     let c = beginning minds words in
-    let o = whole plan caller c conn x in (
-      record {
-        answers = x;
-        begun = subst (λ z. IsBegun (outside_of a) (outside_of b) plan z) (sym (dials_is plan caller c address conn x is))
-            (record {
-              text = part_then a.seen.held m.seen.held b.seen.held (header plan.settings) (text o.entries) begun.text breaks.0;
-              calls = began_then a.seen m.seen b.seen (wires.Dials address (Some conn) ∷ []) o.calls begun.calls (tt, tt) (first_counts a.seen.failed m.seen.failed address conn begun.failed) breaks.1;
-            });
-      },
-      rose_past a.seen.sunk m.seen.sunk b.seen.sunk begun.sunk breaks.2,
-    )
+    let o = whole plan caller c conn x in
+    record {
+      answers = x;
+      begun = subst (λ z. IsBegun (outside_of a) (outside_of b) plan z) (sym (dials_is plan caller c address conn x is))
+          (record {
+            text = part_then a.seen.held m.seen.held b.seen.held (header plan.settings) (text o.entries) begun.text breaks.begun;
+            calls = began_then a.seen m.seen b.seen (wires.Dials address (Some conn) ∷ []) o.calls begun.calls (tt, tt) (first_counts a.seen.failed m.seen.failed address conn begun.failed) breaks.calls;
+          });
+    }
+
+-- the run behind the opening broke off
+dial_off : (plan : Plan) (caller : Caller) (a m k b : Around) (minds : List Mind) (words : Stream) (address : List ℕ) (conn : ℕ) (l : Loop) (fault : LoopFault)
+    → HasBegun plan (wires.Dials address (Some conn)) a m → (p : Opened plan caller m k (beginning minds words) conn l 0 None)
+    → ((asked : List ℕ) → WentOff (run plan (course_of l 0 asked)) k b fault)
+    → BreaksOffDialling (outside_of a) (outside_of b) plan caller address minds words × FailedFor fault a.seen.sunk b.seen.sunk
+unfolding met_so
+dial_off plan caller a m k b minds words address conn l fault begun p q =
+    let c = beginning minds words in
+    let x = p.went.answers in
+    let o = opening plan caller c conn x in
+    let e = o.state in
+    let w : WentOff (run plan e) k b fault = subst (λ (z : Course). WentOff (run plan z) k b fault) (course_is m k c l 0 o p.went.is) (q e.asked) in
+    let breaks = breaks_then m.seen k.seen b.seen e o (λ z. run plan z w.answers) fault p.went.is.acted w.breaks in
+    (dial_begun plan caller a m b minds words address conn (met_so conn x w.answers) fault refl begun breaks, failed_behind a.seen.sunk m.seen.sunk b.seen.sunk fault begun.sunk breaks.failed)
 
 -- the run, however it ended
 pub dial_ran : (laws : Laws) (engine rbc : ℕ) (kmac : TripleKey) (plan : Plan) (a m k b : Around) (minds : List Mind) (words : Stream) (address : List ℕ) (conn : ℕ) (l new : Loop) (count : ℕ) (r : Result Served LoopFault)
@@ -247,15 +261,9 @@ dial_ran laws engine rbc kmac plan a m k b minds words address conn l new count 
       rose_past a.turns_failed k.turns_failed b.turns_failed (omega (arith, x, y)) (q []).rose),
 )
 dial_ran laws engine rbc kmac plan a m k b minds words address conn l new count (Err Sink) allowed keys number top above begun p later q =
-    let caller = caller_of engine kmac in
-    let c = beginning minds words in
-    let x = p.went.answers in
-    let o = opening plan caller c conn x in
-    let e = o.state in
-    let w : WentOff (run plan e) k b = subst (λ (z : Course). WentOff (run plan z) k b) (course_is m k c l 0 o p.went.is) (q e.asked) in
-    dial_begun plan caller a m b minds words address conn (met_so conn x w.answers) refl begun
-    (breaks_then m.seen k.seen b.seen e o (λ z. run plan z w.answers) Sink p.went.is.acted w.breaks)
-dial_ran laws engine rbc kmac plan a m k b minds words address conn l new count (Err (NoMemory want)) allowed keys number top above begun p later q = later
+    dial_off plan (caller_of engine kmac) a m k b minds words address conn l Sink begun p q
+dial_ran laws engine rbc kmac plan a m k b minds words address conn l new count (Err (NoMemory want)) allowed keys number top above begun p later q =
+    dial_off plan (caller_of engine kmac) a m k b minds words address conn l (NoMemory want) begun p q
 
 -- the connection was closed at once
 pub dial_closed : (laws : Laws) (engine rbc : ℕ) (kmac : TripleKey) (plan : Plan) (a m b : Around) (minds : List Mind) (words : Stream) (address : List ℕ) (conn : ℕ) (l : Loop) (stays : Bool)
@@ -268,37 +276,63 @@ dial_closed laws engine rbc kmac plan a m b minds words address conn l stays all
     (subst (λ z. Opened plan (caller_of engine kmac) m b (beginning minds words) conn l 0 (halt_if z)) closed p))
 
 -- the opening broke off
+opening_off : (plan : Plan) (caller : Caller) (a m b : Around) (minds : List Mind) (words : Stream) (address : List ℕ) (conn : ℕ) (fault : LoopFault)
+    → HasBegun plan (wires.Dials address (Some conn)) a m → WentOff (opening plan caller (beginning minds words) conn) m b fault
+    → BreaksOffDialling (outside_of a) (outside_of b) plan caller address minds words × FailedFor fault a.seen.sunk b.seen.sunk
+unfolding met_so
+opening_off plan caller a m b minds words address conn fault begun p = (
+  dial_begun plan caller a m b minds words address conn (met_so conn p.answers []) fault refl begun
+      (breaks_first m.seen b.seen (opening plan caller (beginning minds words) conn p.answers) (λ e. run plan e []) fault p.breaks),
+  failed_behind a.seen.sunk m.seen.sunk b.seen.sunk fault begun.sunk p.breaks.failed,
+)
+
 pub dial_stops : (plan : Plan) (caller : Caller) (a m b : Around) (minds : List Mind) (words : Stream) (address : List ℕ) (conn : ℕ) (new : Loop) (n : ℕ) (fault : LoopFault)
     → HasBegun plan (wires.Dials address (Some conn)) a m → a.seen.sunk ≤ b.seen.sunk
     → Opens plan caller m b (beginning minds words) conn new n (Err fault) → Dials plan caller a b minds words address (Err fault)
-unfolding met_so
 dial_stops plan caller a m b minds words address conn new n Wires begun later p = absurd p
-dial_stops plan caller a m b minds words address conn new n Sink begun later p =
-    dial_begun plan caller a m b minds words address conn (met_so conn p.answers []) refl begun
-    (breaks_first m.seen b.seen (opening plan caller (beginning minds words) conn p.answers) (λ e. run plan e []) Sink p.breaks)
-dial_stops plan caller a m b minds words address conn new n (NoMemory want) begun later p = later
+dial_stops plan caller a m b minds words address conn new n Sink begun later p = opening_off plan caller a m b minds words address conn Sink begun p
+dial_stops plan caller a m b minds words address conn new n (NoMemory want) begun later p = opening_off plan caller a m b minds words address conn (NoMemory want) begun p
 
 -- the header broke off
+dial_header_off : (plan : Plan) (caller : Caller) (a b : Around) (minds : List Mind) (words : Stream) (address : List ℕ) (conn : ℕ)
+    → Grew a.seen.calls b.seen.calls (wires.Dials address (Some conn) ∷ []) → a.seen.failed ≤ b.seen.failed → GrewPart a.seen.held b.seen.held (header plan.settings)
+    → BreaksOffDialling (outside_of a) (outside_of b) plan caller address minds words
+unfolding printed met_so
+dial_header_off plan caller a b minds words address conn told less p =
+    let c = beginning minds words in
+    let x = met_so conn (0, nothing_met) [] in
+    let o = whole plan caller c conn x in
+    record {
+      answers = x;
+      begun = subst (λ z. IsBegun (outside_of a) (outside_of b) plan z) (sym (dials_is plan caller c address conn x refl))
+          (record {
+            text = part_more a.seen.held b.seen.held (header plan.settings) (text o.entries) p;
+            calls = record { part = wires.Dials address (Some conn) ∷ []; rest = o.calls; is = refl; told = told; answered = (tt, tt); counted = first_counts a.seen.failed b.seen.failed address conn less };
+          });
+    }
+
 pub dial_header_stops : (plan : Plan) (caller : Caller) (a b : Around) (minds : List Mind) (words : Stream) (address : List ℕ) (conn : ℕ) (fault : LoopFault)
     → Grew a.seen.calls b.seen.calls (wires.Dials address (Some conn) ∷ []) → a.seen.failed ≤ b.seen.failed
     → Breaks a.seen.held b.seen.held a.seen.sunk b.seen.sunk (header plan.settings) fault → Dials plan caller a b minds words address (Err fault)
-unfolding printed met_so
-dial_header_stops plan caller a b minds words address conn Wires told less p = absurd p
-dial_header_stops plan caller a b minds words address conn Sink told less p =
-    let c = beginning minds words in
-    let x = met_so conn (0, nothing_met) [] in
-    let o = whole plan caller c conn x in (
+dial_header_stops plan caller a b minds words address conn Wires told less p = absurd p.failed
+dial_header_stops plan caller a b minds words address conn Sink told less p = (dial_header_off plan caller a b minds words address conn told less p.begun, p.failed)
+dial_header_stops plan caller a b minds words address conn (NoMemory want) told less p = (dial_header_off plan caller a b minds words address conn told less p.begun, p.failed)
+
+-- memory ran out before it dialled
+pub dial_wanted : (plan : Plan) (caller : Caller) (a : Around) (minds : List Mind) (words : Stream) (address : List ℕ) (want : Want)
+    → Dials plan caller a a minds words address (Err (NoMemory want))
+dial_wanted plan caller a minds words address want =
+    let x : Dialled = record { conn = None; first = 0; met = nothing_met; turns = [] } in
+    let o = dials plan caller (beginning minds words) address x in (
       record {
         answers = x;
-        begun = subst (λ z. IsBegun (outside_of a) (outside_of b) plan z) (sym (dials_is plan caller c address conn x refl))
-            (record {
-              text = part_more a.seen.held b.seen.held (header plan.settings) (text o.entries) p.0;
-              calls = record { part = wires.Dials address (Some conn) ∷ []; rest = o.calls; is = refl; told = told; answered = (tt, tt); counted = first_counts a.seen.failed b.seen.failed address conn less };
-            });
+        begun = record {
+          text = part_nothing a.seen.held (printed true plan o.entries);
+          calls = began_none a.seen a.seen o.calls refl (let z : a.seen.failed ≤ a.seen.failed = omega arith in z);
+        };
       },
-      p.1,
+      (let z : a.seen.sunk ≤ a.seen.sunk = omega arith in z),
     )
-dial_header_stops plan caller a b minds words address conn (NoMemory want) told less p = p
 
 -- it never dialled
 pub never_dials : (plan : Plan) (caller : Caller) (a b : Around) (minds : List Mind) (words : Stream) (address : List ℕ)
@@ -371,6 +405,15 @@ dial_off_of plan caller a b minds words address r p is = (subst (λ z. Dials pla
 pub dial_sunk_of : (plan : Plan) (caller : Caller) (a b : Around) (minds : List Mind) (words : Stream) (address : List ℕ) (r : Result Served LoopFault) → Dials plan caller a b minds words address r
     → r ≡ Err Sink → Rose a.seen.sunk b.seen.sunk
 dial_sunk_of plan caller a b minds words address r p is = (subst (λ z. Dials plan caller a b minds words address z) is p).1
+
+pub dial_memory_of : (plan : Plan) (caller : Caller) (a b : Around) (minds : List Mind) (words : Stream) (address : List ℕ) (r : Result Served LoopFault) → Dials plan caller a b minds words address r
+    → (want : Want) → r ≡ Err (NoMemory want) → BreaksOffDialling (outside_of a) (outside_of b) plan caller address minds words
+dial_memory_of plan caller a b minds words address r p want is = (subst (λ z. Dials plan caller a b minds words address z) is p).0
+
+pub dial_memory_as : (plan plan' : Plan) (caller : Caller) (a b : Around) (minds : List Mind) (words : Stream) (address : List ℕ) (r : Result Served LoopFault) → plan ≡ plan' → Dials plan caller a b minds words address r
+    → (want : Want) → r ≡ Err (NoMemory want) → BreaksOffDialling (outside_of a) (outside_of b) plan' caller address minds words
+dial_memory_as plan plan' caller a b minds words address r same p want is =
+    subst (λ z. BreaksOffDialling (outside_of a) (outside_of b) z caller address minds words) same (dial_memory_of plan caller a b minds words address r p want is)
 
 pub dial_failed_as : (plan plan' : Plan) (caller : Caller) (a b : Around) (minds : List Mind) (words : Stream) (address : List ℕ) (r : Result Served LoopFault) → plan ≡ plan' → Dials plan caller a b minds words address r
     → r ≡ Err Wires → FailsToDial (outside_of a) (outside_of b) plan' caller address minds words

@@ -79,12 +79,12 @@ go_came plan a m b l new ss n count first at asked h moment clock did top fails 
       };
     }
 
-pub go_off : (plan : Plan) (a m b : Around) (l : Loop) (ss : List Session) (n first at : ℕ) (asked : List ℕ)
+pub go_off : (plan : Plan) (a m b : Around) (l : Loop) (ss : List Session) (n first at : ℕ) (asked : List ℕ) (fault : LoopFault)
     → at ≡ max l.moment first → Did a.seen m.seen ss (before (rules_of plan) at l.sessions) → None ≡ halt_by plan ss
-    → WentOff (turned_unless None plan (course_of (record l { sessions = ss; moment = at }) n (asked ++ first ∷ []))) m b
-    → WentOff (went plan (course_of l n asked)) a b
+    → WentOff (turned_unless None plan (course_of (record l { sessions = ss; moment = at }) n (asked ++ first ∷ []))) m b fault
+    → WentOff (went plan (course_of l n asked)) a b fault
 unfolding went
-go_off plan a m b l ss n first at asked moment did none q =
+go_off plan a m b l ss n first at asked fault moment did none q =
     let x : Turn = record q.answers { first = first; sweeps = did.answers } in
     let c = course_of l n asked in
     let r = readied plan c x in
@@ -96,8 +96,8 @@ go_off plan a m b l ss n first at asked moment did none q =
     ∙ acted.state in
     record {
       answers = x;
-      breaks = breaks_then a.seen m.seen b.seen (readied_to plan l n asked first ss) r (λ z. turned_unless z.halt plan z x) Sink acted
-          (subst (λ (z : Course). BreaksAt m.seen b.seen (turned_unless z.halt plan z x) Sink) there q.breaks);
+      breaks = breaks_then a.seen m.seen b.seen (readied_to plan l n asked first ss) r (λ z. turned_unless z.halt plan z x) fault acted
+          (subst (λ (z : Course). BreaksAt m.seen b.seen (turned_unless z.halt plan z x) fault) there q.breaks);
     }
 
 pub go_on : (plan : Plan) (a m b : Around) (l new : Loop) (ss : List Session) (n count first at : ℕ) (asked : List ℕ) (r : Result Next LoopFault)
@@ -111,27 +111,32 @@ go_on plan a m b l new ss n count first at asked (Err Wires) moment clock did to
   went = go_came plan a m b l new ss n count first at asked (Some OnFailed) moment clock did top fails none q.went;
   rose = subst (λ z. Rose z b.turns_failed) fails q.rose;
 }
-go_on plan a m b l new ss n count first at asked (Err Sink) moment clock did top fails none q = go_off plan a m b l ss n first at asked moment did none q
+go_on plan a m b l new ss n count first at asked (Err Sink) moment clock did top fails none q = go_off plan a m b l ss n first at asked Sink moment did none q
 go_on plan a m b l new ss n count first at asked (Err (NoMemory want)) moment clock did top fails none q =
-    (let x : a.seen.sunk ≤ m.seen.sunk = did.is.later in let y : m.seen.sunk ≤ b.seen.sunk = q in omega (arith, x, y))
+    go_off plan a m b l ss n first at asked (NoMemory want) moment did none q
 
 -- what comes before the turn broke off
-pub go_stops : (plan : Plan) (a b : Around) (l new : Loop) (n count first at : ℕ) (asked : List ℕ) (fault : LoopFault)
+before_off : (plan : Plan) (a b : Around) (l : Loop) (n first at : ℕ) (asked : List ℕ) (fault : LoopFault)
     → at ≡ max l.moment first → Stopped a.seen b.seen (before (rules_of plan) at l.sessions) fault
-    → Turns plan a b (course_of l n asked) new count (Err fault)
+    → WentOff (went plan (course_of l n asked)) a b fault
 unfolding went readied
-go_stops plan a b l new n count first at asked Wires moment p = absurd p.breaks
-go_stops plan a b l new n count first at asked Sink moment p =
+before_off plan a b l n first at asked fault moment p =
     let x : Turn = record nothing_comes { first = first; sweeps = p.answers } in
     let c = course_of l n asked in
     let o = before (rules_of plan) (max l.moment first) l.sessions p.answers in
-    let breaks : BreaksAt a.seen b.seen o Sink = subst (λ z. BreaksAt a.seen b.seen (before (rules_of plan) z l.sessions p.answers) Sink) moment p.breaks in
+    let breaks : BreaksAt a.seen b.seen o fault = subst (λ z. BreaksAt a.seen b.seen (before (rules_of plan) z l.sessions p.answers) fault) moment p.breaks in
     record {
       answers = x;
-      breaks = breaks_first a.seen b.seen (readied plan c x) (λ z. turned_unless z.halt plan z x) Sink
-          (breaks_as a.seen b.seen o (readied plan c x) Sink (record { entries = refl; calls = refl }) breaks);
+      breaks = breaks_first a.seen b.seen (readied plan c x) (λ z. turned_unless z.halt plan z x) fault
+          (breaks_as a.seen b.seen o (readied plan c x) fault (record { entries = refl; calls = refl }) breaks);
     }
-go_stops plan a b l new n count first at asked (NoMemory want) moment p = p.breaks
+
+pub go_stops : (plan : Plan) (a b : Around) (l new : Loop) (n count first at : ℕ) (asked : List ℕ) (fault : LoopFault)
+    → at ≡ max l.moment first → Stopped a.seen b.seen (before (rules_of plan) at l.sessions) fault
+    → Turns plan a b (course_of l n asked) new count (Err fault)
+go_stops plan a b l new n count first at asked Wires moment p = absurd p.breaks.failed
+go_stops plan a b l new n count first at asked Sink moment p = before_off plan a b l n first at asked Sink moment p
+go_stops plan a b l new n count first at asked (NoMemory want) moment p = before_off plan a b l n first at asked (NoMemory want) moment p
 
 -- it closed the one connection of a dial
 pub go_closed : (plan : Plan) (a b : Around) (l : Loop) (ss : List Session) (n first at : ℕ) (asked : List ℕ)

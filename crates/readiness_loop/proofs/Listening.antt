@@ -5,13 +5,14 @@ use Rattle.rand_core.specs.Stream.{Stream}
 use Rattle.slab.specs.Slab.{Slab}
 use Rattle.std.specs.BTreeMap.{BTreeMap}
 use Rattle.er_base.specs.LineTexts.{line_text}
+use Rattle.er_base.specs.declared.no_memory.NoMemory.{NoMemory as Want}
 use Rattle.er_settings.specs.declared.settings.Settings.{Settings}
 use Rattle.er_settings.specs.Ranges.{AllAllowed}
 use Rattle.er_trace.specs.Texts.{header_words}
 use Rattle.loop_model.specs.Sessions.{Session}
 use Rattle.er_users.specs.Users.{Mind}
 use Rattle.link_trait.specs.Outside.{Grew, GrewPart, Rose}
-use Rattle.link_trait.specs.Growth.{grew_nothing, grew_then, part_more, part_then}
+use Rattle.link_trait.specs.Growth.{grew_nothing, grew_then, part_nothing, part_more, part_then}
 use Rattle.link_trait.specs.Wires.{Call, Listens, given_of, taken_of}
 use Rattle.loop_model.specs.Journals.{header, text}
 use Rattle.loop_model.specs.Outs.{Out, next}
@@ -27,7 +28,7 @@ use Rattle.loop_visit.specs.Acting.{Seen, AreAnsweredSo, Counts, Acted, Began, B
 use Rattle.readiness_loop.specs.declared.line_plan.Served.{Served}
 use Rattle.readiness_loop.specs.Claims.{Outside, IsDone, IsBegun, IsLawful, HasTurns, AreSpoken, HasServed, NotListening, TurnFailed, FailsToServe, BreaksOffServing, halt_for}
 use Rattle.readiness_loop.specs.Courses.{Around, Came, Went, WentOff, WentWrong, Runs, Serves, outside_of, course_of, loop_of}
-use Rattle.loop_visit.specs.Sequels.{began_then}
+use Rattle.loop_visit.specs.Sequels.{began_none, began_then, failed_behind}
 use Rattle.readiness_loop.proofs.Acceptings.{no_sessions}
 
 -- the laws of the loop, as a function cites them
@@ -136,16 +137,16 @@ first_counts : (x y : ℕ) (address : List ℕ) → x ≤ y → Counts x y (List
 unfolding failures
 first_counts x y address p = omega (arith, p)
 
-serve_off : (plan : Plan) (a m b : Around) (minds : List Mind) (words : Stream) (address : List ℕ) → HasBegun plan (Listens address true) a m
-    → WentOff (run plan (beginning minds words)) m b → BreaksOffServing (outside_of a) (outside_of b) plan address minds words
+serve_off : (plan : Plan) (a m b : Around) (minds : List Mind) (words : Stream) (address : List ℕ) (fault : LoopFault) → HasBegun plan (Listens address true) a m
+    → WentOff (run plan (beginning minds words)) m b fault → BreaksOffServing (outside_of a) (outside_of b) plan address minds words
 unfolding serves printed
-serve_off plan a m b minds words address begun w =
+serve_off plan a m b minds words address fault begun w =
     let o = run plan (beginning minds words) w.answers in
     record {
       answers = w.answers;
       begun = record {
-        text = part_then a.seen.held m.seen.held b.seen.held (header plan.settings) (text o.entries) begun.text w.breaks.0;
-        calls = began_then a.seen m.seen b.seen (Listens address true ∷ []) o.calls begun.calls (tt, tt) (first_counts a.seen.failed m.seen.failed address begun.failed) w.breaks.1;
+        text = part_then a.seen.held m.seen.held b.seen.held (header plan.settings) (text o.entries) begun.text w.breaks.begun;
+        calls = began_then a.seen m.seen b.seen (Listens address true ∷ []) o.calls begun.calls (tt, tt) (first_counts a.seen.failed m.seen.failed address begun.failed) w.breaks.calls;
       };
     }
 
@@ -159,9 +160,9 @@ serve_ran laws plan a m b minds words address new count (Err Wires) allowed begu
   rose_past a.turns_failed m.turns_failed b.turns_failed begun.turns_failed q.rose,
 )
 serve_ran laws plan a m b minds words address new count (Err Sink) allowed begun q =
-    (serve_off plan a m b minds words address begun q, rose_past a.seen.sunk m.seen.sunk b.seen.sunk begun.sunk q.breaks.2)
+    (serve_off plan a m b minds words address Sink begun q, failed_behind a.seen.sunk m.seen.sunk b.seen.sunk Sink begun.sunk q.breaks.failed)
 serve_ran laws plan a m b minds words address new count (Err (NoMemory want)) allowed begun q =
-    (let x : a.seen.sunk ≤ m.seen.sunk = begun.sunk in let y : m.seen.sunk ≤ b.seen.sunk = q in omega (arith, x, y))
+    (serve_off plan a m b minds words address (NoMemory want) begun q, failed_behind a.seen.sunk m.seen.sunk b.seen.sunk (NoMemory want) begun.sunk q.breaks.failed)
 
 -- the header broke off
 header_off : (plan : Plan) (a b : Around) (minds : List Mind) (words : Stream) (address : List ℕ)
@@ -181,9 +182,24 @@ header_off plan a b minds words address told less p =
 pub header_stops : (plan : Plan) (a b : Around) (minds : List Mind) (words : Stream) (address : List ℕ) (fault : LoopFault)
     → Grew a.seen.calls b.seen.calls (Listens address true ∷ []) → a.seen.failed ≤ b.seen.failed
     → Breaks a.seen.held b.seen.held a.seen.sunk b.seen.sunk (header plan.settings) fault → Serves plan a b minds words address (Err fault)
-header_stops plan a b minds words address Wires told less p = absurd p
-header_stops plan a b minds words address Sink told less p = (header_off plan a b minds words address told less p.0, p.1)
-header_stops plan a b minds words address (NoMemory want) told less p = p
+header_stops plan a b minds words address Wires told less p = absurd p.failed
+header_stops plan a b minds words address Sink told less p = (header_off plan a b minds words address told less p.begun, p.failed)
+header_stops plan a b minds words address (NoMemory want) told less p = (header_off plan a b minds words address told less p.begun, p.failed)
+
+-- memory ran out before it listened
+pub serve_wanted : (plan : Plan) (a : Around) (minds : List Mind) (words : Stream) (address : List ℕ) (want : Want) → Serves plan a a minds words address (Err (NoMemory want))
+serve_wanted plan a minds words address want =
+    let o = serves plan (beginning minds words) address true [] in
+    (
+      record {
+        answers = [];
+        begun = record {
+          text = part_nothing a.seen.held (printed true plan o.entries);
+          calls = began_none a.seen a.seen o.calls refl (let z : a.seen.failed ≤ a.seen.failed = omega arith in z);
+        };
+      },
+      (let z : a.seen.sunk ≤ a.seen.sunk = omega arith in z),
+    )
 
 -- it never listened
 pub never_listens : (plan : Plan) (a b : Around) (minds : List Mind) (words : Stream) (address : List ℕ)
@@ -238,6 +254,15 @@ off_of plan a b minds words address r p is = (subst (λ z. Serves plan a b minds
 pub sunk_of : (plan : Plan) (a b : Around) (minds : List Mind) (words : Stream) (address : List ℕ) (r : Result Served LoopFault) → Serves plan a b minds words address r
     → r ≡ Err Sink → Rose a.seen.sunk b.seen.sunk
 sunk_of plan a b minds words address r p is = (subst (λ z. Serves plan a b minds words address z) is p).1
+
+pub memory_of : (plan : Plan) (a b : Around) (minds : List Mind) (words : Stream) (address : List ℕ) (r : Result Served LoopFault) → Serves plan a b minds words address r
+    → (want : Want) → r ≡ Err (NoMemory want) → BreaksOffServing (outside_of a) (outside_of b) plan address minds words
+memory_of plan a b minds words address r p want is = (subst (λ z. Serves plan a b minds words address z) is p).0
+
+pub memory_as : (plan plan' : Plan) (a b : Around) (minds : List Mind) (words : Stream) (address : List ℕ) (r : Result Served LoopFault) → plan ≡ plan' → Serves plan a b minds words address r
+    → (want : Want) → r ≡ Err (NoMemory want) → BreaksOffServing (outside_of a) (outside_of b) plan' address minds words
+memory_as plan plan' a b minds words address r same p want is =
+    subst (λ z. BreaksOffServing (outside_of a) (outside_of b) z address minds words) same (memory_of plan a b minds words address r p want is)
 
 pub failed_as : (plan plan' : Plan) (a b : Around) (minds : List Mind) (words : Stream) (address : List ℕ) (r : Result Served LoopFault) → plan ≡ plan' → Serves plan a b minds words address r
     → r ≡ Err Wires → FailsToServe (outside_of a) (outside_of b) plan' address minds words

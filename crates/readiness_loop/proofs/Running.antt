@@ -169,26 +169,26 @@ ran_all plan a b c l n many p is = record {
   is = subst (λ z. Came a b c l n None (acts (went plan) c z)) (sym (exactly_all plan.turns p.answers (p.count ∙ is))) p.is;
 }
 
-pub ran_off : (plan : Plan) (a m b : Around) (c : Course) (l : Loop) (n many : ℕ)
+pub ran_off : (plan : Plan) (a m b : Around) (c : Course) (l : Loop) (n many : ℕ) (fault : LoopFault)
     → RanSome plan a m c l n many → many + 1 ≤ plan.turns
-    → ((asked : List ℕ) → WentOff (went plan (course_of l n asked)) m b)
-    → WentOff (run plan c) a b
+    → ((asked : List ℕ) → WentOff (went plan (course_of l n asked)) m b fault)
+    → WentOff (run plan c) a b fault
 unfolding run acts
-ran_off plan a m b c l n many p fits q =
+ran_off plan a m b c l n many fault p fits q =
     let o = acts (went plan) c p.answers in
     let t = q o.state.asked in
     let xs = p.answers ++ t.answers ∷ [] in
     let rest = exactly (plan.turns - length xs) nothing_comes [] in
     let few : length xs ≤ plan.turns = (let h = p.count in let k = length-append p.answers (t.answers ∷ []) in omega (arith, h, k, fits)) in
-    let breaks : BreaksAt m.seen b.seen (went plan o.state t.answers) Sink =
-    subst (λ (z : Course). BreaksAt m.seen b.seen (went plan z t.answers) Sink) (course_is a m c l n o p.is) t.breaks in
+    let breaks : BreaksAt m.seen b.seen (went plan o.state t.answers) fault =
+    subst (λ (z : Course). BreaksAt m.seen b.seen (went plan z t.answers) fault) (course_is a m c l n o p.is) t.breaks in
     let whole : acts (went plan) c (exactly plan.turns nothing_comes xs) ≡ next o (λ z. acts (went plan) z (t.answers ∷ rest)) =
     ap (acts (went plan) c) (exactly_more plan.turns xs few ∙ append_assoc p.answers (t.answers ∷ []) rest) ∙ acts-append (went plan) c p.answers (t.answers ∷ rest) in
     record {
       answers = xs;
-      breaks = subst (λ z. BreaksAt a.seen b.seen z Sink) (sym whole)
-          (breaks_then a.seen m.seen b.seen o.state o (λ z. acts (went plan) z (t.answers ∷ rest)) Sink p.is.acted
-          (breaks_first m.seen b.seen (went plan o.state t.answers) (λ z. acts (went plan) z rest) Sink breaks));
+      breaks = subst (λ z. BreaksAt a.seen b.seen z fault) (sym whole)
+          (breaks_then a.seen m.seen b.seen o.state o (λ z. acts (went plan) z (t.answers ∷ rest)) fault p.is.acted
+          (breaks_first m.seen b.seen (went plan o.state t.answers) (λ z. acts (went plan) z rest) fault breaks));
     }
 
 -- ---- the same, by the facts as a function has them
@@ -219,9 +219,8 @@ run_stops plan a m b c l new n count many Wires p fits q = record {
   went = ran_halted plan a m b c l new n count many OnFailed p (omega (arith, fits)) (λ asked. (q asked).went);
   rose = rose_later a.turns_failed m.turns_failed b.turns_failed p.is.failed (q []).rose;
 }
-run_stops plan a m b c l new n count many Sink p fits q = ran_off plan a m b c l n many p (omega (arith, fits)) q
-run_stops plan a m b c l new n count many (NoMemory want) p fits q =
-    (let x : a.seen.sunk ≤ m.seen.sunk = p.is.acted.later in let y : m.seen.sunk ≤ b.seen.sunk = q [] in omega (arith, x, y))
+run_stops plan a m b c l new n count many Sink p fits q = ran_off plan a m b c l n many Sink p (omega (arith, fits)) q
+run_stops plan a m b c l new n count many (NoMemory want) p fits q = ran_off plan a m b c l n many (NoMemory want) p (omega (arith, fits)) q
 
 pub ran_start : (plan : Plan) (a : Around) (l : Loop) (n : ℕ) (asked : List ℕ) → n ≡ 0 → RanSome plan a a (course_of l 0 asked) l n 0
 ran_start plan a l n asked is = subst (λ z. RanSome plan a a (course_of l 0 asked) l z 0) (sym is) (ran_none plan a l 0 asked)

@@ -1,15 +1,14 @@
 -- One part of the loop behind another: what both leave, print and call together; and where one of them breaks off.
 use Rattle.std.proofs.Common.{◌≡◌, ℕ, ◌+◌, ◌-◌, ◌^◌, ◌≤◌, min, List, [], ◌∷◌, ◌++◌, Option, refl, sym, ◌∙◌, ap, subst, arith, append-nil, append_assoc}
-use Rattle.link_trait.specs.Outside.{Grew, GrewPart, Rose}
-use Rattle.link_trait.specs.Growth.{grew_nothing, grew_then, part_nothing, part_whole, part_then, part_more}
+use Rattle.link_trait.specs.Outside.{Grew, GrewPart}
+use Rattle.link_trait.specs.Growth.{grew_nothing, grew_then, part_then}
 use Rattle.link_trait.specs.Wires.{Call}
 use Rattle.loop_model.specs.Journals.{Entry, entry_text, text}
 use Rattle.loop_model.specs.Outs.{Out, still, next}
 use Rattle.loop_model.specs.Laws.{failures, one_if, is_failed}
 use Rattle.loop_session.specs.declared.loop_fault.LoopFault.{LoopFault}
-use Rattle.loop_session.specs.declared.loop_fault.LoopFault.TheVariants.{Wires, Sink, NoMemory}
 use Rattle.loop_visit.specs.Acting.{Seen, AreAnsweredSo, Counts, Acted, Began, BreaksAt}
-use Rattle.loop_visit.specs.Sequels.{text_parts, answered_parts, counts_then, began_then}
+use Rattle.loop_visit.specs.Sequels.{text_parts, answered_parts, counts_then, began_then, failed_behind}
 
 pub failures-none : failures [] ≡ 0
 unfolding failures
@@ -31,10 +30,11 @@ acted_as a b x y o p same is h = record {
 }
 
 pub breaks_as : {S T : Type 0} (a b : Seen) (o : Out S) (p : Out T) (fault : LoopFault) → SaysSame o p → BreaksAt a b o fault → BreaksAt a b p fault
-breaks_as a b o p Wires same h = h
-breaks_as a b o p Sink same h =
-    (subst (λ z. GrewPart a.held b.held (text z)) (sym same.entries) h.0, subst (λ z. Began a b z) (sym same.calls) h.1, h.2)
-breaks_as a b o p (NoMemory want) same h = h
+breaks_as a b o p fault same h = record {
+  begun = subst (λ z. GrewPart a.held b.held (text z)) (sym same.entries) h.begun;
+  calls = subst (λ z. Began a b z) (sym same.calls) h.calls;
+  failed = h.failed;
+}
 
 -- nothing happens
 pub acted_still : {S : Type 0} (a : Seen) (x y : S) → x ≡ y → Acted a a x (still y)
@@ -60,16 +60,11 @@ acted_then a b c x y o f p q = record {
 }
 
 -- the second part breaks off
-rose_after : (x y z : ℕ) → x ≤ y → Rose y z → Rose x z
-rose_after x y z p q = omega (arith, p, q)
-
 pub breaks_then : {S T : Type 0} (a b c : Seen) (x : S) (o : Out S) (f : S → Out T) (fault : LoopFault) → Acted a b x o → BreaksAt b c (f o.state) fault
     → BreaksAt a c (next o f) fault
-breaks_then a b c x o f Wires p q = q
-breaks_then a b c x o f Sink p q = (
-  subst (λ z. GrewPart a.held c.held z) (sym (text_parts o.entries (f o.state).entries))
-      (part_then a.held b.held c.held (text o.entries) (text (f o.state).entries) p.printed q.0),
-  began_then a b c o.calls (f o.state).calls p.told p.answered p.counted q.1,
-  rose_after a.sunk b.sunk c.sunk p.later q.2,
-)
-breaks_then a b c x o f (NoMemory want) p q = (let h : a.sunk ≤ b.sunk = p.later in let k : b.sunk ≤ c.sunk = q in omega arith)
+breaks_then a b c x o f fault p q = record {
+  begun = subst (λ z. GrewPart a.held c.held z) (sym (text_parts o.entries (f o.state).entries))
+      (part_then a.held b.held c.held (text o.entries) (text (f o.state).entries) p.printed q.begun);
+  calls = began_then a b c o.calls (f o.state).calls p.told p.answered p.counted q.calls;
+  failed = failed_behind a.sunk b.sunk c.sunk fault p.later q.failed;
+}

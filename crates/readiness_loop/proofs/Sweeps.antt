@@ -16,7 +16,7 @@ use Rattle.loop_session.specs.declared.loop_fault.LoopFault.TheVariants.{NoMemor
 use Rattle.er_base.specs.declared.no_memory.NoMemory.{NoMemory as Want}
 use Rattle.loop_visit.specs.Acting.{Seen, Acted, BreaksAt, Did, Stopped, Does}
 use Rattle.readiness_loop.specs.Books.{seat, seats, sessions, sessions_at, IsSeat, IsApart, AreSeated}
-use Rattle.loop_visit.specs.Sequels.{breaks_first}
+use Rattle.loop_visit.specs.Sequels.{breaks_first, breaks_wanted}
 use Rattle.readiness_loop.proofs.Sequences.{acted_still, acted_then, breaks_then}
 
 -- ---- one part, then another, then a third
@@ -150,7 +150,7 @@ until_end slots None all p = p
 until_end slots (Some m) all p = p
 
 pub want_stopped : (a : Seen) (model : List Met → Out (List Session)) (want : Want) → Stopped a a model (NoMemory want)
-want_stopped a model want = record { answers = []; breaks = omega arith }
+want_stopped a model want = record { answers = []; breaks = breaks_wanted a (model []) want }
 
 pub swept_next : (a b c : Seen) (f : Session → Met → Out (List Session)) (ns : List ℕ) (i n : ℕ) (ss now then_ : List Session)
     → SweptSome a b f ns i ss now → slice_get ns i ≡ Some n → Did b c then_ (visit_at f n now)

@@ -168,24 +168,33 @@ turned_came plan h i f g calls mid now x y z tf tg before opened k j l new n ask
       };
     }
 
-pub turned_off : (plan : Plan) (h i : Option (List ℕ)) (f g : ℕ) (calls mid now : Option (List Call)) (x y z : ℕ) (tf tg : ℕ) (before opened : ℕ) (k j : Option (List ℕ))
-    (l new : Loop) (n m : ℕ) (asked : List ℕ) (at : Option ℕ) (what : Happening) (second : ℕ) (fault : LoopFault)
+went_off : (plan : Plan) (h i : Option (List ℕ)) (f g : ℕ) (calls mid now : Option (List Call)) (x y z : ℕ) (tf tg : ℕ) (before opened : ℕ) (k j : Option (List ℕ))
+    (l : Loop) (n : ℕ) (asked : List ℕ) (at : Option ℕ) (what : Happening) (second : ℕ) (fault : LoopFault)
     → at ≡ until l.sessions → Grew calls mid (Turns at what ∷ []) → x ≤ y
     → Stopped (seen h f mid y) (seen i g now z) (happened plan (record l { moment = max l.moment second }) what) fault
-    → Turned plan (around (seen h f calls x) tf before k) (around (seen i g now z) tg opened j) (course_of l n asked) new m (Err fault)
+    → WentOff (turned_unless None plan (course_of l n asked)) (around (seen h f calls x) tf before k) (around (seen i g now z) tg opened j) fault
 unfolding met_in
-turned_off plan h i f g calls mid now x y z tf tg before opened k j l new n m asked at what second Wires due told less p = absurd p.breaks
-turned_off plan h i f g calls mid now x y z tf tg before opened k j l new n m asked at what second Sink due told less p =
+went_off plan h i f g calls mid now x y z tf tg before opened k j l n asked at what second fault due told less p =
     let c = course_of l n asked in
     let a = met_in what second p.answers in
     let d : Course = record { loop = record l { moment = max l.moment second }; turns = n + 1; halt = None; asked = asked ++ second ∷ [] } in
     let first = turn_acted h f calls mid x y d (until l.sessions) what (subst (λ t. Grew calls mid (Turns t what ∷ [])) due told) less in
     record {
       answers = a;
-      breaks = breaks_then (seen h f calls x) (seen h f mid y) (seen i g now z) d (turn c a) (λ t. follows plan t a) Sink first
-          (breaks_as (seen h f mid y) (seen i g now z) (happened plan d.loop what p.answers) (follows plan d a) Sink (record { entries = refl; calls = refl }) p.breaks);
+      breaks = breaks_then (seen h f calls x) (seen h f mid y) (seen i g now z) d (turn c a) (λ t. follows plan t a) fault first
+          (breaks_as (seen h f mid y) (seen i g now z) (happened plan d.loop what p.answers) (follows plan d a) fault (record { entries = refl; calls = refl }) p.breaks);
     }
-turned_off plan h i f g calls mid now x y z tf tg before opened k j l new n m asked at what second (NoMemory want) due told less p = p.breaks
+
+pub turned_off : (plan : Plan) (h i : Option (List ℕ)) (f g : ℕ) (calls mid now : Option (List Call)) (x y z : ℕ) (tf tg : ℕ) (before opened : ℕ) (k j : Option (List ℕ))
+    (l new : Loop) (n m : ℕ) (asked : List ℕ) (at : Option ℕ) (what : Happening) (second : ℕ) (fault : LoopFault)
+    → at ≡ until l.sessions → Grew calls mid (Turns at what ∷ []) → x ≤ y
+    → Stopped (seen h f mid y) (seen i g now z) (happened plan (record l { moment = max l.moment second }) what) fault
+    → Turned plan (around (seen h f calls x) tf before k) (around (seen i g now z) tg opened j) (course_of l n asked) new m (Err fault)
+turned_off plan h i f g calls mid now x y z tf tg before opened k j l new n m asked at what second Wires due told less p = absurd p.breaks.failed
+turned_off plan h i f g calls mid now x y z tf tg before opened k j l new n m asked at what second Sink due told less p =
+    went_off plan h i f g calls mid now x y z tf tg before opened k j l n asked at what second Sink due told less p
+turned_off plan h i f g calls mid now x y z tf tg before opened k j l new n m asked at what second (NoMemory want) due told less p =
+    went_off plan h i f g calls mid now x y z tf tg before opened k j l n asked at what second (NoMemory want) due told less p
 
 not_failed : (plan : Plan) (ss : List Session) → Some OnFailed ≡ halt_by plan ss → ⊥
 not_failed plan ss p =

@@ -114,7 +114,7 @@ pub data FailsToServe (before now : Outside) (plan : Plan) (address : List ℕ) 
   TurnFailed : (count : ℕ) → HasServed before now plan address minds words count (Some OnFailed)
       → FailsToServe before now plan address minds words
 
--- a beginning was printed
+-- a write failed or memory ran out: a beginning was printed and called
 pub record BreaksOffServing (before now : Outside) (plan : Plan) (address : List ℕ) (minds : List Mind) (words : Stream) : Type 0 where
   pub answers : List Turn
   pub begun : IsBegun before now plan (serves plan (beginning minds words) address true answers)
@@ -139,6 +139,7 @@ pub data FailsToDial (before now : Outside) (plan : Plan) (caller : Caller) (add
   LineFailed : (count : ℕ) → HasDialled before now plan caller address minds words count (Some OnFailed)
       → FailsToDial before now plan caller address minds words
 
+-- the same
 pub record BreaksOffDialling (before now : Outside) (plan : Plan) (caller : Caller) (address : List ℕ) (minds : List Mind) (words : Stream) : Type 0 where
   pub answers : Dialled
   pub begun : IsBegun before now plan (dials plan caller (beginning minds words) address answers)

@@ -67,10 +67,10 @@ pub record Went {A : Type 0} (model : A → Out Course) (a b : Around) (c : Cour
   pub answers : A
   pub is : Came a b c l n h (model answers)
 
--- it broke off, since the sink failed
-pub record WentOff {A : Type 0} (model : A → Out Course) (a b : Around) : Type 0 where
+-- it broke off, since the sink failed or memory ran out
+pub record WentOff {A : Type 0} (model : A → Out Course) (a b : Around) (fault : LoopFault) : Type 0 where
   pub answers : A
-  pub breaks : BreaksAt a.seen b.seen (model answers) Sink
+  pub breaks : BreaksAt a.seen b.seen (model answers) fault
 
 -- a turn failed, and the count of such faults rose
 pub record WentWrong {A : Type 0} (model : A → Out Course) (a b : Around) (c : Course) (l : Loop) (n : ℕ) : Type 0 where
@@ -85,8 +85,8 @@ halt_of next.Closed = Some OnClosed
 abbrev pub Goes : {A : Type 0} → (A → Out Course) → Around → Around → Course → Loop → ℕ → Result Next LoopFault → Type 0
 Goes model a b c l n (Ok next) = Went model a b c l n (halt_of next)
 Goes model a b c l n (Err Wires) = WentWrong model a b c l n
-Goes model a b c l n (Err Sink) = WentOff model a b
-Goes model a b c l n (Err (NoMemory want)) = a.seen.sunk ≤ b.seen.sunk
+Goes model a b c l n (Err Sink) = WentOff model a b Sink
+Goes model a b c l n (Err (NoMemory want)) = WentOff model a b (NoMemory want)
 
 -- a turn and what follows it; and with what comes before it
 abbrev pub Turned : Plan → Around → Around → Course → Loop → ℕ → Result Next LoopFault → Type 0
@@ -99,8 +99,8 @@ Turns plan a b c l n r = Goes (went plan c) a b c l n r
 abbrev pub Runs : Plan → Around → Around → Course → Loop → ℕ → Result Served LoopFault → Type 0
 Runs plan a b c l n (Ok served) = Went (run plan c) a b c l served.turns (halt_for served.why)
 Runs plan a b c l n (Err Wires) = WentWrong (run plan c) a b c l n
-Runs plan a b c l n (Err Sink) = WentOff (run plan c) a b
-Runs plan a b c l n (Err (NoMemory want)) = a.seen.sunk ≤ b.seen.sunk
+Runs plan a b c l n (Err Sink) = WentOff (run plan c) a b Sink
+Runs plan a b c l n (Err (NoMemory want)) = WentOff (run plan c) a b (NoMemory want)
 
 -- a course that hasn't halted
 abbrev pub course_of : Loop → ℕ → List ℕ → Course
@@ -153,7 +153,7 @@ abbrev pub Serves : Plan → Around → Around → List Mind → Stream → List
 Serves plan a b minds words address (Ok served) = HasServed (outside_of a) (outside_of b) plan address minds words served.turns (halt_for served.why)
 Serves plan a b minds words address (Err Wires) = FailsToServe (outside_of a) (outside_of b) plan address minds words × Rose a.turns_failed b.turns_failed
 Serves plan a b minds words address (Err Sink) = BreaksOffServing (outside_of a) (outside_of b) plan address minds words × Rose a.seen.sunk b.seen.sunk
-Serves plan a b minds words address (Err (NoMemory want)) = a.seen.sunk ≤ b.seen.sunk
+Serves plan a b minds words address (Err (NoMemory want)) = BreaksOffServing (outside_of a) (outside_of b) plan address minds words × (a.seen.sunk ≤ b.seen.sunk)
 
 -- the opening of a dial: the clock's answer before it, and what it meets
 abbrev pub opening : Plan → Caller → Course → ℕ → ℕ × Met → Out Course
@@ -171,8 +171,8 @@ pub record Opened (plan : Plan) (caller : Caller) (a b : Around) (c : Course) (c
 abbrev pub Opens : Plan → Caller → Around → Around → Course → ℕ → Loop → ℕ → Result Bool LoopFault → Type 0
 Opens plan caller a b c conn l n (Ok stays) = Opened plan caller a b c conn l n (halt_if stays)
 Opens plan caller a b c conn l n (Err Wires) = ⊥
-Opens plan caller a b c conn l n (Err Sink) = WentOff (opening plan caller c conn) a b
-Opens plan caller a b c conn l n (Err (NoMemory want)) = Unit {0}
+Opens plan caller a b c conn l n (Err Sink) = WentOff (opening plan caller c conn) a b Sink
+Opens plan caller a b c conn l n (Err (NoMemory want)) = WentOff (opening plan caller c conn) a b (NoMemory want)
 
 -- the session that calls
 abbrev pub caller_of : (engine : ℕ) → TripleKey → Caller
@@ -186,4 +186,5 @@ Dials plan caller a b minds words address (Err Wires) =
     FailsToDial (outside_of a) (outside_of b) plan caller address minds words × Rose a.turns_failed b.turns_failed
 Dials plan caller a b minds words address (Err Sink) =
     BreaksOffDialling (outside_of a) (outside_of b) plan caller address minds words × Rose a.seen.sunk b.seen.sunk
-Dials plan caller a b minds words address (Err (NoMemory want)) = a.seen.sunk ≤ b.seen.sunk
+Dials plan caller a b minds words address (Err (NoMemory want)) =
+    BreaksOffDialling (outside_of a) (outside_of b) plan caller address minds words × (a.seen.sunk ≤ b.seen.sunk)

@@ -1,6 +1,7 @@
 //! A loop that listens.
 
 ghost use Rattle.std.specs.Prelude.{◌≡◌, ◌≤◌, ◌<◌, ◌^◌, length, map, Err, IfOk};
+ghost use Rattle.er_base.specs.declared.no_memory.NoMemory.{NoMemory as Want};
 ghost use Rattle.er_settings.specs.Ranges.{AllAllowed};
 ghost use Rattle.loop_session.specs.declared.loop_fault.LoopFault.TheVariants as fault;
 ghost use Rattle.loop_session.specs.Parts.{Puts};
@@ -112,6 +113,9 @@ pub fn serve<W: Wires, C: Clock, R: Rng, S: Sink>(
         (outside (seen (S.held sink.new) (S.faults sink.new) (W.calls wires.new) (W.faults wires.new)) (C.answers clock.new))
         (serving (keys.now) plan.now rbc (length users.items)) address.now (map mind users.items) (R.stream randoms.old) }
     ensures sunk { result ≡ Err fault.Sink → Rose (S.faults sink.old) (S.faults sink.new) }
+    ensures memory { (want : Want) → result ≡ Err (fault.NoMemory want) → BreaksOffServing (outside (seen (S.held sink.old) (S.faults sink.old) (W.calls wires.old) (W.faults wires.old)) (C.answers clock.old))
+        (outside (seen (S.held sink.new) (S.faults sink.new) (W.calls wires.new) (W.faults wires.new)) (C.answers clock.new))
+        (serving (keys.now) plan.now rbc (length users.items)) address.now (map mind users.items) (R.stream randoms.old) }
     ensures sink_count { S.faults sink.old ≤ S.faults sink.new }
 {
     let loop_plan = LoopPlan {

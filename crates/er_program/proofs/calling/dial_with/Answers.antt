@@ -1,5 +1,5 @@
--- The wires failed.
-use Rattle.std.proofs.Common.{Err, ap}
+-- The wires failed, and memory ran out.
+use Rattle.std.proofs.Common.{Err, inr, ap}
 use Rattle.loop_session.specs.declared.loop_fault.LoopFault.{LoopFault}
 use Rattle.er_program.specs.LineCommands.{Call}
 use Rattle.er_program.proofs.LineEndings.{loop_failed}
@@ -18,4 +18,15 @@ returns-in-Err-Wires-clause-ends g c = λ keys entries moment before asked holds
       holds = holds;
       loop = rw c.usual.ensures.value at (c.in-Err-Wires.ensures.wires is);
     })
-    c.in-Err-Wires.ensures.sink_count c.last.ensures.gives
+    c.in-Err-Wires.ensures.sink_count c.last.ensures.gives c.last.ensures.never
+
+pub returns-in-Err-NoMemory-clause-ends : goal.returns-in-Err-NoMemory-clause-ends
+returns-in-Err-NoMemory-clause-ends g c = λ keys entries moment before asked holds.
+    inr (record {
+      moment = moment;
+      clock = _;
+      asked = asked;
+      kmac = c.args.kmac;
+      holds = holds;
+      loop = rw c.usual.ensures.value at (c.in-Err-NoMemory.ensures.memory c.in-Err-NoMemory.want (ap (λ (e : LoopFault). Err e) c.in-Err-NoMemory.field-0-is));
+    })

@@ -10,4 +10,5 @@ returns-in-Err-Sink-clause-means g c = means_line_sunk _ _ _ _ _ _ _ _ _ (rw c.i
 
 pub returns-in-Err-NoMemory-clause-means : goal.returns-in-Err-NoMemory-clause-means
 returns-in-Err-NoMemory-clause-means g c =
-    means_line_spent _ _ _ _ _ _ _ _ _ _ _ c.out_of_memory.result c.in-Err-NoMemory.ensures.sink_count c.out_of_memory.ensures.gives
+    means_line_spent _ _ _ _ _ _ _ _ _ _ _ c.out_of_memory.result c.in-Err-NoMemory.ensures.sink_count (rw c.in-Err-NoMemory.field-0-is at c.in-Err-NoMemory.ensures.ends)
+    c.out_of_memory.ensures.gives

@@ -3,8 +3,14 @@ use Rattle.loop_visit.specs.Acting.{seen}
 use Rattle.readiness_loop.specs.Claims.{pair_of}
 use Rattle.readiness_loop.specs.Courses.{plan_of, caller_of, loop_of, around}
 use Rattle.readiness_loop.proofs.Listening.{start_is}
-use Rattle.readiness_loop.proofs.Dials.{dial_header_stops, dial_closed_from, dial_stops_from, dial_ran_from}
+use Rattle.readiness_loop.proofs.Dials.{dial_wanted, dial_header_stops, dial_closed_from, dial_stops_from, dial_ran_from}
 use Rattle.readiness_loop.proofs.dialling.dial_users.Goals as goal
+
+pub returns-in-Err-clause-does : goal.returns-in-Err-clause-does
+returns-in-Err-clause-does g c =
+    dial_wanted (plan_of (pair_of c.args.pair.now.engine c.args.pair.now.rbc c.args.pair.now.kmac ∷ []) c.args.plan.now) (caller_of c.args.pair.now.engine c.args.pair.now.kmac)
+    (around (seen (g.S.Sink.held c.args.sink.now) (g.S.Sink.faults c.args.sink.now) (g.W.Wires.calls c.args.wires.now) (g.W.Wires.faults c.args.wires.now)) (g.W.Wires.turn_faults c.args.wires.now) (g.W.Wires.opened c.args.wires.now) (g.C.Clock.answers c.args.clock.now))
+    (map g.U.SafeUser.mind c.args.users.items) (g.R.Rng.stream c.args.randoms.now) c.args.address.now c.in-Err.want
 
 pub returns-in-Err-write_header-clause-does : goal.returns-in-Err-write_header-clause-does
 returns-in-Err-write_header-clause-does g c =

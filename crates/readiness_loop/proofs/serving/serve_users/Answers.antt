@@ -2,8 +2,14 @@ use Rattle.std.proofs.Common.{◌≡◌, map, [], refl, ap}
 use Rattle.loop_visit.specs.Acting.{seen}
 use Rattle.readiness_loop.specs.Courses.{plan_of, loop_of, around}
 use Rattle.readiness_loop.proofs.Acceptings.{no_seats}
-use Rattle.readiness_loop.proofs.Listening.{header_stops, start_is, serve_ran_from}
+use Rattle.readiness_loop.proofs.Listening.{header_stops, serve_wanted, start_is, serve_ran_from}
 use Rattle.readiness_loop.proofs.serving.serve_users.Goals as goal
+
+pub returns-in-Err-clause-does : goal.returns-in-Err-clause-does
+returns-in-Err-clause-does g c =
+    serve_wanted (plan_of (g.K.KeyFinder.entries c.args.keys.now) c.args.plan.now)
+    (around (seen (g.S.Sink.held c.args.sink.now) (g.S.Sink.faults c.args.sink.now) (g.W.Wires.calls c.args.wires.now) (g.W.Wires.faults c.args.wires.now)) (g.W.Wires.turn_faults c.args.wires.now) (g.W.Wires.opened c.args.wires.now) (g.C.Clock.answers c.args.clock.now))
+    (map g.U.SafeUser.mind c.args.users.items) (g.R.Rng.stream c.args.randoms.now) c.args.address.now c.in-Err.want
 
 pub returns-in-Err-write_header-clause-does : goal.returns-in-Err-write_header-clause-does
 returns-in-Err-write_header-clause-does g c =

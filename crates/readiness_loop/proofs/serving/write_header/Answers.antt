@@ -1,3 +1,5 @@
+use Rattle.loop_model.specs.Journals.{header}
+use Rattle.readiness_loop.proofs.Acceptings.{line_wanted}
 use Rattle.readiness_loop.proofs.Listening.{header_put}
 use Rattle.readiness_loop.proofs.serving.write_header.Goals as goal
 
@@ -6,3 +8,6 @@ returns-clause-puts g c =
     header_put (g.S.Sink.held c.args.sink.now) (g.S.Sink.held c.write_lines.new.sink) (g.S.Sink.faults c.args.sink.now) (g.S.Sink.faults c.write_lines.new.sink)
     c.args.settings.now c.new-line.result.items c.print_header.new.out.items c.as_slice.result.now c.write_lines.result
     c.new-line.ensures.items c.in-Ok.ensures.ok c.as_slice.ensures.value c.write_lines.ensures.puts
+
+pub returns-in-Err-clause-puts : goal.returns-in-Err-clause-puts
+returns-in-Err-clause-puts g c = line_wanted (g.S.Sink.held c.args.sink.now) (g.S.Sink.faults c.args.sink.now) (header c.args.settings.now) c.in-Err.want

@@ -2,8 +2,7 @@ use Rattle.std.proofs.Common.{sym, refl, ap}
 use Rattle.std.proofs.lemmas.Result.{err_from_is_err_and}
 use Rattle.loop_model.specs.Sessions.{Session, nothing_said, handled, Faults}
 use Rattle.loop_session.specs.Parts.{rules}
-use Rattle.loop_session.proofs.Written.{gave_of, told_as}
-use Rattle.loop_session.proofs.Deals.{wanted}
+use Rattle.loop_session.proofs.Written.{gave_of, told_as, wanted}
 use Rattle.loop_session.proofs.session.Session.fault.Goals as goal
 
 pub returns-clause-chooses : goal.returns-clause-chooses

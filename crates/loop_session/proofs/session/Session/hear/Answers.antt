@@ -2,8 +2,7 @@ use Rattle.std.proofs.Common.{◌≤◌, ◌<◌, ℕ, length, subst, sym, refl,
 use Rattle.std.proofs.lemmas.Result.{err_from_is_err_and}
 use Rattle.loop_model.specs.Sessions.{Session, Hears, nothing_said, handled}
 use Rattle.loop_session.specs.Parts.{rules}
-use Rattle.loop_session.proofs.Written.{gave_of, told_as}
-use Rattle.loop_session.proofs.Deals.{wanted}
+use Rattle.loop_session.proofs.Written.{gave_of, told_as, wanted}
 use Rattle.loop_session.proofs.Pourings.{used_within, used_moves}
 use Rattle.loop_session.proofs.session.Session.hear.Goals as goal
 

@@ -1,8 +1,7 @@
 use Rattle.std.proofs.Common.{sym, refl}
 use Rattle.std.proofs.lemmas.Result.{err_from_is_err_and}
 use Rattle.loop_model.specs.Sessions.{Takes, silence, dealt}
-use Rattle.loop_session.proofs.Written.{gave_of, heard_as}
-use Rattle.loop_session.proofs.Deals.{wanted}
+use Rattle.loop_session.proofs.Written.{gave_of, heard_as, wanted}
 use Rattle.loop_session.proofs.session.Session.take.Goals as goal
 
 pub returns-clause-chooses : goal.returns-clause-chooses

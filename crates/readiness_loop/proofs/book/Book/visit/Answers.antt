@@ -4,7 +4,7 @@ use Rattle.loop_session.specs.Parts.{rules}
 use Rattle.loop_visit.specs.Acting.{seen}
 use Rattle.loop_visit.specs.Visiting.{visit_of}
 use Rattle.readiness_loop.proofs.Awaited.{wake_known, awaited_stays, awaited_closes}
-use Rattle.readiness_loop.proofs.Booked.{nobody_did, empty_did, stays_did, stays_seated, closes_did, closes_seated, stopped_visit}
+use Rattle.readiness_loop.proofs.Booked.{nobody_did, empty_did, stays_did, stays_seated, closes_did, closes_seated, stopped_visit, wanted_visit}
 use Rattle.readiness_loop.proofs.book.Book.visit.Goals as goal
 
 pub returns-in_default-clause-does : goal.returns-in_default-clause-does
@@ -47,6 +47,18 @@ returns-in-Err-clause-does g c =
     stopped_visit _ _ _ (g.W.Wires.opened c.args.wires.now) c.args.number c.in-Some.slot c.args.self.now.slots c.args.self.now.places
     c.in-Some-get_mut.session.now c.in-Err.fault c.requires.seated
     (sym c.get.ensures.value ∙ sym c.in-Some.ensures) (sym c.in-Some-get_mut.ensures.value) c.in-Err.ensures.does
+
+pub returns-in-Err-change-clause-does : goal.returns-in-Err-change-clause-does
+returns-in-Err-change-clause-does g c =
+    wanted_visit _ _ _ (g.W.Wires.opened c.args.wires.now) c.args.number c.in-Some.slot c.args.self.now.slots c.args.self.now.places
+    c.in-Some-get_mut.session.now c.visit_session.new.session c.in-Ok-true.field-0 c.in-Err-change.want c.requires.seated
+    (sym c.get.ensures.value ∙ sym c.in-Some.ensures) (sym c.in-Some-get_mut.ensures.value) c.in-Ok-true.ensures.does
+
+pub returns-in-Err-change-2-clause-does : goal.returns-in-Err-change-2-clause-does
+returns-in-Err-change-2-clause-does g c =
+    wanted_visit _ _ _ (g.W.Wires.opened c.args.wires.now) c.args.number c.in-Some.slot c.args.self.now.slots c.args.self.now.places
+    c.in-Some-get_mut.session.now c.visit_session.new.session c.in-Ok-false.field-0 c.in-Err-change-2.want c.requires.seated
+    (sym c.get.ensures.value ∙ sym c.in-Some.ensures) (sym c.in-Some-get_mut.ensures.value) c.in-Ok-false.ensures.does
 
 -- ---- the moments that are kept
 
