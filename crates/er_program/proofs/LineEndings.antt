@@ -8,7 +8,6 @@ use Rattle.key_store.specs.declared.key_file_fault.KeyFileFault.TheVariants as k
 use Rattle.key_store.specs.Answers.{Refuses}
 use Rattle.key_store.specs.KeyFiles.{keys_of}
 use Rattle.link_trait.specs.Outside.{Grew, GrewPart, Rose, HasFile}
-use Rattle.link_trait.specs.Growth.{grew_nothing}
 use Rattle.readiness_loop.specs.Claims.{Outside, outside}
 use Rattle.loop_visit.specs.Acting.{seen}
 use Rattle.er_program.specs.Answers.{Files, keys_answer}
@@ -120,7 +119,3 @@ line_unfetched command files c d g t u before now (Ok s) rose gives = NotFetched
 line_unfetched command files c d g t u before now (Err stop.Sink) rose gives =
     record { rose = gives.1; beginning = inl (OfFetch rose gives.0) }
 line_unfetched command files c d g t u before now (Err (stop.NoMemory want)) rose gives = BeforeLoop gives.0
-
--- memory ran out in the fetch
-pub line_wanted : (command : LineCommand) (files : Files) (g : Given) (before now : Outside) → before.seen.held ≡ now.seen.held → RunsOut command files g before now
-line_wanted command files g before now same = BeforeLoop (subst (λ z. Grew before.seen.held z []) same (grew_nothing before.seen.held))

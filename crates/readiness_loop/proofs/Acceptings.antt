@@ -1,27 +1,24 @@
 -- A connection that was accepted gets a session, or is turned away; and what is handled whole behind a turn.
-use Rattle.std.proofs.Common.{◌≡◌, ℕ, ◌+◌, ◌-◌, ◌^◌, ◌<◌, ◌≤◌, nat_lt, min, Bool, true, false, List, [], ◌∷◌, ◌++◌, Option, Some, None, Result, Ok, Err, OnOk, length, map, take, zero, suc, slice_get, refl, sym, ◌∙◌, ap, subst, arith, append-nil, length-append}
-use Rattle.std.proofs.lemmas.List.{map-append}
+use Rattle.std.proofs.Common.{◌≡◌, ℕ, ◌-◌, ◌<◌, ◌≤◌, nat_lt, true, false, List, [], ◌∷◌, ◌++◌, Option, Some, None, Result, Ok, Err, OnOk, length, take, zero, suc, slice_get, refl, sym, ◌∙◌, ap, subst, arith, length-append}
 use Rattle.std.proofs.lemmas.Bool.Decides.{nat_tests}
 use Rattle.rand_core.specs.Stream.{Stream, next_u64}
 use Rattle.slab.specs.Slab.{Slab, get}
 use Rattle.er_base.specs.declared.no_memory.NoMemory.{NoMemory as Want}
-use Rattle.er_settings.specs.declared.settings.Settings.{Settings}
 use Rattle.er_trace.specs.declared.event.Event.{Event}
 use Rattle.er_trace.specs.declared.event.Event.TheVariants as event
 use Rattle.er_users.specs.Users.{Mind}
-use Rattle.link_trait.specs.Outside.{Grew, GrewPart, Rose}
+use Rattle.link_trait.specs.Outside.{Grew, GrewPart}
 use Rattle.link_trait.specs.Growth.{grew_nothing, part_nothing, part_whole}
 use Rattle.link_trait.specs.Wires.{Call, Closes}
 use Rattle.loop_model.specs.Journals.{Entry, text}
-use Rattle.loop_model.specs.Outs.{Out, still}
+use Rattle.loop_model.specs.Outs.{Out}
 use Rattle.loop_model.specs.Laws.{failures}
 use Rattle.loop_model.specs.Sessions.{Session}
-use Rattle.loop_model.specs.Visits.{Met, nothing_met}
-use Rattle.loop_model.specs.Loops.{Plan, Loop, turned_away, next_user, other_users, answered_by, accepted, most_live}
+use Rattle.loop_model.specs.Loops.{Plan, Loop, turned_away, next_user, other_users, answered_by, accepted}
 use Rattle.loop_session.specs.Parts.{Breaks, Puts}
 use Rattle.loop_session.specs.declared.loop_fault.LoopFault.{LoopFault}
 use Rattle.loop_session.specs.declared.loop_fault.LoopFault.TheVariants.{NoMemory}
-use Rattle.loop_visit.specs.Acting.{Seen, seen, AreAnsweredSo, Counts, Acted, Began, BreaksAt}
+use Rattle.loop_visit.specs.Acting.{Seen, seen, Acted, Began, BreaksAt}
 use Rattle.readiness_loop.specs.Books.{seat, seats, sessions, sessions_at, IsSeat, AreSeated}
 use Rattle.std.specs.BTreeMap.{BTreeMap}
 use Rattle.readiness_loop.specs.Courses.{Acts, answer_event, answered, loop_of}

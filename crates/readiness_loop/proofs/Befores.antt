@@ -1,12 +1,11 @@
 -- What comes before a turn: ticks, then closings; and nothing where nobody is due.
-use Rattle.std.proofs.Common.{◌≡◌, ℕ, ◌≤◌, nat_le, min, Bool, true, false, inl, inr, List, [], ◌∷◌, ◌++◌, Option, Some, None, refl, sym, ◌∙◌, ap, subst, arith}
-use Rattle.std.specs.Prelude.{◌==◌, ◌||◌}
+use Rattle.std.proofs.Common.{◌≡◌, ℕ, Bool, false, inl, inr, List, [], ◌∷◌, Option, Some, None, refl, sym, ◌∙◌, ap, subst, arith}
+use Rattle.std.specs.Prelude.{◌==◌}
 use Rattle.std.proofs.lemmas.Bool.{cases_Bool}
 use Rattle.std.proofs.lemmas.Bool.Decides.{nat_tests}
 use Rattle.end_model.specs.Steps.{first_of as first_moment}
 use Rattle.er_end.specs.KeptEnds.{deadline_of}
-use Rattle.er_base.specs.declared.no_memory.NoMemory.{NoMemory as Want}
-use Rattle.loop_model.specs.Outs.{Out, still, next}
+use Rattle.loop_model.specs.Outs.{Out, still}
 use Rattle.loop_model.specs.Sessions.{Rules, Session}
 use Rattle.loop_model.specs.Visits.{Met, visited, is_due, wakes, Tick, Expire}
 use Rattle.loop_model.specs.Loops.{visit_at, swept, numbers, until, before, Sweeps}

@@ -1,22 +1,21 @@
 -- A visit through the book is the visit of the model.
-use Rattle.std.proofs.Common.{◌≡◌, ℕ, ◌+◌, ◌<◌, ◌≤◌, Bool, true, false, List, [], ◌∷◌, ◌++◌, Option, Some, None, Result, Ok, Err, map, refl, sym, ◌∙◌, ap, subst, arith}
+use Rattle.std.proofs.Common.{◌≡◌, ℕ, Bool, true, false, List, [], ◌∷◌, Some, None, refl, sym, ◌∙◌, ap, subst}
 use Rattle.std.specs.Ordering.{nat_cmp}
-use Rattle.std.specs.Option.{option_copied}
-use Rattle.std.specs.BTreeMap.{BTreeMap, is_at, insert_entry}
+use Rattle.std.specs.BTreeMap.{BTreeMap, is_at}
 use Rattle.std.specs.Map.{remove_entry}
 use Rattle.slab.specs.Slab.{Slab, get, with_value, Updates}
 use Rattle.slab.proofs.SlabLemmas.{Updates-with_value}
-use Rattle.loop_model.specs.Outs.{Out, still}
+use Rattle.loop_model.specs.Outs.{Out}
 use Rattle.loop_model.specs.Sessions.{Session}
 use Rattle.loop_model.specs.Visits.{Met, nothing_met}
 use Rattle.loop_model.specs.Loops.{visit_at}
 use Rattle.er_base.specs.declared.no_memory.NoMemory.{NoMemory as Want}
 use Rattle.loop_session.specs.declared.loop_fault.LoopFault.{LoopFault}
 use Rattle.loop_session.specs.declared.loop_fault.LoopFault.TheVariants.{NoMemory}
-use Rattle.loop_visit.specs.Acting.{Seen, Acted, BreaksAt, Did, Stopped}
+use Rattle.loop_visit.specs.Acting.{Seen, Acted, Did, Stopped}
 use Rattle.loop_visit.specs.Sequels.{breaks_behind}
 use Rattle.loop_visit.specs.Visiting.{left}
-use Rattle.readiness_loop.specs.Books.{seats, sessions, sessions_at, IsSeat, IsApart, AreSeated}
+use Rattle.readiness_loop.specs.Books.{sessions, sessions_at, AreSeated}
 use Rattle.readiness_loop.proofs.Sequences.{acted_as, acted_still, breaks_as}
 use Rattle.readiness_loop.proofs.Seats.{place_of, visit_none, visit_says, visit_leaves, visit_leaves_seated, visit_drops, visit_drops_seated, seat_found}
 

@@ -1,6 +1,6 @@
 -- The opening of a dial: its one connection gets a session that calls, or is turned away.
-use Rattle.std.proofs.Common.{◌≡◌, ℕ, ◌+◌, ◌-◌, ◌<◌, ◌≤◌, max, Bool, true, false, List, [], ◌∷◌, ◌++◌, Option, Some, None, Result, Ok, Err, length, map, refl, sym, ◌∙◌, ap, subst, arith, append-nil}
-use Rattle.std.specs.Prelude.{◌==◌, ◌&&◌, if◌then◌else◌, OnOk, IfOk}
+use Rattle.std.proofs.Common.{◌≡◌, ℕ, ◌≤◌, max, Bool, true, false, List, [], ◌∷◌, ◌++◌, Option, Some, None, Result, Ok, Err, length, refl, sym, ◌∙◌, ap, subst, arith}
+use Rattle.std.specs.Prelude.{◌==◌, if◌then◌else◌, OnOk, IfOk}
 use Rattle.std.specs.BTreeMap.{BTreeMap}
 use Rattle.rand_core.specs.Stream.{Stream, next_u64}
 use Rattle.slab.specs.Slab.{Slab}
@@ -11,7 +11,7 @@ use Rattle.link_trait.specs.Outside.{Grew}
 use Rattle.loop_model.specs.Outs.{Out, changed}
 use Rattle.loop_model.specs.Sessions.{Session, Begins}
 use Rattle.loop_model.specs.Visits.{Met, nothing_met, served}
-use Rattle.loop_model.specs.Loops.{Plan, Loop, rules_of, Halt, OnClosed, Course, halt_by, begun, Caller, calling, called_by, called, with_sessions, one_less, next_user, other_users, turned_away, opens}
+use Rattle.loop_model.specs.Loops.{Plan, Loop, rules_of, Course, halt_by, begun, Caller, calling, called_by, called, with_sessions, one_less, next_user, other_users, turned_away}
 use Rattle.loop_model.specs.Parts.{opened_in, Rises, newest}
 use Rattle.loop_model.specs.Laws.{turns_of}
 use Rattle.safety_automaton.specs.Keys as keys
@@ -22,8 +22,8 @@ use Rattle.loop_visit.specs.Acting.{Seen, Acted, BreaksAt, Did, Stopped, Does}
 use Rattle.loop_visit.specs.Sequels.{breaks_wanted, breaks_behind}
 use Rattle.loop_visit.specs.Visiting.{left, Visits}
 use Rattle.readiness_loop.specs.Books.{sessions, AreSeated}
-use Rattle.readiness_loop.specs.Courses.{Around, around, Came, Went, WentOff, loop_of, course_of, opening, Opened, Opens, halt_if}
-use Rattle.readiness_loop.proofs.Sequences.{SaysSame, acted_as, breaks_as}
+use Rattle.readiness_loop.specs.Courses.{Around, WentOff, loop_of, course_of, opening, Opens, halt_if}
+use Rattle.readiness_loop.proofs.Sequences.{acted_as, breaks_as}
 use Rattle.readiness_loop.proofs.Acceptings.{last_user, other_ones, no_sessions, length_sessions}
 use Rattle.readiness_loop.proofs.Openings.{OpensNone, served_opens}
 

@@ -1,6 +1,6 @@
 -- A loop that dials: it opens its one connection, the header is printed, the session begins, and it runs.
-use Rattle.std.proofs.Common.{◌≡◌, ℕ, ◌+◌, ◌-◌, ◌^◌, ◌<◌, ◌≤◌, max, min, nat_le, Bool, true, false, List, [], ◌∷◌, ◌++◌, Option, Some, None, Result, Ok, Err, refl, sym, ◌∙◌, ap, subst, arith, append-nil, append_assoc, length}
-use Rattle.std.specs.Prelude.{IfOk, ◌==◌, ◌&&◌, if◌then◌else◌}
+use Rattle.std.proofs.Common.{◌≡◌, ℕ, ◌+◌, ◌-◌, ◌^◌, ◌<◌, ◌≤◌, max, min, nat_le, Bool, true, false, List, [], ◌∷◌, ◌++◌, Option, Some, None, Result, Ok, Err, refl, sym, ◌∙◌, ap, subst, arith, length}
+use Rattle.std.specs.Prelude.{IfOk, ◌==◌}
 use Rattle.std.proofs.lemmas.Bool.Decides.{nat_tests}
 use Rattle.rand_core.specs.Stream.{Stream}
 use Rattle.er_base.specs.declared.no_memory.NoMemory.{NoMemory as Want}
@@ -17,22 +17,22 @@ use Rattle.loop_model.specs.Outs.{Out, still, next, makes, acts, exactly}
 use Rattle.loop_model.specs.Visits.{Met, nothing_met}
 use Rattle.link_trait.specs.declared.wires.Happening.{Happening}
 use Rattle.loop_model.specs.Loops.{Plan, Loop, Caller, Halt, OnClosed, OnFailed, Course, Turn, asks, opens, dials_to, run, nothing_comes, beginning, Dialled, dials, printed, went}
-use Rattle.loop_model.specs.Parts.{opened_in, Rises, newest, calls_at}
-use Rattle.loop_model.specs.Laws.{IsDialling, RunsSo, HasFailed, faults, failures, turns_of, HaltsBy, greatest}
+use Rattle.loop_model.specs.Parts.{opened_in, Rises}
+use Rattle.loop_model.specs.Laws.{IsDialling, RunsSo, HasFailed, faults, failures, turns_of, HaltsBy}
 use Rattle.loop_session.specs.Parts.{FailedFor, Breaks}
 use Rattle.loop_session.specs.declared.loop_fault.LoopFault.{LoopFault}
 use Rattle.loop_session.specs.declared.loop_fault.LoopFault.TheVariants.{Wires, Sink, NoMemory}
-use Rattle.loop_visit.specs.Acting.{Seen, Acted, Counts, BreaksAt}
+use Rattle.loop_visit.specs.Acting.{Counts, BreaksAt}
 use Rattle.readiness_loop.specs.declared.line_plan.Served.{Served}
-use Rattle.readiness_loop.specs.Claims.{Outside, pair_of, IsDone, IsBegun, IsLawful, HasTurns, AreSpoken, HasDialled, NotDialling, LineFailed, FailsToDial, BreaksOffDialling, halt_for}
-use Rattle.readiness_loop.specs.Courses.{Around, Came, Went, WentOff, WentWrong, Runs, Dials, outside_of, course_of, opening, Opened, Opens, caller_of, halt_if}
+use Rattle.readiness_loop.specs.Claims.{pair_of, IsDone, IsBegun, IsLawful, HasTurns, HasDialled, NotDialling, LineFailed, FailsToDial, BreaksOffDialling, halt_for}
+use Rattle.readiness_loop.specs.Courses.{Around, Came, Went, WentOff, Runs, Dials, outside_of, course_of, opening, Opened, Opens, caller_of, halt_if}
 use Rattle.loop_visit.specs.Sequels.{breaks_first, began_none, began_then, failed_behind}
-use Rattle.readiness_loop.proofs.Sequences.{acted_then, breaks_then}
+use Rattle.readiness_loop.proofs.Sequences.{breaks_then}
 use Rattle.readiness_loop.proofs.Sweeps.{after}
 use Rattle.readiness_loop.proofs.Openings.{turns_of-append}
 use Rattle.readiness_loop.proofs.Running.{came_next, course_is, halted_acts, after_still}
 use Rattle.readiness_loop.proofs.Calling.{opening_opens, called_moment}
-use Rattle.readiness_loop.proofs.Listening.{Laws, HasBegun, rises_low, rose_past}
+use Rattle.readiness_loop.proofs.Listening.{Laws, HasBegun, rose_past}
 
 -- the opening, and the run behind it
 abbrev whole : Plan → Caller → Course → ℕ → Dialled → Out Course

@@ -1,5 +1,5 @@
 -- The first moment that is kept is the first of the sessions' moments, and the numbers that are due are those of the sessions whose moment has come.
-use Rattle.std.proofs.Common.{◌≡◌, ◌≢◌, ℕ, ◌+◌, ◌<◌, ◌≤◌, nat_le, Bool, true, false, inl, inr, List, [], ◌∷◌, Option, Some, None, map, refl, sym, ◌∙◌, ap, subst, arith}
+use Rattle.std.proofs.Common.{◌≡◌, ℕ, ◌≤◌, nat_le, Bool, true, false, inl, inr, List, [], ◌∷◌, Option, Some, None, map, refl, sym, ◌∙◌, ap, subst, arith}
 use Rattle.std.specs.Prelude.{◌==◌, if◌then◌else◌}
 use Rattle.std.specs.List.{AllByRecursion, Contains}
 use Rattle.std.specs.List.Sorted.{IsStrictlySortedBy, IsPermutation, IsSorted}
@@ -18,7 +18,7 @@ use Rattle.loop_model.specs.Loops.{numbers, until}
 use Rattle.readiness_loop.specs.WakeTimes.{pair_cmp, has, is_moment, numbers_until, IsFirst}
 use Rattle.readiness_loop.specs.Books.{seat, seats, sessions, sessions_at, IsSeat, AreSeated, wake_of, wake_in, wake_at, AreAwaited, due_numbers}
 use Rattle.readiness_loop.proofs.Risings.{AllEntries, all_found, same_rising, found_is, in_first, in_rest}
-use Rattle.readiness_loop.proofs.DuePairs.{AllPairs, all_pairs, due_rises, due_has, due_only}
+use Rattle.readiness_loop.proofs.DuePairs.{all_pairs, due_rises, due_has, due_only}
 use Rattle.readiness_loop.proofs.Seats.{place_of}
 use Rattle.readiness_loop.proofs.Sweeps.{numbers_are}
 

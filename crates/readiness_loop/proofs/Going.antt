@@ -1,9 +1,8 @@
 -- One turn with what comes before it.
-use Rattle.std.proofs.Common.{◌≡◌, ℕ, ◌+◌, ◌≤◌, max, Bool, true, false, List, [], ◌∷◌, ◌++◌, Option, Some, None, Result, Ok, Err, length, refl, sym, ◌∙◌, ap, subst, arith, append-nil, append_assoc}
+use Rattle.std.proofs.Common.{◌≡◌, ℕ, ◌≤◌, max, Bool, true, false, List, [], ◌∷◌, ◌++◌, Option, Some, None, Result, Ok, Err, length, refl, sym, ◌∙◌, ap, subst, arith, append-nil, append_assoc}
 use Rattle.std.specs.Prelude.{◌==◌, ◌&&◌, if◌then◌else◌}
 use Rattle.link_trait.specs.Outside.{Grew, Rose}
 use Rattle.link_trait.specs.Growth.{grew_then}
-use Rattle.link_trait.specs.Wires.{Call}
 use Rattle.loop_model.specs.Outs.{Out, still, next}
 use Rattle.loop_model.specs.Sessions.{Session}
 use Rattle.loop_model.specs.Loops.{Plan, Loop, rules_of, before, Halt, OnClosed, OnFailed, halt_by, Course, Turn, readied, turned_unless, went, nothing_comes}
@@ -12,9 +11,9 @@ use Rattle.loop_session.specs.declared.loop_fault.LoopFault.{LoopFault}
 use Rattle.loop_session.specs.declared.loop_fault.LoopFault.TheVariants.{Wires, Sink, NoMemory}
 use Rattle.loop_visit.specs.Acting.{Seen, Acted, BreaksAt, Did, Stopped}
 use Rattle.readiness_loop.specs.declared.live_loop.Next.{Next}
-use Rattle.readiness_loop.specs.Courses.{Around, Came, Went, WentOff, WentWrong, Turned, Turns, halt_of, course_of}
+use Rattle.readiness_loop.specs.Courses.{Around, Came, Went, WentOff, Turned, Turns, halt_of, course_of}
 use Rattle.loop_visit.specs.Sequels.{breaks_first}
-use Rattle.readiness_loop.proofs.Sequences.{SaysSame, acted_as, acted_still, acted_then, breaks_as, breaks_then}
+use Rattle.readiness_loop.proofs.Sequences.{acted_as, acted_still, acted_then, breaks_as, breaks_then}
 use Rattle.readiness_loop.proofs.Openings.{opened_in-append, before_opens}
 use Rattle.readiness_loop.proofs.Turning.{closed_is}
 

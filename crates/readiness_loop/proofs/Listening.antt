@@ -1,5 +1,5 @@
 -- A loop that serves: it listens, the header is printed, and it runs.
-use Rattle.std.proofs.Common.{◌≡◌, ℕ, ◌+◌, ◌-◌, ◌^◌, ◌<◌, ◌≤◌, min, List, [], ◌∷◌, ◌++◌, Option, Some, None, Result, Ok, Err, refl, sym, ◌∙◌, ap, subst, arith}
+use Rattle.std.proofs.Common.{◌≡◌, ℕ, ◌+◌, ◌-◌, ◌^◌, ◌<◌, ◌≤◌, min, List, [], ◌∷◌, ◌++◌, Option, Some, Result, Ok, Err, refl, sym, ◌∙◌, ap, subst, arith}
 use Rattle.std.specs.Prelude.{true, false, IfOk}
 use Rattle.rand_core.specs.Stream.{Stream}
 use Rattle.slab.specs.Slab.{Slab}
@@ -15,19 +15,18 @@ use Rattle.link_trait.specs.Outside.{Grew, GrewPart, Rose}
 use Rattle.link_trait.specs.Growth.{grew_nothing, grew_then, part_nothing, part_more, part_then}
 use Rattle.link_trait.specs.Wires.{Call, Listens, given_of, taken_of}
 use Rattle.loop_model.specs.Journals.{header, text}
-use Rattle.loop_model.specs.Outs.{Out, next}
-use Rattle.loop_model.specs.Loops.{Plan, Loop, Halt, OnFailed, Course, Turn, run, beginning, serves, printed}
-use Rattle.loop_model.specs.Parts.{opened_in, Rises, calls_at}
-use Rattle.loop_model.specs.Laws.{ConnectionsAreIsolated, JournalIsPrinted, OctetsAreAccounted, CallsAreOnOpen, FaultsHaveFailed, TurnsAreCounted, IsServing, RunsSo, HasFailed, faults, failures, turns_of, HaltsBy}
+use Rattle.loop_model.specs.Loops.{Plan, Loop, Halt, OnFailed, Turn, run, beginning, serves, printed}
+use Rattle.loop_model.specs.Parts.{Rises, calls_at}
+use Rattle.loop_model.specs.Laws.{ConnectionsAreIsolated, JournalIsPrinted, OctetsAreAccounted, CallsAreOnOpen, FaultsHaveFailed, TurnsAreCounted, IsServing, RunsSo, faults, failures, turns_of, HaltsBy}
 use Rattle.loop_model.specs.Points.{OctetsAreHeard, UsersReply}
 use Rattle.loop_model.specs.Recordings.{RecordingsReplay}
 use Rattle.loop_session.specs.Parts.{Breaks, Puts}
 use Rattle.loop_session.specs.declared.loop_fault.LoopFault.{LoopFault}
 use Rattle.loop_session.specs.declared.loop_fault.LoopFault.TheVariants.{Wires, Sink, NoMemory}
-use Rattle.loop_visit.specs.Acting.{Seen, AreAnsweredSo, Counts, Acted, Began, BreaksAt}
+use Rattle.loop_visit.specs.Acting.{Counts}
 use Rattle.readiness_loop.specs.declared.line_plan.Served.{Served}
-use Rattle.readiness_loop.specs.Claims.{Outside, IsDone, IsBegun, IsLawful, HasTurns, AreSpoken, HasServed, NotListening, TurnFailed, FailsToServe, BreaksOffServing, halt_for}
-use Rattle.readiness_loop.specs.Courses.{Around, Came, Went, WentOff, WentWrong, Runs, Serves, outside_of, course_of, loop_of}
+use Rattle.readiness_loop.specs.Claims.{IsDone, IsLawful, HasTurns, AreSpoken, HasServed, NotListening, TurnFailed, FailsToServe, BreaksOffServing, halt_for}
+use Rattle.readiness_loop.specs.Courses.{Around, Went, WentOff, Runs, Serves, outside_of, course_of, loop_of}
 use Rattle.loop_visit.specs.Sequels.{began_none, began_then, failed_behind}
 use Rattle.readiness_loop.proofs.Acceptings.{no_sessions}
 
@@ -189,8 +188,7 @@ header_stops plan a b minds words address (NoMemory want) told less p = (header_
 -- memory ran out before it listened
 pub serve_wanted : (plan : Plan) (a : Around) (minds : List Mind) (words : Stream) (address : List ℕ) (want : Want) → Serves plan a a minds words address (Err (NoMemory want))
 serve_wanted plan a minds words address want =
-    let o = serves plan (beginning minds words) address true [] in
-    (
+    let o = serves plan (beginning minds words) address true [] in (
       record {
         answers = [];
         begun = record {

@@ -1,5 +1,5 @@
 -- A tick or a closing leaves a session of the same number, or none; and one whose moment hasn't come stays as it is.
-use Rattle.std.proofs.Common.{◌≡◌, ℕ, ◌+◌, nat_lt, Bool, true, false, inl, inr, List, [], ◌∷◌, ◌++◌, Option, Some, None, length, refl, sym, ◌∙◌, ap, subst}
+use Rattle.std.proofs.Common.{◌≡◌, ℕ, ◌+◌, nat_lt, Bool, true, false, inl, inr, List, [], ◌∷◌, Option, Some, None, length, refl, ◌∙◌, subst}
 use Rattle.std.specs.Prelude.{◌==◌, ◌||◌, ◌&&◌}
 use Rattle.std.proofs.lemmas.Bool.{cases_Bool}
 use Rattle.er_base.specs.declared.release.Release.{Release}
@@ -8,8 +8,8 @@ use Rattle.er_users.specs.Users.{Mind, Said}
 use Rattle.link_trait.specs.declared.wires.WriteAnswer.{WriteAnswer}
 use Rattle.link_trait.specs.declared.wires.WriteAnswer.TheVariants as write
 use Rattle.loop_model.specs.Journals.{Entry}
-use Rattle.loop_model.specs.Outs.{Out, still, runs, acts, exactly}
-use Rattle.loop_model.specs.Sessions.{Rules, Session, Given, Takes, Ticks, Faults, Says, most_output, joined, fed, hears, heard_in, outcomes_of, end_after, octets_in, dealt, takes_all, parts, parted, handled, is_released}
+use Rattle.loop_model.specs.Outs.{Out, still, runs, acts}
+use Rattle.loop_model.specs.Sessions.{Rules, Session, Given, Takes, Ticks, Faults, Says, most_output, joined, fed, hears, heard_in, outcomes_of, octets_in, dealt, takes_all, parts, parted, handled, is_released}
 use Rattle.loop_model.specs.Visits.{Flow, Going, PutOff, Failing, Wrote, Met, Visit, Tick, Read, Write, Expire, after_write, writes_if, writes_once, writes, fault_unless, flowed, written_unless, written, settled, rests, served, visited, is_due, wakes}
 use Rattle.readiness_loop.specs.Books.{IsTimed}
 use Rattle.readiness_loop.proofs.Befores.{not_due_first, not_due_second}

@@ -1,11 +1,10 @@
 -- No visit of a session opens a connection, and none makes a turn.
-use Rattle.std.proofs.Common.{◌≡◌, ℕ, Bool, true, false, List, [], ◌∷◌, ◌++◌, Option, Some, None, inl, inr, drop, length, refl, sym, ◌∙◌, ap, subst, append_assoc}
+use Rattle.std.proofs.Common.{◌≡◌, ℕ, List, [], ◌∷◌, ◌++◌, inl, inr, drop, length, refl, sym, ◌∙◌, ap, subst, append_assoc}
 use Rattle.std.specs.Prelude.{◌==◌, ◌&&◌, ◌||◌}
 use Rattle.std.proofs.lemmas.Bool.{cases_Bool}
 use Rattle.link_trait.specs.Wires.{Call, Reading, Gave, NotNow, End, Failed}
 use Rattle.link_trait.specs.declared.wires.WriteAnswer.{WriteAnswer}
-use Rattle.link_trait.specs.declared.wires.WriteAnswer.TheVariants as write
-use Rattle.loop_model.specs.Outs.{Out, next, acts, exactly, first_of}
+use Rattle.loop_model.specs.Outs.{Out, next, acts, first_of}
 use Rattle.loop_model.specs.Sessions.{Rules, Session, Given, is_released}
 use Rattle.loop_model.specs.Visits.{Flow, Going, PutOff, Failing, writes_once, writes_if, writes, flowed, written, written_unless, settled, rests, rests_behind, read_once, served, visited, Visit, Tick, Read, Write, Expire, Met, nothing_met, Wrote, is_due}
 use Rattle.loop_model.specs.Loops.{visit_at, swept, before, Sweeps, numbers}

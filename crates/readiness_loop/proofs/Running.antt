@@ -1,16 +1,15 @@
 -- A run of turns, turn by turn.
-use Rattle.std.proofs.Common.{◌≡◌, ℕ, zero, suc, ◌+◌, ◌-◌, ◌<◌, ◌≤◌, List, [], ◌∷◌, ◌++◌, Option, Some, None, Result, Ok, Err, length, refl, sym, ◌∙◌, ap, subst, arith, append-nil, append_assoc, length-append}
-use Rattle.link_trait.specs.Outside.{Grew, Rose}
+use Rattle.std.proofs.Common.{◌≡◌, ℕ, zero, suc, ◌+◌, ◌-◌, ◌<◌, ◌≤◌, List, [], ◌∷◌, ◌++◌, Option, Some, None, Ok, Err, length, refl, sym, ◌∙◌, ap, subst, arith, append-nil, append_assoc, length-append}
+use Rattle.link_trait.specs.Outside.{Rose}
 use Rattle.link_trait.specs.Growth.{grew_nothing, grew_then}
-use Rattle.link_trait.specs.Wires.{Call}
 use Rattle.loop_model.specs.Outs.{Out, still, next, acts, exactly}
-use Rattle.loop_model.specs.Loops.{Plan, Loop, Halt, OnClosed, OnFailed, Course, Turn, went, went_unless, run, nothing_comes}
+use Rattle.loop_model.specs.Loops.{Plan, Loop, Halt, OnFailed, Course, Turn, went, went_unless, run, nothing_comes}
 use Rattle.loop_model.specs.Parts.{opened_in, Rises, newest}
 use Rattle.loop_session.specs.declared.loop_fault.LoopFault.{LoopFault}
 use Rattle.loop_session.specs.declared.loop_fault.LoopFault.TheVariants.{Wires, Sink, NoMemory}
-use Rattle.loop_visit.specs.Acting.{Seen, Acted, BreaksAt}
+use Rattle.loop_visit.specs.Acting.{BreaksAt}
 use Rattle.readiness_loop.specs.declared.live_loop.Next.{Next}
-use Rattle.readiness_loop.specs.Courses.{Around, Came, Went, WentOff, WentWrong, Turns, Runs, course_of, halt_of}
+use Rattle.readiness_loop.specs.Courses.{Around, Came, Went, WentOff, Turns, Runs, course_of, halt_of}
 use Rattle.loop_visit.specs.Sequels.{breaks_first}
 use Rattle.readiness_loop.proofs.Sequences.{acted_still, acted_then, breaks_then}
 use Rattle.readiness_loop.proofs.Openings.{opened_in-append}

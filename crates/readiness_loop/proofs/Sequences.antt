@@ -1,11 +1,10 @@
 -- One part of the loop behind another: what both leave, print and call together; and where one of them breaks off.
-use Rattle.std.proofs.Common.{◌≡◌, ℕ, ◌+◌, ◌-◌, ◌^◌, ◌≤◌, min, List, [], ◌∷◌, ◌++◌, Option, refl, sym, ◌∙◌, ap, subst, arith, append-nil, append_assoc}
+use Rattle.std.proofs.Common.{◌≡◌, ◌≤◌, [], refl, sym, subst, arith}
 use Rattle.link_trait.specs.Outside.{Grew, GrewPart}
 use Rattle.link_trait.specs.Growth.{grew_nothing, grew_then, part_then}
-use Rattle.link_trait.specs.Wires.{Call}
-use Rattle.loop_model.specs.Journals.{Entry, entry_text, text}
+use Rattle.loop_model.specs.Journals.{text}
 use Rattle.loop_model.specs.Outs.{Out, still, next}
-use Rattle.loop_model.specs.Laws.{failures, one_if, is_failed}
+use Rattle.loop_model.specs.Laws.{failures}
 use Rattle.loop_session.specs.declared.loop_fault.LoopFault.{LoopFault}
 use Rattle.loop_visit.specs.Acting.{Seen, AreAnsweredSo, Counts, Acted, Began, BreaksAt}
 use Rattle.loop_visit.specs.Sequels.{text_parts, answered_parts, counts_then, began_then, failed_behind}

@@ -1,21 +1,18 @@
 -- Visits one after the other: what so many of them left, printed and called.
-use Rattle.std.proofs.Common.{◌≡◌, ℕ, zero, suc, ◌+◌, ◌<◌, ◌≤◌, min, List, [], ◌∷◌, ◌++◌, Option, Some, None, Result, length, take, drop, map, slice_get, refl, sym, ◌∙◌, ap, subst, arith, append_assoc, append-nil, length-append}
+use Rattle.std.proofs.Common.{◌≡◌, ℕ, zero, suc, ◌+◌, ◌<◌, ◌≤◌, List, [], ◌∷◌, ◌++◌, Option, Some, None, Result, length, take, drop, map, slice_get, refl, sym, ◌∙◌, ap, subst, arith, append_assoc, append-nil, length-append}
 use Rattle.std.proofs.lemmas.List.{take-append-drop, length-take-le}
 use Rattle.std.proofs.lemmas.Option.{slice_get_within}
-use Rattle.std.specs.BTreeMap.{BTreeMap, keys}
 use Rattle.slab.specs.Slab.{Slab, get}
-use Rattle.link_trait.specs.Wires.{Call}
 use Rattle.end_model.specs.Steps.{first_of as first_moment}
-use Rattle.loop_model.specs.Journals.{Entry}
-use Rattle.loop_model.specs.Outs.{Out, next, still, acts, exactly}
+use Rattle.loop_model.specs.Outs.{Out, next}
 use Rattle.loop_model.specs.Sessions.{Session}
-use Rattle.loop_model.specs.Visits.{Met, nothing_met, wakes}
+use Rattle.loop_model.specs.Visits.{Met, wakes}
 use Rattle.loop_model.specs.Loops.{visit_at, swept, numbers, until}
 use Rattle.loop_session.specs.declared.loop_fault.LoopFault.{LoopFault}
 use Rattle.loop_session.specs.declared.loop_fault.LoopFault.TheVariants.{NoMemory}
 use Rattle.er_base.specs.declared.no_memory.NoMemory.{NoMemory as Want}
 use Rattle.loop_visit.specs.Acting.{Seen, Acted, BreaksAt, Did, Stopped, Does}
-use Rattle.readiness_loop.specs.Books.{seat, seats, sessions, sessions_at, IsSeat, IsApart, AreSeated}
+use Rattle.readiness_loop.specs.Books.{seat, seats, sessions_at, IsSeat, AreSeated}
 use Rattle.loop_visit.specs.Sequels.{breaks_first, breaks_wanted}
 use Rattle.readiness_loop.proofs.Sequences.{acted_still, acted_then, breaks_then}
 

@@ -1,8 +1,7 @@
 -- A turn: what happens is handled whole, and why the loop halts behind it.
-use Rattle.std.proofs.Common.{◌≡◌, ℕ, ◌+◌, ◌-◌, ◌<◌, ◌≤◌, max, nat_lt, Bool, true, false, inl, inr, List, [], ◌∷◌, ◌++◌, Option, Some, None, Result, Ok, Err, length, refl, sym, ◌∙◌, ap, subst, arith, append-nil, append_assoc}
+use Rattle.std.proofs.Common.{◌≡◌, ℕ, ◌+◌, ◌-◌, ◌≤◌, max, nat_lt, Bool, inl, inr, List, [], ◌∷◌, ◌++◌, Option, Some, None, Result, Ok, Err, length, refl, sym, ◌∙◌, ap, subst, arith, append-nil}
 use Rattle.std.specs.Prelude.{◌==◌, ◌&&◌, if◌then◌else◌}
 use Rattle.std.proofs.lemmas.Bool.{cases_Bool}
-use Rattle.std.specs.BTreeMap.{BTreeMap}
 use Rattle.slab.specs.Slab.{Slab}
 use Rattle.link_trait.specs.Outside.{Grew, Rose}
 use Rattle.link_trait.specs.Growth.{grew_nothing}
@@ -10,21 +9,20 @@ use Rattle.link_trait.specs.Wires.{Call, Turns, opened_by_turn}
 use Rattle.link_trait.specs.declared.wires.Conn.{Conn}
 use Rattle.link_trait.specs.declared.wires.Happening.{Happening}
 use Rattle.link_trait.specs.declared.wires.Happening.TheVariants as happening
-use Rattle.loop_model.specs.Journals.{Entry}
-use Rattle.loop_model.specs.Outs.{Out, still, next, changed, makes}
+use Rattle.loop_model.specs.Outs.{changed, makes}
 use Rattle.loop_model.specs.Sessions.{Session}
 use Rattle.loop_model.specs.Visits.{Met, nothing_met, visited, Read, Write}
-use Rattle.loop_model.specs.Loops.{Plan, Loop, rules_of, with_sessions, visit_at, until, accepted, answered_by, turned_away, next_user, most_live, happened, Halt, OnEnded, OnClosed, OnFailed, halt_by, halt_behind, Course, Turn, turn, follows, turned_unless}
+use Rattle.loop_model.specs.Loops.{Plan, Loop, rules_of, with_sessions, visit_at, until, accepted, answered_by, next_user, most_live, happened, Halt, OnEnded, OnClosed, OnFailed, halt_by, halt_behind, Course, Turn, turn, follows, turned_unless}
 use Rattle.loop_model.specs.Parts.{opened_in, opened_by, Rises, newest}
 use Rattle.loop_model.specs.Laws.{failures}
 use Rattle.er_users.specs.Users.{Mind}
 use Rattle.loop_session.specs.declared.loop_fault.LoopFault.{LoopFault}
 use Rattle.loop_session.specs.declared.loop_fault.LoopFault.TheVariants.{Wires, Sink, NoMemory}
-use Rattle.loop_visit.specs.Acting.{Seen, seen, Acted, BreaksAt, Did, Stopped, Does}
+use Rattle.loop_visit.specs.Acting.{Seen, seen, Acted, Did, Stopped, Does}
 use Rattle.readiness_loop.specs.declared.live_loop.Next.{Next}
 use Rattle.readiness_loop.specs.Books.{AreSeated}
-use Rattle.readiness_loop.specs.Courses.{around, Came, Went, WentOff, WentWrong, Goes, Turned, halt_of, halt_after, HaltsSo, course_of, Acts, IsReadyFor}
-use Rattle.readiness_loop.proofs.Sequences.{SaysSame, acted_as, acted_still, acted_then, breaks_as, breaks_then, failures-none}
+use Rattle.readiness_loop.specs.Courses.{around, Went, WentOff, Turned, halt_of, halt_after, HaltsSo, course_of, Acts, IsReadyFor}
+use Rattle.readiness_loop.proofs.Sequences.{acted_as, acted_still, acted_then, breaks_as, breaks_then}
 use Rattle.readiness_loop.proofs.Openings.{visit_opens}
 
 -- ---- what happened

@@ -2,12 +2,11 @@
 -- wires and the clock's answers are those of that journal; both are what the loop of `loop_model` does for some answers of the outside.
 use Rattle.std.specs.Prelude.{◌≡◌, ℕ, ◌+◌, ◌-◌, ◌^◌, ◌≤◌, min, Bool, true, false, List, [], ◌∷◌, length, Option, Some, None}
 use Rattle.rand_core.specs.Stream.{Stream}
-use Rattle.er_settings.specs.declared.settings.Settings.{Settings}
 use Rattle.des_block.specs.declared.triple_key.TripleKey.{TripleKey}
 use Rattle.safety_automaton.specs.Keys as keys
 use Rattle.er_users.specs.Users.{Mind}
-use Rattle.link_trait.specs.Outside.{Grew, GrewPart, Rose}
-use Rattle.link_trait.specs.Wires.{Call, Listens, Dials}
+use Rattle.link_trait.specs.Outside.{Grew, GrewPart}
+use Rattle.link_trait.specs.Wires.{Listens, Dials}
 use Rattle.loop_model.specs.Outs.{Out}
 use Rattle.loop_model.specs.Loops.{Plan, Halt, OnEnded, OnClosed, OnFailed, Course, Turn, beginning, serves, Caller, Dialled, dials, printed}
 use Rattle.loop_model.specs.Laws.{IsIsolated, IsPrinted, AreAccounted, AreOnOpen, faults, HaltsBy, turns_of, greatest}

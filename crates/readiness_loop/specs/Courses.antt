@@ -1,6 +1,6 @@
 -- Representation: how far the loop's code has come, as a course of the model; what is seen of the outside; how a turn and a run of turns end;
 -- no claim rests on it.
-use Rattle.std.specs.Prelude.{◌≡◌, ℕ, ◌≤◌, ◌<◌, ◌-◌, Bool, true, false, List, [], ◌∷◌, ◌++◌, Option, Some, None, Result, Ok, Err}
+use Rattle.std.specs.Prelude.{◌≡◌, ℕ, ◌≤◌, ◌<◌, ◌-◌, Bool, true, false, List, [], ◌++◌, Option, Some, None, Result, Ok, Err}
 use Rattle.rand_core.specs.Stream.{Stream, next_u64}
 use Rattle.er_settings.specs.declared.settings.Settings.{Settings}
 use Rattle.end_model.specs.Ends.{Answer as AnswersWith}
@@ -12,12 +12,11 @@ use Rattle.std.specs.BTreeMap.{BTreeMap}
 use Rattle.safety_automaton.specs.Keys as keys
 use Rattle.er_users.specs.Users.{Mind}
 use Rattle.link_trait.specs.Outside.{Grew, Rose}
-use Rattle.link_trait.specs.Wires.{Call}
 use Rattle.loop_model.specs.Outs.{Out}
 use Rattle.loop_model.specs.Sessions.{Session}
 use Rattle.loop_model.specs.Visits.{Met}
 use Rattle.des_block.specs.declared.triple_key.TripleKey.{TripleKey}
-use Rattle.loop_model.specs.Loops.{Plan, Loop, Halt, OnEnded, OnClosed, OnFailed, Course, Turn, went, turned_unless, run, asks, opens, begun, Caller}
+use Rattle.loop_model.specs.Loops.{Plan, Loop, Halt, OnEnded, OnClosed, OnFailed, Course, went, turned_unless, run, asks, opens, begun, Caller}
 use Rattle.loop_model.specs.Parts.{opened_in, Rises, newest}
 use Rattle.loop_session.specs.declared.loop_fault.LoopFault.{LoopFault}
 use Rattle.loop_session.specs.declared.loop_fault.LoopFault.TheVariants.{Wires, Sink, NoMemory}

@@ -1,4 +1,4 @@
-use Rattle.std.proofs.Common.{◌≡◌, ◌+◌, ◌≤◌, ◌<◌, map, [], ◌∷◌, refl, sym, ◌∙◌, ap, arith}
+use Rattle.std.proofs.Common.{map, [], ◌∷◌, refl, sym, ◌∙◌, ap, arith}
 use Rattle.loop_visit.specs.Acting.{seen}
 use Rattle.readiness_loop.specs.Claims.{pair_of}
 use Rattle.readiness_loop.specs.Courses.{plan_of, caller_of, loop_of, around}

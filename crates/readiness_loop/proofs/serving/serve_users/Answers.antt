@@ -1,4 +1,4 @@
-use Rattle.std.proofs.Common.{◌≡◌, map, [], refl, ap}
+use Rattle.std.proofs.Common.{map, [], refl, ap}
 use Rattle.loop_visit.specs.Acting.{seen}
 use Rattle.readiness_loop.specs.Courses.{plan_of, loop_of, around}
 use Rattle.readiness_loop.proofs.Acceptings.{no_seats}

@@ -1,4 +1,4 @@
-use Rattle.std.proofs.Common.{sym, ◌∙◌}
+use Rattle.std.proofs.Common.{◌∙◌}
 use Rattle.loop_model.specs.Visits.{visited}
 use Rattle.loop_session.specs.Parts.{rules}
 use Rattle.loop_visit.specs.Acting.{seen}

@@ -1,8 +1,4 @@
-use Rattle.std.proofs.Common.{◌≡◌, Some, None, sym, ◌∙◌}
-use Rattle.loop_model.specs.Visits.{visited}
-use Rattle.loop_session.specs.Parts.{rules}
-use Rattle.loop_visit.specs.Acting.{seen}
-use Rattle.loop_visit.specs.Visiting.{visit_of}
+use Rattle.std.proofs.Common.{sym, ◌∙◌}
 use Rattle.readiness_loop.proofs.Awaited.{wake_known, awaited_stays, awaited_closes}
 use Rattle.readiness_loop.proofs.Booked.{nobody_did, empty_did, stays_did, stays_seated, closes_did, closes_seated, stopped_visit, wanted_visit}
 use Rattle.readiness_loop.proofs.book.Book.visit.Goals as goal

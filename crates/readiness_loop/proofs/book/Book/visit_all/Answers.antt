@@ -1,4 +1,4 @@
-use Rattle.std.proofs.Common.{◌≡◌, get_or, refl, ◌∙◌, arith}
+use Rattle.std.proofs.Common.{get_or, refl, ◌∙◌, arith}
 use Rattle.std.proofs.lemmas.Option.{slice_get-get_or}
 use Rattle.readiness_loop.proofs.Sweeps.{swept_none, swept_next, swept_all, swept_breaks}
 use Rattle.readiness_loop.proofs.book.Book.visit_all.Goals as goal

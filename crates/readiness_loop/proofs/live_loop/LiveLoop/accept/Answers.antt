@@ -1,4 +1,4 @@
-use Rattle.std.proofs.Common.{◌≡◌, List, map, length, vec_len, ◌++◌, [], ◌∷◌, refl, sym, ◌∙◌, ap, append-nil, rules}
+use Rattle.std.proofs.Common.{◌≡◌, map, length, vec_len, [], ◌∷◌, refl, sym, ◌∙◌, ap, append-nil, rules}
 use Rattle.std.proofs.lemmas.List.{map-append}
 use Rattle.loop_visit.specs.Acting.{seen}
 use Rattle.readiness_loop.specs.Courses.{plan_of, loop_of}

@@ -1,4 +1,4 @@
-use Rattle.std.proofs.Common.{rules as by_rules, ◌≡◌, [], ◌∷◌, ◌∙◌, ap, arith}
+use Rattle.std.proofs.Common.{rules as by_rules, ◌≡◌, [], ◌∷◌, ◌∙◌, ap}
 use Rattle.rand_core.specs.Stream.{next_u64}
 use Rattle.end_model.specs.Ends.{Call as CallsWith}
 use Rattle.er_end.specs.KeptEnds.{kept_opened}

@@ -1,4 +1,4 @@
-use Rattle.std.proofs.Common.{rules, ◌≡◌, map, length, vec_len, [], ◌∷◌, ◌++◌, Ok, Err, false, refl, sym, ◌∙◌, ap, append-nil}
+use Rattle.std.proofs.Common.{rules, ◌≡◌, map, length, vec_len, [], ◌∷◌, Ok, Err, false, refl, sym, ◌∙◌, ap, append-nil}
 use Rattle.std.proofs.lemmas.List.{map-append}
 use Rattle.loop_visit.specs.Acting.{seen}
 use Rattle.readiness_loop.specs.Books.{sessions}

@@ -1,4 +1,4 @@
-use Rattle.std.proofs.Common.{◌≡◌, map, refl}
+use Rattle.std.proofs.Common.{map, refl}
 use Rattle.loop_visit.specs.Acting.{seen}
 use Rattle.readiness_loop.specs.Courses.{plan_of, loop_of}
 use Rattle.readiness_loop.specs.Books.{sessions}

@@ -1,4 +1,4 @@
-use Rattle.std.proofs.Common.{◌≡◌, ◌≤◌, ◌<◌, ◌+◌, map, Some, None, [], refl, sym, ◌∙◌, ap, subst, arith}
+use Rattle.std.proofs.Common.{map, ap, arith}
 use Rattle.loop_model.specs.Loops.{OnEnded, OnClosed}
 use Rattle.loop_visit.specs.Acting.{seen}
 use Rattle.readiness_loop.specs.Courses.{plan_of, loop_of, course_of, around, halt_of}

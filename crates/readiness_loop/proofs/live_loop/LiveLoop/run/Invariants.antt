@@ -1,5 +1,5 @@
 -- So many turns were done, and the loop goes on.
-use Rattle.std.specs.Prelude.{◌≡◌, ◌≤◌, ℕ, List, map}
+use Rattle.std.specs.Prelude.{◌≤◌, ℕ, List, map}
 use Rattle.loop_visit.specs.Acting.{seen}
 use Rattle.readiness_loop.specs.Books.{AreSeated, AreAwaited}
 use Rattle.readiness_loop.specs.Courses.{plan_of, loop_of, course_of, around}

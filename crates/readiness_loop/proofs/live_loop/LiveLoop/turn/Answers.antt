@@ -1,4 +1,4 @@
-use Rattle.std.proofs.Common.{◌≡◌, map, length, refl}
+use Rattle.std.proofs.Common.{map}
 use Rattle.readiness_loop.specs.Courses.{plan_of, loop_of}
 use Rattle.readiness_loop.proofs.Acceptings.{length_sessions}
 use Rattle.readiness_loop.proofs.Turning.{turn_goes, turn_stops}

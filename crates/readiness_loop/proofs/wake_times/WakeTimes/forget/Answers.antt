@@ -1,4 +1,4 @@
-use Rattle.std.proofs.Common.{◌≡◌, false, sym}
+use Rattle.std.proofs.Common.{false}
 use Rattle.readiness_loop.proofs.WakePairs.{pair_changed}
 use Rattle.readiness_loop.proofs.wake_times.WakeTimes.forget.Goals as goal
 

@@ -1,4 +1,4 @@
-use Rattle.std.proofs.Common.{◌≡◌, true, sym}
+use Rattle.std.proofs.Common.{true}
 use Rattle.readiness_loop.proofs.WakePairs.{pair_changed}
 use Rattle.readiness_loop.proofs.wake_times.WakeTimes.keep.Goals as goal
 
