@@ -3,7 +3,6 @@
 use er_base::NoMemory;
 use er_end::End;
 use er_settings::Settings;
-use key_store::KeyStore;
 use safety_automaton::KeyFinder;
 use std::alloc::Global;
 
@@ -90,7 +89,7 @@ impl Side {
     }
 
     // Reads octets, frame by frame.
-    fn read(&mut self, keys: &KeyStore, octets: &[u8]) -> Result<(), NoMemory> {
+    fn read<K: KeyFinder>(&mut self, keys: &K, octets: &[u8]) -> Result<(), NoMemory> {
         let mut left = octets;
         for _ in 0..octets.len() {
             if left.is_empty() {
@@ -108,10 +107,10 @@ impl Side {
 }
 
 // Each reads what the other sent, until the train has no more to say.
-fn settle(
+fn settle<K: KeyFinder>(
     train: &mut Side,
     centre: &mut Side,
-    keys: &KeyStore,
+    keys: &K,
     script: &mut Script,
 ) -> Result<(), NoMemory> {
     for _ in 0..PASSES {
@@ -130,9 +129,9 @@ fn settle(
 
 /// The script of a train that is connected to an end of this random number, and sends so many position reports, one after another, each
 /// said back.
-pub fn script_of(
+pub fn script_of<K: KeyFinder>(
     alloc: Global,
-    keys: &KeyStore,
+    keys: &K,
     word: u64,
     reports: u64,
 ) -> Result<Script, NoMemory> {
