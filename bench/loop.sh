@@ -1,9 +1,10 @@
 #!/usr/bin/env bash
 # The readiness loop as a radio block centre of 1, 16 and 256 trains: bash bench/loop.sh
-# First over wires in memory that play scripts: each train is connected and sends 1,000 position reports of 24 octets, one after another, and
-# the loop says each of them back. Messages a second of processor time, of the loop alone (a run that only makes the scripts is taken away; so
-# is the set-up, which is told by itself), what a message costs with 256 trains against with one, and the memory of a connection. The journal
-# is printed and counted, and kept nowhere.
+# First over wires in memory: each train is connected and sends 1,000 position reports of 24 octets, each once the one before was said back.
+# The loop serves live trains once, and then the record of what they sent; a run with live trains only is taken away from one with the record
+# too, so what is told is the loop's own time: messages a second of processor time (so many reports that came and were said back), of the
+# set-up by itself, and what a message costs with 256 trains against with one. And the memory of a connection, with the end of its train.
+# The journal is printed and counted, and kept nowhere.
 # Then over loopback sockets: `euroradio serve`, which writes its journal to a file, and 256 runs of `euroradio call`, so many at once, each a
 # set-up, three position reports that are said back, and a release; and beside it, as the floor, a C server that says back what it reads, with as
 # many connections and as many exchanges on each. Processor time of the servers, user and system, and the memory of a connection that was

@@ -1,6 +1,9 @@
-//! A train and the end that answers it, wired to each other: so the script of a train is made.
+//! A train: an end that calls, whose user sends reports.
 
-use er_base::NoMemory;
+ghost use Rattle.std.specs.Prelude.{[]};
+
+use des_block::TripleKey;
+use er_base::{NoMemory, Room};
 use er_end::End;
 use er_settings::Settings;
 use safety_automaton::KeyFinder;
@@ -12,148 +15,118 @@ pub const MOMENT: u64 = 0;
 /// The ETCS number of the radio block centre.
 pub const CENTRE: u32 = 9;
 
-// That of the engine of every train, and its random number.
+// The ETCS number of the engine of every train, its KMAC and its random number.
 const ENGINE: u32 = 5;
+
+const KMAC: TripleKey = TripleKey {
+    first: 0x0123456789abcdef,
+    second: 0x23456789abcdef01,
+    third: 0x456789abcdef0123,
+};
 
 const ENGINES_WORD: u64 = 0x0102030405060708;
 
-// More passes than a set-up or a message takes.
-const PASSES: usize = 64;
-
 const REPORT: &[u8] = b"position-report-00000001";
 
-/// What a train sends, piece by piece, and how many octets it hears.
+// More octets than an end sends at one write of the loop.
+const ROOM: usize = 4_096;
+
+// Finds no key: an end that calls looks none up.
 #[derive(Drop)]
-pub struct Script {
-    octets: Vec<u8>,
-    ends: Vec<usize>,
+struct NoKeys;
+
+impl KeyFinder for NoKeys {
+    ghost entries = { λ _. [] };
+
+    fn find(&self, _engine: u32, _rbc: u32, _now: u64) -> Option<TripleKey> {
+        None
+    }
+}
+
+/// A train that is connected and sends so many reports, each once the one before was said back.
+#[derive(Drop)]
+pub struct Train {
+    end: End,
+    sent: Room,
+    left: u64,
+    /// The messages that it heard.
     pub heard: u64,
 }
 
-impl Script {
-    fn add(&mut self, piece: &[u8]) -> Result<(), NoMemory> {
-        self.octets.extend_from_slice(piece)?;
-        self.ends.push(self.octets.len())?;
-        Ok(())
-    }
-
-    /// The piece of this number, from 0.
-    pub fn piece(&self, number: usize) -> Option<&[u8]> {
-        let end = *self.ends.get(number)?;
-        let start = match number.checked_sub(1) {
-            Some(before) => *self.ends.get(before)?,
-            None => 0,
+impl Train {
+    /// A train that calls.
+    pub fn new(alloc: Global, reports: u64) -> Result<Train, NoMemory> {
+        let settings = Settings::usual();
+        let mut train = Train {
+            end: End::call(alloc, &settings, ENGINE, CENTRE, KMAC, ENGINES_WORD, MOMENT)?,
+            sent: Room::with_capacity(alloc, ROOM)?,
+            left: reports,
+            heard: 0,
         };
-        self.octets.get(start..end)
-    }
-}
-
-// An end, what it sent, and the newest message that its user took. The user takes each message at once, and may say it back.
-#[derive(Drop)]
-struct Side {
-    end: End,
-    echoes: bool,
-    sent: Vec<u8>,
-    text: Vec<u8>,
-}
-
-impl Side {
-    fn new(alloc: Global, end: End, echoes: bool) -> Side {
-        Side {
-            end,
-            echoes,
-            sent: Vec::new(alloc),
-            text: Vec::new(alloc),
-        }
+        let deeds = train.end.start(MOMENT);
+        put(deeds.out, &mut train.sent);
+        Ok(train)
     }
 
-    fn send(&mut self, message: &[u8]) -> Result<(), NoMemory> {
-        if let Ok(deeds) = self.end.send(MOMENT, message) {
-            self.sent.extend_from_slice(deeds.out)?;
-        }
-        Ok(())
+    /// Lends the octets that it sent and the loop hasn't got.
+    pub fn sent(&self) -> &[u8] {
+        self.sent.held()
     }
 
-    fn take(&mut self) -> Result<(), NoMemory> {
-        self.text.clear();
-        if let Some(taken) = self.end.take(MOMENT) {
-            self.text.extend_from_slice(taken.text)?;
-            self.sent.extend_from_slice(taken.out)?;
-        }
-        if self.echoes {
-            if let Ok(deeds) = self.end.send(MOMENT, self.text.as_slice()) {
-                self.sent.extend_from_slice(deeds.out)?;
-            }
-        }
-        Ok(())
+    /// The loop gets them.
+    pub fn clear(&mut self) {
+        self.sent.clear();
     }
 
-    // Reads octets, frame by frame.
-    fn read<K: KeyFinder>(&mut self, keys: &K, octets: &[u8]) -> Result<(), NoMemory> {
+    /// Octets come, and are read frame by frame.
+    pub fn hear(&mut self, octets: &[u8]) {
         let mut left = octets;
         for _ in 0..octets.len() {
             if left.is_empty() {
-                break;
+                return;
             }
-            let (used, deeds) = self.end.octets(keys, MOMENT, left);
-            self.sent.extend_from_slice(deeds.out)?;
+            let used = self.hear_frame(left);
             left = left.get(used..).unwrap_or(&[]);
-            for _ in 0..self.end.waiting() {
-                self.take()?;
+        }
+    }
+
+    // Reads octets up to the first that closes a frame: how many they are.
+    fn hear_frame(&mut self, octets: &[u8]) -> usize {
+        let (used, deeds) = self.end.octets(&NoKeys, MOMENT, octets);
+        put(deeds.out, &mut self.sent);
+        let is_connected = deeds.connected.is_some();
+        if deeds.accepted.is_some() {
+            self.take();
+        }
+        if is_connected {
+            self.report();
+        }
+        used
+    }
+
+    // The user takes a message.
+    fn take(&mut self) {
+        if let Some(taken) = self.end.take(MOMENT) {
+            put(taken.out, &mut self.sent);
+            self.heard = self.heard.saturating_add(1);
+            self.report();
+        }
+    }
+
+    // The user sends a report, where one is left.
+    fn report(&mut self) {
+        if let Some(left) = self.left.checked_sub(1) {
+            self.left = left;
+            if let Ok(deeds) = self.end.send(MOMENT, REPORT) {
+                put(deeds.out, &mut self.sent);
             }
         }
-        Ok(())
     }
 }
 
-// Each reads what the other sent, until the train has no more to say.
-fn settle<K: KeyFinder>(
-    train: &mut Side,
-    centre: &mut Side,
-    keys: &K,
-    script: &mut Script,
-) -> Result<(), NoMemory> {
-    for _ in 0..PASSES {
-        if train.sent.is_empty() {
-            break;
-        }
-        script.add(train.sent.as_slice())?;
-        centre.read(keys, train.sent.as_slice())?;
-        train.sent.clear();
-        script.heard = script.heard.saturating_add(centre.sent.len() as u64);
-        train.read(keys, centre.sent.as_slice())?;
-        centre.sent.clear();
+// Octets are sent.
+fn put(octets: &[u8], sent: &mut Room) {
+    if octets.len() <= sent.free() {
+        sent.put(octets);
     }
-    Ok(())
-}
-
-/// The script of a train that is connected to an end of this random number, and sends so many position reports, one after another, each
-/// said back.
-pub fn script_of<K: KeyFinder>(
-    alloc: Global,
-    keys: &K,
-    word: u64,
-    reports: u64,
-) -> Result<Script, NoMemory> {
-    let settings = Settings::usual();
-    let mut script = Script {
-        octets: Vec::new(alloc),
-        ends: Vec::new(alloc),
-        heard: 0,
-    };
-    let Some(kmac) = keys.find(ENGINE, CENTRE, MOMENT) else {
-        return Ok(script);
-    };
-    let engine = End::call(alloc, &settings, ENGINE, CENTRE, kmac, ENGINES_WORD, MOMENT)?;
-    let mut train = Side::new(alloc, engine, false);
-    let answering = End::answer(alloc, &settings, CENTRE, word, MOMENT)?;
-    let mut centre = Side::new(alloc, answering, true);
-    let began = train.end.start(MOMENT);
-    train.sent.extend_from_slice(began.out)?;
-    settle(&mut train, &mut centre, keys, &mut script)?;
-    for _ in 0..reports {
-        train.send(REPORT)?;
-        settle(&mut train, &mut centre, keys, &mut script)?;
-    }
-    Ok(script)
 }
