@@ -11,8 +11,8 @@ bench, program, floor, work = sys.argv[1:]
 REPORTS = 1000
 CALLS = 256
 ROUNDS = 5
-# How often a call of `euroradio call` sends and then waits for an answer, and how many octets it sends each time, about.
-EXCHANGES, PIECE = 8, 44
+# How often `serve` writes to the line of one call (counted by strace), and how many octets, about; as much comes.
+EXCHANGES, PIECE = 5, 64
 KEYS = """version = 1
 
 [[key]]
@@ -145,13 +145,13 @@ def over_sockets():
     keys, recording = os.path.join(work, "keys"), os.path.join(work, "recording")
     with open(keys, "w") as text:
         text.write(KEYS)
-    start = best_of(3, served, 0, keys, recording)
-    floor_start = best_of(3, floor_served, 0, recording) if floor != "none" else 0
+    start = best_of(5, served, 0, keys, recording)
+    floor_start = best_of(5, floor_served, 0, recording) if floor != "none" else 0
     for at_once in (1, 16, 256):
-        cost = (best_of(3, served, at_once, keys, recording) - start) / CALLS
+        cost = (best_of(5, served, at_once, keys, recording) - start) / CALLS
         beside = ""
         if floor != "none":
-            least = max(best_of(3, floor_served, at_once, recording) - floor_start, 1e-6) / CALLS
+            least = max(best_of(5, floor_served, at_once, recording) - floor_start, 1e-6) / CALLS
             beside = f"; the floor {least * 1e6:6.1f} us: {cost / least:.1f} times as much"
         print(f"over sockets, {at_once:3} of {CALLS} calls at once: {cost * 1e6:7.1f} us a call, {3 / cost:6.0f} messages/s{beside}")
     if floor == "none":

@@ -6,14 +6,12 @@
 //! Its arguments, each with a default: the number of trains (2; at most 256), the reports of each (4), and how often the record is served (1).
 #![tactic(auto)]
 
-mod loop_clock;
-mod loop_sink;
+mod outside;
 mod record;
 mod train;
 mod train_wires;
 
-use crate::loop_clock::LoopClock;
-use crate::loop_sink::LoopSink;
+use crate::outside::{LoopClock, LoopSink};
 use crate::train::CENTRE;
 use crate::train_wires::TrainWires;
 use er_base::NoMemory;
@@ -109,8 +107,8 @@ fn main(rt: HostRuntime) -> io::Result<()> {
     };
     println!(rt;
         "echoed {} turns {turns} written {} journal {}",
-        wires.echoed(),
-        wires.written(),
+        wires.record.echoed(),
+        wires.written,
         sink.octets
     )
 }

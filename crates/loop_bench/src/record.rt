@@ -62,10 +62,10 @@ impl Record {
         let Some(train) = self.trains.get_mut(at) else {
             return Ok(());
         };
-        if !train.sent().is_empty() {
-            self.octets.extend_from_slice(train.sent())?;
+        if !train.sent.held().is_empty() {
+            self.octets.extend_from_slice(train.sent.held())?;
             self.ends.push(self.octets.len())?;
-            train.clear();
+            train.sent.clear();
         }
         Ok(())
     }

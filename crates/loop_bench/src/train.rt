@@ -47,7 +47,8 @@ impl KeyFinder for NoKeys {
 #[derive(Drop)]
 pub struct Train {
     end: End,
-    sent: Room,
+    /// The octets that it sent and the loop hasn't got.
+    pub sent: Room,
     left: u64,
     /// The messages that it heard.
     pub heard: u64,
@@ -66,16 +67,6 @@ impl Train {
         let deeds = train.end.start(MOMENT);
         put(deeds.out, &mut train.sent);
         Ok(train)
-    }
-
-    /// Lends the octets that it sent and the loop hasn't got.
-    pub fn sent(&self) -> &[u8] {
-        self.sent.held()
-    }
-
-    /// The loop gets them.
-    pub fn clear(&mut self) {
-        self.sent.clear();
     }
 
     /// Octets come, and are read frame by frame.

@@ -10,12 +10,14 @@ use std::alloc::Global;
 /// Wires that accept each train, and then bring what the trains send, piece by piece, one of each in turn. They tell nothing.
 #[derive(Drop)]
 pub struct TrainWires {
-    record: Record,
+    /// What the trains sent.
+    pub record: Record,
     trains: u64,
     opened: u64,
     listening: bool,
     faults: u64,
-    written: u64,
+    /// The octets that were written to the trains.
+    pub written: u64,
 }
 
 impl TrainWires {
@@ -36,16 +38,6 @@ impl TrainWires {
         self.record.rewind();
         self.opened = 0;
         self.listening = false;
-    }
-
-    /// The messages that the live trains heard.
-    pub fn echoed(&self) -> u64 {
-        self.record.echoed()
-    }
-
-    /// The octets that were written to the trains.
-    pub fn written(&self) -> u64 {
-        self.written
     }
 
     // The connection of the piece of this number.

@@ -1,8 +1,21 @@
-//! The journal, of which a count alone is kept.
+//! The loop's clock and its journal.
 
 ghost use Rattle.std.specs.Prelude.{None};
 
-use link_trait::{Failed, Sink};
+use crate::train::MOMENT;
+use link_trait::{Clock, Failed, Sink};
+
+/// A clock that stands at the one moment of all events. It tells nothing.
+#[derive(Drop)]
+pub struct LoopClock;
+
+impl Clock for LoopClock {
+    ghost answers = { λ _. None };
+
+    fn now(&mut self) -> u64 {
+        MOMENT
+    }
+}
 
 /// A sink that counts octets. It tells nothing.
 #[derive(Drop)]
