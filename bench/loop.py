@@ -51,7 +51,7 @@ def loop_alone(trains, reports, times):
 
 def in_memory():
     costs = {}
-    for trains, times in ((1, 256), (16, 16), (256, 1)):
+    for trains, times in ((1, 256), (16, 16), (256, 3)):
         set_up = loop_alone(trains, 0, 100 * times) / trains
         cost = costs[trains] = loop_alone(trains, REPORTS, times) / trains / REPORTS - set_up / REPORTS
         print(

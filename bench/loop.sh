@@ -17,12 +17,10 @@ work=$(mktemp -d)
 trap 'rm -rf "$work"' EXIT
 
 build() {
-  rm -f "crates/$1/out/$1"
-  (cd "crates/$1" && rt run) > "$work/log" 2>&1 || true
-  [ -x "crates/$1/out/$1" ] || { cat "$work/log"; exit 1; }
+  (cd "crates/$1" && shift && rt run -- "$@") > "$work/log" 2>&1 || { cat "$work/log"; exit 1; }
 }
-build loop_bench
-build euroradio
+build loop_bench 1 1 0
+build euroradio drill ../../examples/two-way.drill
 
 floor=none
 compiler=${CC:-cc}
