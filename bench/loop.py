@@ -1,0 +1,165 @@
+"""Measures for loop.sh beside it: loop.py LOOP_BENCH EURORADIO FLOOR FOLDER, where FLOOR may be `none`."""
+
+import os
+import signal
+import socket
+import subprocess
+import sys
+import time
+
+bench, program, floor, work = sys.argv[1:]
+REPORTS = 1000
+CALLS = 256
+ROUNDS = 5
+# How often `serve` writes to the line of one call (counted by strace), and how many octets, about; as much comes.
+EXCHANGES, PIECE = 5, 64
+KEYS = """version = 1
+
+[[key]]
+engine = 5
+rbc = 9
+kmac = "0123456789abcdef23456789abcdef01456789abcdef0123"
+"""
+
+
+def ended(child):
+    """Seconds of processor time of a child that ends, and the most KiB that it took."""
+    _, status, used = os.wait4(child.pid, 0)
+    child.returncode = os.waitstatus_to_exitcode(status)
+    return used.ru_utime + used.ru_stime, used.ru_maxrss
+
+
+def played(trains, reports, times):
+    """A run that serves live trains once, and their record so often: seconds, the most KiB, and what it told."""
+    child = subprocess.Popen([bench, str(trains), str(reports), str(times)], stdout=subprocess.PIPE)
+    words = child.stdout.read().split()
+    seconds, most = ended(child)
+    told = dict(zip(words[0::2], map(int, words[1::2])))
+    if told[b"echoed"] != trains * reports:
+        sys.exit(f"{trains} trains weren't served whole: {told}")
+    return seconds, most, told
+
+
+def loop_alone(trains, reports, times):
+    """Seconds of the loop for all trains once, by runs with the record so often and runs with live trains only, in turns."""
+    runs = [(played(trains, reports, times), played(trains, reports, 0)) for _ in range(ROUNDS)]
+    for (_, _, whole), (_, _, live) in runs:
+        if any(whole[word] != live[word] * (times + 1) for word in (b"turns", b"written", b"journal")):
+            sys.exit(f"the record wasn't served as the live trains were: {whole}, {live}")
+    return (min(whole[0] for whole, _ in runs) - min(live[0] for _, live in runs)) / times
+
+
+def in_memory():
+    costs = {}
+    for trains, times in ((1, 256), (16, 16), (256, 3)):
+        set_up = loop_alone(trains, 0, 100 * times) / trains
+        cost = costs[trains] = loop_alone(trains, REPORTS, times) / trains / REPORTS - set_up / REPORTS
+        print(
+            f"in memory, {trains:3} trains of {REPORTS} reports: {1 / cost:8.0f} messages/s, {cost * 1e6:6.2f} us a message, "
+            f"{set_up * 1e6:6.1f} us a connection with its set-up",
+            flush=True,
+        )
+    print(f"what a message costs with 256 trains: {costs[256] / costs[1]:.2f} of that with one, {costs[16] / costs[1]:.2f} with 16")
+    # By how much 64 trains more raise the most that the program takes; both are above what python took as it made the child.
+    few, many = (min(played(trains, 1, 0)[1] for _ in range(3)) for trains in (192, 256))
+    print(f"in memory, a connection that carried a message, with the end of its train: {(many - few) / 64:.0f} KiB", flush=True)
+
+
+def free_port():
+    with socket.socket() as s:
+        s.bind(("127.0.0.1", 0))
+        return s.getsockname()[1]
+
+
+def begun(words, recording):
+    """A server that listens: it has written its first line."""
+    with open(recording, "wb") as out:
+        server = subprocess.Popen(words, stdout=out)
+    while os.path.getsize(recording) == 0:
+        if server.poll() is not None:
+            sys.exit(f"{words[0]} ended with {server.returncode}")
+        time.sleep(0.005)
+    return server
+
+
+def stopped(server):
+    server.send_signal(signal.SIGTERM)
+    return ended(server)[0]
+
+
+def called(address, keys, at_once):
+    for _ in range(CALLS // at_once):
+        words = [program, "call", keys, address, "5", "9", "100000"]
+        calls = [subprocess.Popen(words, stdout=subprocess.DEVNULL) for _ in range(at_once)]
+        if any(call.wait() != 0 for call in calls):
+            sys.exit("a call failed")
+
+
+def served(at_once, keys, recording):
+    """Seconds of `serve` for all calls, so many at once; with none, of its start."""
+    address = f"127.0.0.1:{free_port()}"
+    server = begun([program, "serve", keys, address, "9", "1000000000"], recording)
+    if at_once:
+        called(address, keys, at_once)
+        time.sleep(0.2)
+    seconds = stopped(server)
+    with open(recording, "rb") as text:
+        echoes = sum(b" send " in line for line in text)
+    if at_once and echoes != 3 * CALLS:
+        sys.exit(f"{echoes} messages were said back")
+    return seconds
+
+
+def floor_served(at_once, recording):
+    port = str(free_port())
+    server = begun([floor, "serve", port], recording)
+    if at_once:
+        subprocess.run([floor, "call", port, str(CALLS), str(at_once), str(EXCHANGES), str(PIECE)], check=True)
+    return stopped(server)
+
+
+def resident(server):
+    with open(f"/proc/{server.pid}/status") as text:
+        sizes = dict(line.split(":", 1) for line in text)
+    return int(sizes["VmRSS"].split()[0]), int(sizes["VmData"].split()[0])
+
+
+def memory_of_accepted(keys, recording):
+    port = free_port()
+    server = begun([program, "serve", keys, f"127.0.0.1:{port}", "9", "1000000000"], recording)
+    before = resident(server)
+    peers = [socket.create_connection(("127.0.0.1", port)) for _ in range(CALLS)]
+    time.sleep(0.5)
+    behind = resident(server)
+    stopped(server)
+    for peer in peers:
+        peer.close()
+    return [(b - a) / CALLS for a, b in zip(before, behind)]
+
+
+def best_of(rounds, measure, *words):
+    return min(measure(*words) for _ in range(rounds))
+
+
+def over_sockets():
+    keys, recording = os.path.join(work, "keys"), os.path.join(work, "recording")
+    with open(keys, "w") as text:
+        text.write(KEYS)
+    start = best_of(5, served, 0, keys, recording)
+    floor_start = best_of(5, floor_served, 0, recording) if floor != "none" else 0
+    for at_once in (1, 16, 256):
+        cost = (best_of(5, served, at_once, keys, recording) - start) / CALLS
+        beside = ""
+        if floor != "none":
+            least = max(best_of(5, floor_served, at_once, recording) - floor_start, 1e-6) / CALLS
+            beside = f"; the floor {least * 1e6:6.1f} us: {cost / least:.1f} times as much"
+        print(f"over sockets, {at_once:3} of {CALLS} calls at once: {cost * 1e6:7.1f} us a call, {3 / cost:6.0f} messages/s{beside}")
+    if floor == "none":
+        print("no C compiler: the floor was not measured")
+    taken, reserved = memory_of_accepted(keys, recording)
+    print(f"over sockets, a connection that was accepted: {taken:.0f} KiB, {reserved:.0f} KiB reserved")
+
+
+print(f"load of the machine: {os.getloadavg()[0]:.1f} on {os.cpu_count()} processors")
+in_memory()
+over_sockets()

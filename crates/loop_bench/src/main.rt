@@ -1,0 +1,114 @@
+//! The readiness loop as a radio block centre of so many trains. Each train is connected and sends position reports of 24 octets, the next
+//! once the last was said back, as the loop's users say each of them back. The loop serves live trains once, and then the record of what
+//! they sent, so often as is wanted: what it does is the same each time, but the trains cost nothing. All is at one moment. Prints one line:
+//! the messages that the live trains heard back, the turns of the loop, the octets that it wrote to the wires, and those of its journal.
+//!
+//! Its arguments, each with a default: the number of trains (2; at most 256), the reports of each (4), and how often the record is served (1).
+#![tactic(auto)]
+
+mod outside;
+mod record;
+mod train;
+mod train_wires;
+
+use crate::outside::{LoopClock, LoopSink};
+use crate::train::CENTRE;
+use crate::train_wires::TrainWires;
+use er_base::NoMemory;
+use er_settings::Settings;
+use er_users::{Echo, SafeUser};
+use key_store::KeyStore;
+use rand_core::SeedableRng;
+use rand_pcg::Lcg64Xsh32;
+use readiness_loop::{LinePlan, LoopFault, serve};
+use std::alloc::Global;
+use std::{env, io};
+
+// The key of the trains, which protects nothing.
+const KEY_FILE: &[u8] = b"version = 1
+
+[[key]]
+engine = 5
+rbc = 9
+kmac = \"0123456789abcdef23456789abcdef01456789abcdef0123\"
+";
+
+// Serves all trains once, with the same random words each time: how many turns it took.
+fn serve_once(
+    alloc: Global,
+    keys: &KeyStore,
+    trains: u64,
+    wires: &mut TrainWires,
+    sink: &mut LoopSink,
+) -> Result<u64, LoopFault> {
+    let mut users: Vec<Box<dyn SafeUser>> = Vec::new(alloc);
+    for _ in 0..trains {
+        let user: Box<dyn SafeUser> = Box::new(alloc, Echo::new()).map_err(NoMemory::from)?;
+        users.push(user).map_err(NoMemory::from)?;
+    }
+    let plan = LinePlan {
+        settings: Settings::usual(),
+        turns: u64::MAX,
+    };
+    let mut words = Lcg64Xsh32::seed_from_u64(1);
+    let served = serve(
+        alloc,
+        keys,
+        &plan,
+        "here",
+        CENTRE,
+        users,
+        wires,
+        &mut LoopClock,
+        &mut words,
+        sink,
+    )?;
+    Ok(served.turns)
+}
+
+// Serves the live trains, and then their record so often: how many turns it took.
+fn serve_all(
+    alloc: Global,
+    keys: &KeyStore,
+    trains: u64,
+    times: u64,
+    wires: &mut TrainWires,
+    sink: &mut LoopSink,
+) -> Result<u64, LoopFault> {
+    let mut turns = serve_once(alloc, keys, trains, wires, sink)?;
+    for _ in 0..times {
+        wires.rewind();
+        let more = serve_once(alloc, keys, trains, wires, sink)?;
+        turns = turns.saturating_add(more);
+    }
+    Ok(turns)
+}
+
+fn main(rt: HostRuntime) -> io::Result<()> {
+    let mut numbers = [2, 4, 1];
+    let mut words = env::args(&rt)?;
+    let _program = words.next();
+    for number in numbers.iter_mut() {
+        if let Some(word) = words.next() {
+            *number = word.parse::<u64>().unwrap_or(0);
+        }
+    }
+    let [trains, reports, times] = numbers;
+    let trains = trains.min(256);
+    let Ok(keys) = KeyStore::from_bytes(rt.alloc(), KEY_FILE) else {
+        return Err(io::Error::from(io::ErrorKind::OutOfMemory));
+    };
+    let Ok(mut wires) = TrainWires::new(rt.alloc(), trains, reports) else {
+        return Err(io::Error::from(io::ErrorKind::OutOfMemory));
+    };
+    let mut sink = LoopSink { octets: 0 };
+    let Ok(turns) = serve_all(rt.alloc(), &keys, trains, times, &mut wires, &mut sink) else {
+        return Err(io::Error::from(io::ErrorKind::Other));
+    };
+    println!(rt;
+        "echoed {} turns {turns} written {} journal {}",
+        wires.record.echoed(),
+        wires.written,
+        sink.octets
+    )
+}

@@ -1,0 +1,123 @@
+//! A train: an end that calls, whose user sends reports.
+
+ghost use Rattle.std.specs.Prelude.{[]};
+
+use des_block::TripleKey;
+use er_base::{NoMemory, Room};
+use er_end::End;
+use er_settings::Settings;
+use safety_automaton::KeyFinder;
+use std::alloc::Global;
+
+/// The moment of every event.
+pub const MOMENT: u64 = 0;
+
+/// The ETCS number of the radio block centre.
+pub const CENTRE: u32 = 9;
+
+// The ETCS number of the engine of every train, its KMAC and its random number.
+const ENGINE: u32 = 5;
+
+const KMAC: TripleKey = TripleKey {
+    first: 0x0123456789abcdef,
+    second: 0x23456789abcdef01,
+    third: 0x456789abcdef0123,
+};
+
+const ENGINES_WORD: u64 = 0x0102030405060708;
+
+const REPORT: &[u8] = b"position-report-00000001";
+
+// More octets than an end sends at one write of the loop.
+const ROOM: usize = 4_096;
+
+// Finds no key: an end that calls looks none up.
+#[derive(Drop)]
+struct NoKeys;
+
+impl KeyFinder for NoKeys {
+    ghost entries = { λ _. [] };
+
+    fn find(&self, _engine: u32, _rbc: u32, _now: u64) -> Option<TripleKey> {
+        None
+    }
+}
+
+/// A train that is connected and sends so many reports, each once the one before was said back.
+#[derive(Drop)]
+pub struct Train {
+    end: End,
+    /// The octets that it sent and the loop hasn't got.
+    pub sent: Room,
+    left: u64,
+    /// The messages that it heard.
+    pub heard: u64,
+}
+
+impl Train {
+    /// A train that calls.
+    pub fn new(alloc: Global, reports: u64) -> Result<Train, NoMemory> {
+        let settings = Settings::usual();
+        let mut train = Train {
+            end: End::call(alloc, &settings, ENGINE, CENTRE, KMAC, ENGINES_WORD, MOMENT)?,
+            sent: Room::with_capacity(alloc, ROOM)?,
+            left: reports,
+            heard: 0,
+        };
+        let deeds = train.end.start(MOMENT);
+        put(deeds.out, &mut train.sent);
+        Ok(train)
+    }
+
+    /// Octets come, and are read frame by frame.
+    pub fn hear(&mut self, octets: &[u8]) {
+        let mut left = octets;
+        for _ in 0..octets.len() {
+            if left.is_empty() {
+                return;
+            }
+            let used = self.hear_frame(left);
+            left = left.get(used..).unwrap_or(&[]);
+        }
+    }
+
+    // Reads octets up to the first that closes a frame: how many they are.
+    fn hear_frame(&mut self, octets: &[u8]) -> usize {
+        let (used, deeds) = self.end.octets(&NoKeys, MOMENT, octets);
+        put(deeds.out, &mut self.sent);
+        let is_connected = deeds.connected.is_some();
+        if deeds.accepted.is_some() {
+            self.take();
+        }
+        if is_connected {
+            self.report();
+        }
+        used
+    }
+
+    // The user takes a message.
+    fn take(&mut self) {
+        if let Some(taken) = self.end.take(MOMENT) {
+            put(taken.out, &mut self.sent);
+            self.heard = self.heard.saturating_add(1);
+            self.report();
+        }
+    }
+
+    // The user sends a report, where one is left.
+    fn report(&mut self) {
+        if let Some(left) = self.left.checked_sub(1) {
+            self.left = left;
+            if let Ok(deeds) = self.end.send(MOMENT, REPORT) {
+                put(deeds.out, &mut self.sent);
+            }
+        }
+    }
+}
+
+// Octets are sent.
+fn put(octets: &[u8], sent: &mut Room) {
+    if octets.len() <= sent.free() {
+        sent.put(octets);
+    }
+}
