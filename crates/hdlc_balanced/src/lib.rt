@@ -11,6 +11,8 @@ pub mod laws;
 mod ring;
 mod sending;
 mod station;
+#[cfg(test)]
+mod tests;
 mod timing;
 
 pub use deeds::{Full, LinkDeed};

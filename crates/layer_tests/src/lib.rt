@@ -26,8 +26,6 @@ mod sapdus;
 #[cfg(test)]
 mod scenarios;
 #[cfg(test)]
-mod stations;
-#[cfg(test)]
 mod tpdus;
 #[cfg(test)]
 mod traces;

@@ -3,15 +3,12 @@
 ghost use Rattle.std.specs.Prelude.{◌+◌, ◌*◌};
 ghost use Rattle.er_base.specs.Stored.{HasRoom};
 
+use crate::{Full, LinkDeed, Station};
 use er_base::{Release, Room, decimal, decimal_word, hex_word, octets_of};
 use er_settings::Settings;
-use hdlc_balanced::{Full, LinkDeed, Station};
 use hdlc_frames::{Deframer, Found, Frame};
 use std::alloc::Global;
 use std::test::Fail;
-
-// Room for what any call of a station gives, whatever its window.
-const MOST_OUTPUT: usize = 258 * 2_064;
 
 // A row: its name, how the station is made (role, modulo, window), the events, and what each event told and wrote, ended by
 // a semicolon. Events: s start, f a frame (address and body), h a payload handed down, t a tick, c close, b o l a what is no
@@ -95,7 +92,7 @@ fn flags_and_escapes_are_carried(rt: HostRuntime) -> Result<(), Fail> {
     let mut told = Vec::new(rt.alloc());
     event(rt.alloc(), &mut station, b"s", &mut told)?;
     event(rt.alloc(), &mut station, b"f0173", &mut told)?;
-    let mut out = Room::with_capacity(rt.alloc(), MOST_OUTPUT)?;
+    let mut out = Room::with_capacity(rt.alloc(), station.window as usize * 2064)?;
     assert!(rt; carries(&mut station, &mut out));
     Ok(())
 }
@@ -124,7 +121,7 @@ fn event(
     word: &[u8],
     told: &mut Vec<u8>,
 ) -> Result<(), Fail> {
-    let mut out = Room::with_capacity(alloc, MOST_OUTPUT)?;
+    let mut out = Room::with_capacity(alloc, (station.window as usize + 1) * 2064)?;
     act(alloc, station, word, &mut out, told)?;
     tell_octets(out.held(), told)?;
     let mut answer = Room::with_capacity(alloc, 2064)?;
