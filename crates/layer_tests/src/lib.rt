@@ -1,4 +1,4 @@
-//! Tests of the layers by their public calls: vectors of other implementations, worked rows, each call that may want memory with its answer.
+//! Tests of the layers by their public calls: vectors of other implementations, worked rows, calls that may want memory with their answers.
 //!
 //! They stand here, and not in the crates that they test, since a crate with tests is proved twice. The crate has no item but its tests.
 #![tactic(auto)]
