@@ -161,8 +161,13 @@ impl Safe {
     pub fn forget(&mut self)
         ensures { self.new ≡ made self.old.safety }
     {
-        self.sealed = None;
-        self.verified = None;
+        // A text's whole room is written where it is put away, so it is put away only where there is one.
+        if self.sealed.is_some() {
+            self.sealed = None;
+        }
+        if self.verified.is_some() {
+            self.verified = None;
+        }
     }
 
     /// Which end of the connection this side is.
