@@ -13,3 +13,4 @@ pub mod Openings
 pub mod Writings
 pub mod Stalls
 pub mod Expiries
+pub mod Grammar
