@@ -1,33 +1,34 @@
 ghost use Rattle.std.specs.Prelude.{◌≡◌, ◌≤◌, ◌-◌, true, false, [], length, IfOk, if◌then◌else◌, slice_get, option_map};
 ghost use Rattle.er_end.specs.Inboxes.{empty, kept_more, kept_fewer, newest_of};
 
-use arrayvec::ArrayVec;
-use er_base::NoMemory;
+use er_base::{NoMemory, Room};
+use message_queue::MessageQueue;
 use std::alloc::Global;
-use std::collections::VecDeque;
 use std::marker::Model;
 
 /// The greatest number of messages that wait.
 pub const SLOTS: usize = 15;
 
+// The greatest number of octets of a message.
+const MESSAGE: usize = 1_023;
+
 /// The accepted messages that wait for the user, in slots that are reserved once, and the one that was taken last.
 #[derive(Drop)]
 pub struct Inbox {
-    messages: VecDeque<ArrayVec<u8, 1_023>>,
-    taken: ArrayVec<u8, 1_023>,
+    messages: MessageQueue,
+    taken: Room,
     fresh: bool,
 }
 
 impl Model for Inbox {
-    ghost use Rattle.std.specs.Prelude.{ℕ, List, ◌≤◌, map, length};
-    ghost use Rattle.std.specs.VecDeque.{deque_capacity};
+    ghost use Rattle.std.specs.Prelude.{◌≡◌, ◌≤◌, length};
     ghost use Rattle.er_end.specs.Inboxes.{KInbox};
 
     ghost Value = { KInbox };
 
-    ghost view = { λ i. record { waits = map (λ m. m.items) i.messages.items; last = i.taken.items; fresh = i.fresh } };
+    ghost view = { λ i. record { waits = i.messages.waits; last = i.taken.items; fresh = i.fresh } };
 
-    ghost invariant = { λ i. (15 ≤ deque_capacity i.messages) × (length i.messages.items ≤ 15) };
+    ghost invariant = { λ i. (i.messages.slots ≡ 15) × (i.messages.size ≡ 1023) × (i.taken.capacity ≡ 1023) };
 }
 
 impl Inbox {
@@ -35,10 +36,11 @@ impl Inbox {
     pub fn with_slots(alloc: Global) -> Result<Inbox, NoMemory>
         ensures { IfOk result (λ made. made ≡ empty) }
     {
-        let messages = VecDeque::with_capacity(alloc, SLOTS)?;
+        let messages = MessageQueue::with_slots(alloc, SLOTS, MESSAGE)?;
+        let taken = Room::with_capacity(alloc, MESSAGE)?;
         Ok(Inbox {
             messages,
-            taken: ArrayVec::new(),
+            taken,
             fresh: false,
         })
     }
@@ -56,9 +58,7 @@ impl Inbox {
         ensures { self.new ≡ kept_more self.old message.now }
     {
         if self.messages.len() < SLOTS {
-            let mut kept = ArrayVec::new();
-            kept.try_extend_from_slice(message).unwrap();
-            self.messages.push_back(kept).unwrap();
+            self.messages.push(message);
             self.fresh = true;
         }
     }
@@ -67,7 +67,7 @@ impl Inbox {
     pub fn take(&mut self)
         ensures { self.new ≡ kept_fewer self.old }
     {
-        self.taken = self.messages.pop_front().unwrap_or_default();
+        self.messages.take(&mut self.taken);
     }
 
     /// How many messages wait, at most 15.
@@ -85,13 +85,13 @@ impl Inbox {
         if !self.fresh {
             return None;
         }
-        self.messages.back().map(|message| message.as_slice())
+        self.messages.last()
     }
 
     /// Lends the message that was taken last.
     pub fn taken(&self) -> &[u8]
         ensures { result.now ≡ self.now.last }
     {
-        self.taken.as_slice()
+        self.taken.held()
     }
 }

@@ -20,6 +20,8 @@ mod outside_objects;
 #[cfg(test)]
 mod outside_wires;
 #[cfg(test)]
+mod queues;
+#[cfg(test)]
 mod safety;
 #[cfg(test)]
 mod sapdus;

@@ -1,5 +1,5 @@
 -- Representation: how the code keeps a side of a safe connection, and what one step does to it; no claim rests on it.
-use Rattle.std.specs.Prelude.{ℕ, ◌≡◌, ◌<◌, ◌^◌, List, Option, None}
+use Rattle.std.specs.Prelude.{ℕ, ◌≡◌, ◌<◌, ◌^◌, List, [], ◌∷◌, Option, Some, None}
 use Rattle.er_base.specs.Stored.{Stored}
 use Rattle.er_base.specs.Stored.{Appends}
 use Rattle.des_block.specs.declared.triple_key.TripleKey.{TripleKey}
@@ -39,6 +39,11 @@ IsUnreleased (code.WaitAu1 ra) = Unit {0}
 IsUnreleased (code.WaitAu2 peer kmac rb) = Unit {0}
 IsUnreleased (code.Keyed session) = Unit {0}
 IsUnreleased (code.Released release session) = ⊥
+
+-- the text in a room of octets: none where the room is empty
+abbrev pub text_in : List ℕ → Option (List ℕ)
+text_in [] = None
+text_in (octet ∷ octets) = Some (octet ∷ octets)
 
 -- a released side keeps no texts
 abbrev pub HasNoTexts : CodePhase → Option (List ℕ) → Option (List ℕ) → Type 0

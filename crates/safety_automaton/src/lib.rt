@@ -9,6 +9,7 @@
 #![tactic(auto)]
 
 mod deed;
+mod kept_text;
 mod key_finder;
 pub mod laws;
 mod phase;

@@ -17,6 +17,7 @@ mod received;
 mod sent;
 
 use crate::deed::{SafeDeed, SealRefused};
+use crate::kept_text::KeptText;
 use crate::key_finder::KeyFinder;
 use crate::laws;
 use crate::phase::Phase;
@@ -36,8 +37,8 @@ pub struct Safe {
     me: u32,
     role: Role,
     phase: Phase,
-    sealed: Option<SealedText>,
-    verified: Option<SealedText>,
+    sealed: KeptText,
+    verified: KeptText,
 }
 
 impl Model for Safe {
@@ -161,13 +162,8 @@ impl Safe {
     pub fn forget(&mut self)
         ensures { self.new ≡ made self.old.safety }
     {
-        // A text's whole room is written where it is put away, so it is put away only where there is one.
-        if self.sealed.is_some() {
-            self.sealed = None;
-        }
-        if self.verified.is_some() {
-            self.verified = None;
-        }
+        self.sealed.clear();
+        self.verified.clear();
     }
 
     /// Which end of the connection this side is.
@@ -203,14 +199,14 @@ impl Safe {
     pub fn sealed(&self) -> Option<&[u8]>
         ensures { option_map (λ t. t.now) result ≡ self.now.sealed }
     {
-        self.sealed.as_ref().map(SealedText::octets)
+        self.sealed.octets()
     }
 
     /// The text, unpadded, whose MAC verified in the last call.
     pub fn verified(&self) -> Option<&[u8]>
         ensures { option_map (λ t. t.now) result ≡ self.now.verified }
     {
-        self.verified.as_ref().map(SealedText::octets)
+        self.verified.octets()
     }
 
     // A side that was just made.
@@ -223,22 +219,27 @@ impl Safe {
             me,
             role,
             phase,
-            sealed: None,
-            verified: None,
+            sealed: KeptText::none(),
+            verified: KeptText::none(),
         }
     }
 
     // Sets a phase that isn't released, in a call that sealed and verified these texts.
-    fn set_phase(&mut self, phase: Phase, sealed: Option<SealedText>, verified: Option<SealedText>)
+    fn set_phase(
+        &mut self,
+        phase: Phase,
+        sealed: Option<&SealedText>,
+        verified: Option<&SealedText>,
+    )
         requires peer { HasPeer phase }
         requires unreleased { IsUnreleased phase }
         ensures safety { self.new.safety ≡ record self.old.safety { phase = phase_view self.old.safety.me phase } }
-        ensures sealed { self.new.sealed ≡ sealed }
-        ensures verified { self.new.verified ≡ verified }
+        ensures sealed { self.new.sealed ≡ option_map (λ t. t.now) sealed.entry }
+        ensures verified { self.new.verified ≡ option_map (λ t. t.now) verified.entry }
     {
         self.phase = phase;
-        self.sealed = sealed;
-        self.verified = verified;
+        self.sealed.keep_if(sealed);
+        self.verified.keep_if(verified);
     }
 
     // Ends the connection; the session keys stay.
@@ -247,8 +248,8 @@ impl Safe {
     {
         let session = self.phase.session();
         self.phase = Phase::Released { release, session };
-        self.sealed = None;
-        self.verified = None;
+        self.sealed.clear();
+        self.verified.clear();
     }
 
     // Writes an SaPDU to the peer.

@@ -19,5 +19,5 @@ pub use kind::SaKind;
 pub use message::{MOST_OCTETS, MOST_USER_OCTETS, is_message};
 pub use pdu::SaPdu;
 pub use reader::{peers_di, read};
-pub use sealed_text::SealedText;
+pub use sealed_text::{MOST_TEXT_OCTETS, SealedText};
 pub use writer::write_into;

@@ -10,7 +10,7 @@ use er_base::{eight_of, three_of, two_of};
 use std::marker::Model;
 
 /// The most octets of a sealed text: those of the longest message.
-const MOST_TEXT_OCTETS: usize = 1029;
+pub const MOST_TEXT_OCTETS: usize = 1029;
 
 /// The text that the MAC of an SaPDU seals (SUBSET-037, computation of the MAC), not padded: a length, the receiver's
 /// number, and a part of the SaPDU. It has 5 to 1,029 octets, and takes no memory.
@@ -45,10 +45,11 @@ impl SealedText {
         text
     }
 
-    /// The octets, never none.
+    /// The octets, never none, and at most 1,029.
     pub fn octets(&self) -> &[u8]
         ensures octets { result.now ≡ self.now }
         ensures some { 0 < length result.now }
+        ensures most { length result.now ≤ 1029 }
     {
         self.octets.as_slice()
     }

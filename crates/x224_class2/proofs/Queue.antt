@@ -1,5 +1,5 @@
 -- Messages that wait: one more, one less.
-use Rattle.std.proofs.Common.{◌≡◌, ℕ, ◌<◌, List, [], ◌∷◌, ◌++◌, length, drop, refl, ap, arith, length-append, map}
+use Rattle.std.proofs.Common.{◌≡◌, ℕ, ◌<◌, List, [], ◌∷◌, ◌++◌, length, drop, refl, arith, length-append}
 use Rattle.x224_class2.specs.Waiting.{left_of, AreNonempty, IsBegun, IsWaiting, AreNumbers}
 
 pub length_left : (n : ℕ) (ms : List (List ℕ)) → length (left_of n ms) ≡ length ms
@@ -18,31 +18,23 @@ left_push : (n : ℕ) (ms : List (List ℕ)) (m : List ℕ) → IsBegun n ms →
 left_push n [] m h = rw h refl
 left_push n (x ∷ ms) m h = refl
 
-map_push : {A : Type 0} (f : A → List ℕ) (xs : List A) (x : A) → map f (xs ++ x ∷ []) ≡ map f xs ++ f x ∷ []
-map_push f [] x = refl
-map_push f (y ∷ xs) x = ap (λ (ms : List (List ℕ)). f y ∷ ms) (map_push f xs x)
+pub waiting_push : (n : ℕ) (ms : List (List ℕ)) (m : List ℕ) → IsWaiting n ms → length (left_of n ms) < 16 → 0 < length m → IsWaiting n (ms ++ m ∷ [])
+waiting_push n ms m w room some = record {
+  count = omega (arith, length_left n ms, room, length-append ms (m ∷ []));
+  nonempty = nonempty_push ms m w.nonempty some;
+  begun = begun_push n ms m w.begun some;
+}
 
-map_drop : {A : Type 0} (f : A → List ℕ) (xs : List A) → map f (drop 1 xs) ≡ drop 1 (map f xs)
-map_drop f [] = refl
-map_drop f (x ∷ xs) = refl
-
-pub waiting_push : {A : Type 0} (f : A → List ℕ) (n : ℕ) (xs : List A) (x : A) → IsWaiting n (map f xs) → length (left_of n (map f xs)) < 16 → 0 < length (f x) → IsWaiting n (map f (xs ++ x ∷ []))
-waiting_push f n xs x w room some = rw (map_push f xs x) (record {
-  count = omega (arith, length_left n (map f xs), length-append (map f xs) (f x ∷ []));
-  nonempty = nonempty_push (map f xs) (f x) w.nonempty some;
-  begun = begun_push n (map f xs) (f x) w.begun some;
-})
-
-pub view_push : {A : Type 0} (f : A → List ℕ) (n : ℕ) (xs : List A) (x : A) → IsWaiting n (map f xs) → left_of n (map f (xs ++ x ∷ [])) ≡ left_of n (map f xs) ++ f x ∷ []
-view_push f n xs x w = rw (map_push f xs x) (left_push n (map f xs) (f x) w.begun)
+pub view_push : (n : ℕ) (ms : List (List ℕ)) (m : List ℕ) → IsWaiting n ms → left_of n (ms ++ m ∷ []) ≡ left_of n ms ++ m ∷ []
+view_push n ms m w = left_push n ms m w.begun
 
 behind_first : (ms : List (List ℕ)) → AreNonempty ms → IsBegun 0 ms
 behind_first [] h = refl
 behind_first (m ∷ ms) h = h.0
 
-pub waiting_pop : {A : Type 0} (f : A → List ℕ) (n : ℕ) (xs : List A) → IsWaiting n (map f xs) → IsWaiting 0 (map f (drop 1 xs))
-waiting_pop f n [] w = record { count = w.count; nonempty = tt; begun = refl }
-waiting_pop f n (x ∷ xs) w = record { count = omega (arith, w.count); nonempty = w.nonempty.1; begun = behind_first (map f xs) w.nonempty.1 }
+pub waiting_pop : (n : ℕ) (ms : List (List ℕ)) → IsWaiting n ms → IsWaiting 0 (drop 1 ms)
+waiting_pop n [] w = record { count = w.count; nonempty = tt; begun = refl }
+waiting_pop n (m ∷ ms) w = record { count = omega (arith, w.count); nonempty = w.nonempty.1; begun = behind_first ms w.nonempty.1 }
 
 pub numbers_push : (ns : List ℕ) (n : ℕ) → AreNumbers ns → n < 128 → AreNumbers (ns ++ n ∷ [])
 numbers_push [] n h below = (below, tt)

@@ -1,32 +1,33 @@
 ghost use Rattle.std.specs.Prelude.{◌≡◌, ◌<◌, ◌≤◌, [], ◌∷◌, ◌++◌, length, slice_index_or, drop, IfOk, if◌then◌else◌, nat_lt};
 
-use arrayvec::ArrayVec;
 use er_base::NoMemory;
+use message_queue::MessageQueue;
 use std::alloc::Global;
-use std::collections::VecDeque;
 use std::marker::Model;
 
 /// The greatest number of messages that wait.
 pub const SLOTS: usize = 16;
 
+// The greatest number of octets of a message.
+const MESSAGE: usize = 1_032;
+
 /// The messages that wait for their last segment to be given, in slots that are reserved once. Contracts
 /// see of each message what wasn't given yet.
 #[derive(Drop)]
 pub struct Outgoing {
-    messages: VecDeque<ArrayVec<u8, 1_032>>,
+    messages: MessageQueue,
     given: usize,
 }
 
 impl Model for Outgoing {
-    ghost use Rattle.std.specs.Prelude.{ℕ, List, ◌≤◌, map};
-    ghost use Rattle.std.specs.VecDeque.{deque_capacity};
+    ghost use Rattle.std.specs.Prelude.{ℕ, List, ◌≡◌};
     ghost use Rattle.x224_class2.specs.Waiting.{left_of, IsWaiting};
 
     ghost Value = { List (List ℕ) };
 
-    ghost view = { λ o. left_of o.given (map (λ m. m.items) o.messages.items) };
+    ghost view = { λ o. left_of o.given o.messages.waits };
 
-    ghost invariant = { λ o. IsWaiting o.given (map (λ m. m.items) o.messages.items) × (16 ≤ deque_capacity o.messages) };
+    ghost invariant = { λ o. IsWaiting o.given o.messages.waits × (o.messages.slots ≡ 16) × (o.messages.size ≡ 1032) };
 }
 
 impl Outgoing {
@@ -34,7 +35,7 @@ impl Outgoing {
     pub fn with_slots(alloc: Global) -> Result<Outgoing, NoMemory>
         ensures { IfOk result (λ made. made ≡ []) }
     {
-        let messages = VecDeque::with_capacity(alloc, SLOTS)?;
+        let messages = MessageQueue::with_slots(alloc, SLOTS, MESSAGE)?;
         Ok(Outgoing { messages, given: 0 })
     }
 
@@ -53,9 +54,7 @@ impl Outgoing {
         requires most { length message.now ≤ 1032 }
         ensures { self.new ≡ self.old ++ message.now ∷ [] }
     {
-        let mut kept = ArrayVec::new();
-        kept.try_extend_from_slice(message).unwrap();
-        self.messages.push_back(kept).unwrap();
+        self.messages.push(message);
     }
 
     /// Lends what is left of the first message.
@@ -64,7 +63,8 @@ impl Outgoing {
         ensures value { result.now ≡ slice_index_or self.now 0 [] }
         ensures some { 0 < length result.now }
     {
-        &self.messages[0][self.given..]
+        let first = self.messages.first().unwrap();
+        &first[self.given..]
     }
 
     /// Takes octets away from the first message; it no longer waits where they were all that was left.
@@ -73,12 +73,12 @@ impl Outgoing {
         requires within { octets ≤ length (slice_index_or self.old 0 []) }
         ensures { self.new ≡ if nat_lt octets (length (slice_index_or self.old 0 [])) then drop octets (slice_index_or self.old 0 []) ∷ drop 1 self.old else drop 1 self.old }
     {
-        let left = self.messages[0].len() - self.given;
+        let left = self.messages.first().unwrap().len() - self.given;
         if octets < left {
             self.given += octets;
         } else {
             self.given = 0;
-            let _ = self.messages.pop_front();
+            self.messages.pop();
         }
     }
 }

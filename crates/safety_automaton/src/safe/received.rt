@@ -126,7 +126,7 @@ impl Safe {
             keys,
             stage: Stage::WaitAu3 { ra, rb },
         };
-        self.set_phase(Phase::Keyed(session), Some(sealed), None);
+        self.set_phase(Phase::Keyed(session), Some(&sealed), None);
         SafeDeed::Answered
     }
 
@@ -164,7 +164,7 @@ impl Safe {
         let sealed = au3_text(self.role.flag(), peer, ra, rb);
         let mac = session.keys.mac(sealed.octets());
         self.write(&SaPdu::Au3 { mac }, out);
-        self.set_phase(Phase::Keyed(session), Some(sealed), Some(verified));
+        self.set_phase(Phase::Keyed(session), Some(&sealed), Some(&verified));
         SafeDeed::Answered
     }
 
@@ -189,7 +189,7 @@ impl Safe {
         // the keys are prepared anew, once in a connection
         let connected = Phase::connected(peer, &session.keys.key());
         self.write(&SaPdu::Ar { mac }, out);
-        self.set_phase(connected, Some(sealed), Some(verified));
+        self.set_phase(connected, Some(&sealed), Some(&verified));
         SafeDeed::Connected { peer }
     }
 
@@ -210,7 +210,7 @@ impl Safe {
         }
         let peer = session.peer;
         let connected = Phase::connected(peer, &session.keys.key());
-        self.set_phase(connected, None, Some(verified));
+        self.set_phase(connected, None, Some(&verified));
         SafeDeed::Connected { peer }
     }
 
@@ -230,8 +230,8 @@ impl Safe {
         if !session.verifies(&verified, mac) {
             return self.release_for(Cause::DtMacWrong, out);
         }
-        self.sealed = None;
-        self.verified = Some(verified);
+        self.sealed.clear();
+        self.verified.keep(&verified);
         SafeDeed::Accepted(user)
     }
 }

@@ -61,8 +61,8 @@ impl Safe {
         let sealed = message_text(self.role.flag(), session.peer, user);
         let mac = session.keys.mac(sealed.octets());
         self.write(&SaPdu::Dt { user, mac }, out);
-        self.sealed = Some(sealed);
-        self.verified = None;
+        self.sealed.keep(&sealed);
+        self.verified.clear();
         Ok(())
     }
 }

@@ -1,19 +1,16 @@
 -- The message stands behind the others.
-use Rattle.std.proofs.Common.{rules, refl, ◌≡◌, ◌<◌, [], ◌∷◌, ◌++◌, length, arith, ◌∙◌, map}
-use Rattle.x224_class2.specs.Waiting.{left_of}
-use Rattle.x224_class2.proofs.Queue.{waiting_push, view_push}
+use Rattle.std.proofs.Common.{◌<◌, length, List, ℕ, sym, subst, ap, ◌∙◌}
+use Rattle.message_queue.specs.Queues.{Queue}
+use Rattle.x224_class2.specs.Waiting.{left_of, IsWaiting}
+use Rattle.x224_class2.proofs.Queue.{waiting_push}
 use Rattle.x224_class2.proofs.outgoing.Outgoing.push.Goals as goal
 
 pub invariant_of-self : goal.invariant_of-self
 invariant_of-self c =
-    let pushed : c.push_back.new.self.items ≡ c.self.inside.messages.items ++ c.try_extend_from_slice.new.self ∷ [] = rw c.unwrap-2.ensures at c.push_back.ensures.items in
-    let kept : c.try_extend_from_slice.new.self.items ≡ c.args.message.now = search rules in
-    let room : length (left_of c.self.inside.given (map (λ m. m.items) c.self.inside.messages.items)) < 16 = rw c.self.view_is c.requires.room in
-    let some : 0 < length c.try_extend_from_slice.new.self.items = rw kept c.requires.least in
-    (rw pushed (waiting_push (λ m. m.items) c.self.inside.given c.self.inside.messages.items c.try_extend_from_slice.new.self c.self.invariant.0 room some), omega (arith, c.push_back.ensures.capacity))
-
-pub returns : goal.returns
-returns c =
-    let pushed : c.push_back.new.self.items ≡ c.self.inside.messages.items ++ c.try_extend_from_slice.new.self ∷ [] = rw c.unwrap-2.ensures at c.push_back.ensures.items in
-    let kept : c.try_extend_from_slice.new.self.items ≡ c.args.message.now = search rules in
-    rw pushed (view_push (λ m. m.items) c.self.inside.given c.self.inside.messages.items c.try_extend_from_slice.new.self c.self.invariant.0 ∙ rw (c.self.view_is, kept) refl)
+    let room : length (left_of c.self.inside.given c.self.inside.messages.waits) < 16 =
+    subst (λ (ms : List (List ℕ)). length ms < 16) (sym c.self.view_is) c.requires.room in (
+      subst (λ (q : Queue). IsWaiting c.self.inside.given q.waits) (sym c.push.ensures)
+          (waiting_push c.self.inside.given c.self.inside.messages.waits c.args.message.now c.self.invariant.0 room c.requires.least),
+      ap (λ (q : Queue). q.slots) c.push.ensures ∙ c.self.invariant.1,
+      ap (λ (q : Queue). q.size) c.push.ensures ∙ c.self.invariant.2,
+    )

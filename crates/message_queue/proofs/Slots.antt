@@ -1,0 +1,16 @@
+-- Slots behind slots.
+use Rattle.std.proofs.Common.{ℕ, List, [], ◌∷◌, ◌++◌}
+use Rattle.er_base.specs.Stored.{Stored}
+use Rattle.message_queue.specs.Kept.{HaveRoom}
+
+pub both_have : (size : ℕ) (xs ys : List Stored) → HaveRoom size xs → HaveRoom size ys → HaveRoom size (xs ++ ys)
+both_have size [] ys p q = q
+both_have size (x ∷ xs) ys p q = (p.0, both_have size xs ys p.1 q)
+
+pub first_have : (size : ℕ) (xs ys : List Stored) → HaveRoom size (xs ++ ys) → HaveRoom size xs
+first_have size [] ys p = tt
+first_have size (x ∷ xs) ys p = (p.0, first_have size xs ys p.1)
+
+pub last_have : (size : ℕ) (xs ys : List Stored) → HaveRoom size (xs ++ ys) → HaveRoom size ys
+last_have size [] ys p = p
+last_have size (x ∷ xs) ys p = last_have size xs ys p.1

@@ -1,0 +1,19 @@
+-- Messages that wait, the oldest first.
+use Rattle.std.specs.Prelude.{ℕ, List, [], ◌∷◌}
+
+pub record Queue : Type 0 where
+  -- those that wait
+  pub waits : List (List ℕ)
+  -- the most that may
+  pub slots : ℕ
+  -- the most octets of one
+  pub size : ℕ
+
+-- none waits
+abbrev pub empty : (slots size : ℕ) → Queue
+empty slots size = record { waits = []; slots = slots; size = size }
+
+-- the oldest one, or none
+abbrev pub oldest : List (List ℕ) → List ℕ
+oldest [] = []
+oldest (message ∷ messages) = message
