@@ -7,19 +7,16 @@ ghost use Rattle.er_end.specs.KeptLayers.{upper_has_next, upper_next, upper_afte
 use er_base::{NoMemory, Room};
 use std::alloc::Global;
 use std::marker::Model;
-use t70_header::wrap;
+use t70_header::begin_block;
 use x224_class2::Transport;
 use x224_tpdu::{Tpdu, laws, write_into};
 
-// The greatest number of octets of a TPDU, and of the block that carries it.
-const TPDU: usize = 1_024;
-
+// The greatest number of octets of the block that carries a TPDU.
 const BLOCK: usize = 1_026;
 
-/// A TPDU on its way down in one block, in rooms that are reserved once. Contracts see the block.
+/// A TPDU on its way down in one block, in room that is reserved once. Contracts see the block.
 #[derive(Drop)]
 pub struct Letter {
-    tpdu: Room,
     block: Room,
 }
 
@@ -30,7 +27,7 @@ impl Model for Letter {
 
     ghost view = { λ l. l.block.items };
 
-    ghost invariant = { λ l. (l.tpdu.capacity ≡ 1024) × (l.block.capacity ≡ 1026) × (length l.block.items ≤ 1026) };
+    ghost invariant = { λ l. (l.block.capacity ≡ 1026) × (length l.block.items ≤ 1026) };
 }
 
 impl Letter {
@@ -38,9 +35,8 @@ impl Letter {
     pub fn new(alloc: Global) -> Result<Letter, NoMemory>
         ensures { IfOk result (λ l. l ≡ []) }
     {
-        let tpdu = Room::with_capacity(alloc, TPDU)?;
         let block = Room::with_capacity(alloc, BLOCK)?;
-        Ok(Letter { tpdu, block })
+        Ok(Letter { block })
     }
 
     /// Writes a TPDU in one block.
@@ -49,9 +45,9 @@ impl Letter {
         ensures { self.new ≡ last_block (written_octets (pdu_of tpdu.now)) }
     {
         laws::writing();
-        self.tpdu.clear();
-        write_into(tpdu, &mut self.tpdu);
-        fold(&self.tpdu, &mut self.block);
+        self.block.clear();
+        begin_block(&mut self.block);
+        write_into(tpdu, &mut self.block);
     }
 
     /// The next TPDU of a transport in one block, where one is due. Where none is, the transport stays as it was.
@@ -62,10 +58,9 @@ impl Letter {
         ensures none { result ≡ false → transport.new ≡ transport.old }
         ensures block { self.new ≡ last_block (upper_next transport.old) }
     {
-        self.tpdu.clear();
-        let some = transport.next_tpdu(&mut self.tpdu);
-        fold(&self.tpdu, &mut self.block);
-        some
+        self.block.clear();
+        begin_block(&mut self.block);
+        transport.next_tpdu(&mut self.block)
     }
 
     /// Lends the block, at most 1,026 octets.
@@ -75,16 +70,4 @@ impl Letter {
     {
         self.block.held()
     }
-}
-
-// Carries a TPDU in one block.
-fn fold(tpdu: &Room, block: &mut Room)
-    requires tpdu { length tpdu.now.items ≤ 1024 }
-    requires block { block.old.capacity ≡ 1026 }
-    ensures value { block.new.items ≡ last_block tpdu.now.items }
-    ensures capacity { block.new.capacity ≡ 1026 }
-    ensures short { length block.new.items ≤ 1026 }
-{
-    block.clear();
-    wrap(tpdu.held(), block);
 }

@@ -80,8 +80,30 @@ impl Ring {
         self.slots[at].as_slice()
     }
 
-    /// Lets the first n payloads go.
+    /// Lets the first n payloads go. An empty ring begins at its first slot again, so that a station with little on its way touches few.
     pub(crate) fn drop_first(&mut self, n: usize)
+        requires { n ≤ length self.old.items }
+        ensures items { self.new.items ≡ drop n self.old.items }
+        ensures slots { self.new.slots ≡ self.old.slots }
+    {
+        if n == self.len() {
+            self.clear();
+        } else {
+            self.go_on(n);
+        }
+    }
+
+    // Lets all payloads go.
+    fn clear(&mut self)
+        ensures items { self.new.items ≡ [] }
+        ensures slots { self.new.slots ≡ self.old.slots }
+    {
+        self.head = 0;
+        self.count = 0;
+    }
+
+    // Lets the first n payloads go.
+    fn go_on(&mut self, n: usize)
         requires { n ≤ length self.old.items }
         ensures items { self.new.items ≡ drop n self.old.items }
         ensures slots { self.new.slots ≡ self.old.slots }

@@ -6,16 +6,15 @@ ghost use Rattle.message_queue.specs.Kept.{HaveRoom};
 
 use er_base::{NoMemory, Room};
 use std::alloc::Global;
-use std::collections::VecDeque;
 use std::marker::Model;
 use std::mem;
 
 /// Messages that wait, the oldest first, each of at most so many octets, in so many slots, which are reserved once: no later call takes
 /// memory. The slot that was left last is used next, and of a slot only the octets of its message are written, so a queue in which few
-/// messages wait touches little memory.
+/// messages wait touches little memory. The oldest one stands first in a vector: when it leaves, the handles of the others move up.
 #[derive(Drop)]
 pub struct MessageQueue {
-    waiting: VecDeque<Room>,
+    waiting: Vec<Room>,
     free: Vec<Room>,
     slots: usize,
     size: usize,
@@ -23,7 +22,6 @@ pub struct MessageQueue {
 
 impl Model for MessageQueue {
     ghost use Rattle.std.specs.Prelude.{◌≡◌, ◌+◌, ◌≤◌, length, map, vec_capacity};
-    ghost use Rattle.std.specs.VecDeque.{deque_capacity};
     ghost use Rattle.message_queue.specs.Queues.{Queue};
     ghost use Rattle.message_queue.specs.Kept.{HaveRoom, held};
 
@@ -31,7 +29,7 @@ impl Model for MessageQueue {
 
     ghost view = { λ q. record { waits = map held q.waiting.items; slots = q.slots; size = q.size } };
 
-    ghost invariant = { λ q. (length q.waiting.items + length q.free.items ≡ q.slots) × (q.slots ≤ deque_capacity q.waiting)
+    ghost invariant = { λ q. (length q.waiting.items + length q.free.items ≡ q.slots) × (q.slots ≤ vec_capacity q.waiting)
         × (q.slots ≤ vec_capacity q.free) × HaveRoom q.size q.waiting.items × HaveRoom q.size q.free.items };
 }
 
@@ -40,7 +38,7 @@ impl MessageQueue {
     pub fn with_slots(alloc: Global, slots: usize, size: usize) -> Result<MessageQueue, NoMemory>
         ensures { IfOk result (λ q. q ≡ empty slots size) }
     {
-        let waiting = VecDeque::with_capacity(alloc, slots)?;
+        let waiting = Vec::with_capacity(alloc, slots)?;
         let free = free_slots(alloc, slots, size)?;
         Ok(MessageQueue {
             waiting,
@@ -67,28 +65,29 @@ impl MessageQueue {
         let mut slot = self.free.pop().unwrap();
         slot.clear();
         slot.put(message);
-        self.waiting.push_back(slot).unwrap();
+        self.waiting.push(slot).unwrap();
     }
 
     /// Lends the oldest message.
     pub fn first(&self) -> Option<&[u8]>
         ensures { option_map (λ m. m.now) result ≡ slice_get self.now.waits 0 }
     {
-        self.waiting.front().map(Room::held)
+        self.waiting.first().map(Room::held)
     }
 
     /// Lends the newest message.
     pub fn last(&self) -> Option<&[u8]>
         ensures { option_map (λ m. m.now) result ≡ slice_get self.now.waits (length self.now.waits - 1) }
     {
-        self.waiting.back().map(Room::held)
+        self.waiting.last().map(Room::held)
     }
 
     /// The oldest message no longer waits, where one does.
     pub fn pop(&mut self)
         ensures { self.new ≡ record self.old { waits = drop 1 self.old.waits } }
     {
-        if let Some(slot) = self.waiting.pop_front() {
+        if !self.waiting.is_empty() {
+            let slot = self.waiting.remove(0);
             self.free.push(slot).unwrap();
         }
     }
@@ -100,13 +99,13 @@ impl MessageQueue {
         ensures taken { taken.new.items ≡ oldest self.old.waits }
         ensures capacity { taken.new.capacity ≡ self.old.size }
     {
-        match self.waiting.pop_front() {
-            Some(mut slot) => {
-                mem::swap(&mut slot, taken);
-                self.free.push(slot).unwrap();
-            }
-            None => taken.clear(),
+        if self.waiting.is_empty() {
+            taken.clear();
+            return;
         }
+        let mut slot = self.waiting.remove(0);
+        mem::swap(&mut slot, taken);
+        self.free.push(slot).unwrap();
     }
 }
 

@@ -13,7 +13,7 @@ mod wrapping;
 
 pub use fault::BlockFault;
 pub use joiner::Joiner;
-pub use wrapping::wrap;
+pub use wrapping::{begin_block, wrap};
 
 #[cfg(test)]
 mod tests;

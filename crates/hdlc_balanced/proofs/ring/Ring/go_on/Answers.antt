@@ -2,7 +2,7 @@ use Rattle.std.proofs.Common.{◌≡◌, ◌+◌, ◌-◌, ℕ, List, map, lengt
 use Rattle.std.proofs.lemmas.List.{length-map}
 use Rattle.hdlc_balanced.specs.Rings.{Slots, place, window}
 use Rattle.hdlc_balanced.proofs.Windowed.{length-window, window_drop}
-use Rattle.hdlc_balanced.proofs.ring.Ring.drop_first.Goals as goal
+use Rattle.hdlc_balanced.proofs.ring.Ring.go_on.Goals as goal
 
 pub returns-clause-items : goal.returns-clause-items
 returns-clause-items c =
