@@ -1,0 +1,10 @@
+pub mod Lists
+pub mod Octets
+pub mod Below
+pub mod Lines
+pub mod Heard
+pub mod Transports
+pub mod Receptions
+pub mod Holds
+pub mod Events
+pub mod KnownAnswers

@@ -1,0 +1,196 @@
+-- What follows an event at a session opens no connection.
+use Rattle.std.proofs.Common.{◌≡◌, ◌∙◌, ℕ, ◌+◌, inl, inr, Bool, true, false, ◌||◌, List, [], ◌∷◌, ◌++◌, length, Option, Some, None, refl, ap}
+use Rattle.std.specs.Prelude.{nat_lt, ◌==◌, ◌&&◌}
+use Rattle.std.proofs.lemmas.Bool.{cases_Bool}
+use Rattle.er_end.specs.KeptEnds.{KEnd}
+use Rattle.er_users.specs.Users.{Mind, Heard, Said, said}
+use Rattle.link_trait.specs.declared.wires.WriteAnswer.{WriteAnswer}
+use Rattle.trace_model.specs.Checks.{names, role_of}
+use Rattle.loop_model.specs.Journals.{Entry}
+use Rattle.loop_model.specs.Outs.{Out, runs, acts, exactly, first_of}
+use Rattle.loop_model.specs.Sessions.{Rules, Session, is_released, most_output, Given, Begins, Hears, Sends, Takes, Leaves, Ticks, Ends, Faults, Stalls, written, breaks, end_after, outcomes_of, entry_of, octets_in, joined, fed, heard_in, leave_of, sends_of, hears, silence, dealt, waiting, takes_all, Says, nothing_said, handled}
+use Rattle.loop_model.specs.Visits.{Flow, Going, PutOff, Failing, writes_if, writes_once, writes, fault_unless, flowed, written_unless, Wrote, settled, rests, Met, served}
+use Rattle.loop_model.specs.Visits as visits
+use Rattle.loop_model.specs.Openings.{openings}
+
+openings-append : (xs ys : List Entry) → openings (xs ++ ys) ≡ openings xs ++ openings ys
+unfolding openings
+openings-append [] ys = refl
+openings-append (x ∷ xs) ys =
+    elim (cases_Bool (names (role_of x.event))) [
+      | inl p ↦ rw p (ap (λ z. (x.conn, x.event) ∷ z) (openings-append xs ys))
+      | inr p ↦ rw p (openings-append xs ys)
+    ]
+
+pub none_two : (xs ys : List Entry) → openings xs ≡ [] → openings ys ≡ [] → openings (xs ++ ys) ≡ []
+none_two xs ys p q = openings-append xs ys ∙ ap (λ z. z ++ openings ys) p ∙ q
+
+none_more : (x : Entry) (xs : List Entry) → names (role_of x.event) ≡ false → openings xs ≡ [] → openings (x ∷ xs) ≡ []
+unfolding openings
+none_more x xs p q = rw p q
+
+-- ---- a part, once for each answer
+
+abbrev AllFit : {A : Type 0} → (A → Type 0) → List A → Type 0
+AllFit Fits [] = Unit {0}
+AllFit Fits (a ∷ answers) = Fits a × AllFit Fits answers
+
+abbrev Any : {A : Type 0} → A → Type 0
+Any a = Unit {0}
+
+all_any : {A : Type 0} (answers : List A) → AllFit Any answers
+all_any [] = tt
+all_any (a ∷ answers) = (tt, all_any answers)
+
+runs_none : {S A : Type 0} (f : S → A → S × List Entry) (Fits : A → Type 0) → ((s : S) (a : A) → Fits a → openings (f s a).1 ≡ [])
+    → (s : S) (answers : List A) → AllFit Fits answers → openings (runs f s answers).1 ≡ []
+unfolding runs openings
+runs_none f Fits none s [] fit = refl
+runs_none f Fits none s (a ∷ answers) fit =
+    none_two (f s a).1 (runs f (f s a).0 answers).1 (none s a fit.0) (runs_none f Fits none (f s a).0 answers fit.1)
+
+acts_none : {S A : Type 0} (f : S → A → Out S) → ((s : S) (a : A) → openings (f s a).entries ≡ []) → (s : S) (answers : List A)
+    → openings (acts f s answers).entries ≡ []
+unfolding acts openings
+acts_none f none s [] = refl
+acts_none f none s (a ∷ answers) =
+    none_two (f s a).entries (acts f (f s a).state answers).entries (none s a) (acts_none f none (f s a).state answers)
+
+-- ---- an event, and those that follow it
+
+abbrev IsOfEnd : Given → Type 0
+IsOfEnd (Begins engine rbc rb) = ⊥
+IsOfEnd (Hears octets) = Unit {0}
+IsOfEnd (Sends text) = Unit {0}
+IsOfEnd Takes = Unit {0}
+IsOfEnd (Leaves sub) = Unit {0}
+IsOfEnd Ticks = Unit {0}
+IsOfEnd Ends = Unit {0}
+IsOfEnd Faults = Unit {0}
+IsOfEnd Stalls = Unit {0}
+
+unnamed : (k : KEnd) (g : Given) → IsOfEnd g → names (role_of (written k g)) ≡ false
+unnamed k (Begins engine rbc rb) fits = absurd fits
+unnamed k (Hears octets) fits = refl
+unnamed k (Sends text) fits = refl
+unnamed k Takes fits = refl
+unnamed k (Leaves sub) fits = refl
+unnamed k Ticks fits = refl
+unnamed k Ends fits = refl
+unnamed k Faults fits = refl
+unnamed k Stalls fits = refl
+
+-- an event, and behind it none that opens a connection
+pub record IsFirst (x : Entry) (xs : List Entry) : Type 0 where
+  pub rest : List Entry
+  pub is : xs ≡ x ∷ rest
+  pub none : openings rest ≡ []
+
+first_more : (x : Entry) (xs ys : List Entry) → IsFirst x xs → openings ys ≡ [] → IsFirst x (xs ++ ys)
+first_more x xs ys h none = record { rest = h.rest ++ ys; is = ap (λ z. z ++ ys) h.is; none = none_two h.rest ys h.none none }
+
+first_none : (x : Entry) (xs : List Entry) → IsFirst x xs → names (role_of x.event) ≡ false → openings xs ≡ []
+first_none x xs h p = ap openings h.is ∙ none_more x h.rest p h.none
+
+fit_two : (gs hs : List Given) → AllFit IsOfEnd gs → AllFit IsOfEnd hs → AllFit IsOfEnd (gs ++ hs)
+fit_two [] hs p q = q
+fit_two (g ∷ gs) hs p q = (p.0, fit_two gs hs p.1 q)
+
+sends_fit : (texts : List (List ℕ)) → AllFit IsOfEnd (sends_of texts)
+sends_fit [] = tt
+sends_fit (text ∷ texts) = (tt, sends_fit texts)
+
+leave_fits : (sub : Option ℕ) → AllFit IsOfEnd (leave_of sub)
+leave_fits None = tt
+leave_fits (Some sub) = (tt, tt)
+
+replies_fit : (mind : Option Mind) (heard : Option Heard) (free : Said) → AllFit IsOfEnd (hears mind heard free).1
+replies_fit None heard free = tt
+replies_fit (Some mind) None free = tt
+replies_fit (Some mind) (Some heard) free =
+    let a = said mind.kind mind heard free in fit_two (sends_of a.texts) (leave_of a.leave) (sends_fit a.texts) (leave_fits a.leave)
+
+module _ (r : Rules) (m : ℕ) where
+  joined_none : (s : Session) (octets : List ℕ) → openings (joined r m s octets).1 ≡ []
+  unfolding joined openings
+  joined_none s octets =
+      elim (cases_Bool (nat_lt most_output (length s.output + length octets))) [ inl p ↦ rw p refl | inr p ↦ rw p refl ]
+
+  fed_first : (s : Session) (g : Given) → IsFirst (entry_of r m s g) (fed r m s g).1
+  unfolding fed
+  fed_first s g =
+      let t : Session = record s { end = end_after r m s.end g; broken = s.broken || breaks g } in
+      let octets = octets_in (outcomes_of r m s.end g) in
+      record { rest = (joined r m t octets).1; is = refl; none = joined_none t octets }
+
+  dealt_first : (s : Session) (g : Given) (free : Said) → IsFirst (entry_of r m s g) (dealt r m s g free).1
+  unfolding dealt
+  dealt_first s g free =
+      let a = fed r m s g in
+      let heard = heard_in (outcomes_of r m s.end g) in
+      let b = hears s.mind heard free in
+      first_more (entry_of r m s g) a.1 (runs (fed r m) (record a.0 { mind = b.0 }) b.1).1 (fed_first s g)
+      (runs_none (fed r m) IsOfEnd (λ t h fits. first_none (entry_of r m t h) (fed r m t h).1 (fed_first t h) (unnamed t.end h fits)) (record a.0 { mind = b.0 }) b.1
+      (replies_fit s.mind heard free))
+
+  takes_none : (s : Session) (frees : List Said) → openings (takes_all r m s frees).1 ≡ []
+  unfolding takes_all
+  takes_none s frees =
+      runs_none (λ t free. dealt r m t Takes free) Any (λ t free fits. first_none (entry_of r m t Takes) (dealt r m t Takes free).1 (dealt_first t Takes free) refl) s
+      (exactly (waiting s) silence frees) (all_any (exactly (waiting s) silence frees))
+
+  handled_first : (s : Session) (g : Given) (says : Says) → IsFirst (entry_of r m s g) (handled r m s g says).1
+  unfolding handled
+  handled_first s g says =
+      let a = dealt r m s g says.first in
+      first_more (entry_of r m s g) a.1 (takes_all r m a.0 says.rest).1 (dealt_first s g says.first) (takes_none a.0 says.rest)
+
+  -- ---- writing and closing
+
+  write_none : (flow : Flow) (s : Session) (answer : WriteAnswer) → openings (writes_if flow s answer).entries ≡ []
+  unfolding openings
+  write_none Going s answer = elim (cases_Bool (length s.output == 0)) [ inl p ↦ rw p refl | inr p ↦ rw p refl ]
+  write_none PutOff s answer = refl
+  write_none Failing s answer = refl
+
+  once_none : (x : Session × Flow) (answer : WriteAnswer) → openings (writes_once x answer).entries ≡ []
+  unfolding writes_once
+  once_none x answer = write_none x.1 x.0 answer
+
+  writes_none : (s : Session) (answers : List WriteAnswer) → openings (writes s answers).entries ≡ []
+  unfolding writes
+  writes_none s answers = acts_none writes_once once_none (s, Going) _
+
+  fault_none : (released : Bool) (s : Session) (says : Says) → openings (fault_unless released r m s says).1 ≡ []
+  unfolding openings
+  fault_none true s says = refl
+  fault_none false s says = first_none (entry_of r m s Faults) (handled r m s Faults says).1 (handled_first s Faults says) refl
+
+  flowed_none : (s : Session) (flow : Flow) (says : Says) → openings (flowed r m (s, flow) says).entries ≡ []
+  unfolding openings
+  flowed_none s Going says = refl
+  flowed_none s PutOff says = refl
+  flowed_none s Failing says = fault_none (is_released s) s says
+
+  written_none : (broken : Bool) (s : Session) (a : Wrote) → openings (written_unless broken r m s a).entries ≡ []
+  unfolding openings
+  written_none true s a = refl
+  written_none false s a =
+      let x = (writes s a.answers).state in
+      none_two (writes s a.answers).entries (flowed r m x a.says).entries (writes_none s a.answers) (flowed_none x.0 x.1 a.says)
+
+  settled_none : (s : Session) → openings (settled s).entries ≡ []
+  unfolding settled openings
+  settled_none s = elim (cases_Bool (s.broken || (is_released s && (length s.output == 0)))) [ inl p ↦ rw p refl | inr p ↦ rw p refl ]
+
+  rests_none : (s : Session) (a : Wrote) → openings (rests r m s a).entries ≡ []
+  unfolding rests visits.written
+  rests_none s a =
+      none_two (visits.written r m s a).entries (settled (visits.written r m s a).state).entries (written_none s.broken s a) (settled_none (visits.written r m s a).state)
+
+  pub served_first : (s : Session) (g : Given) (a : Met) → IsFirst (entry_of r m s g) (served r m s g a).entries
+  unfolding served
+  served_first s g a =
+      let says = first_of nothing_said a.says in
+      let h = handled r m s g says in
+      first_more (entry_of r m s g) h.1 (rests r m h.0 a.wrote).entries (handled_first s g says) (rests_none h.0 a.wrote)
