@@ -12,12 +12,13 @@ use Rattle.drill_model.specs.Outcomes.{Outcome, OfSafety, Handed, Arrived, Up, T
 use Rattle.drill_model.specs.Ends.{EndEvent}
 use Rattle.drill_model.specs.Kinds.{sent_in, accepted_in, passed_in, deliveries}
 use Rattle.drill_model.specs.Totals.{sends, acceptances, is_loss, is_repeat, losses, repeats}
-use Rattle.er_world.specs.declared.told.Told.{Told}
+use Rattle.drill_ends.specs.declared.told.Told.{Told}
 use Rattle.er_world.specs.declared.waiting.Change.{Change}
 use Rattle.er_world.specs.declared.waiting.Change.TheVariants as result
 use Rattle.er_world.specs.Changes.{outcomes_of}
-use Rattle.er_world.specs.Tellings.{IsToldFact, IsTold, AreTold}
-use Rattle.er_world.specs.Counts.{saturated, counts_of, is_message, sent_at, counted_told, counted_pass, counted_change}
+use Rattle.drill_ends.specs.Tellings.{IsToldFact, IsTold, AreTold}
+use Rattle.drill_ends.specs.SendCounts.{sent_at}
+use Rattle.er_world.specs.Counts.{saturated, counts_of, is_message, counted_told, counted_pass, counted_change}
 
 abbrev pub totals : ℕ → ℕ → ℕ → ℕ → ℕ → Totals
 totals a b c d e = record { sent = a; accepted = b; passes = c; lost = d; repeated = e }

@@ -1,5 +1,4 @@
 pub mod Tells
-pub mod SafeRows
 pub mod LinkRows
 pub mod DrainRows
 pub mod Places
@@ -9,14 +8,5 @@ pub mod Opening
 pub mod Ticks
 pub mod Overfull
 pub mod WorldEnds
-pub mod StationFrames
-pub mod StationCalls
-pub mod StationRows
-pub mod StackMoments
-pub mod StackTells
-pub mod StackRows
-pub mod StackOctets
-pub mod StackCalls
-pub mod Sends
 pub mod Counting
 pub mod WorldTotals

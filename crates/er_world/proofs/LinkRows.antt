@@ -25,7 +25,7 @@ use Rattle.er_world.specs.declared.action.LineChange.{LineChange}
 use Rattle.er_world.specs.declared.waiting.Change.{Change as Changed}
 use Rattle.er_world.specs.declared.waiting.Change.TheVariants as result
 use Rattle.er_world.specs.Changes.{outcomes_of, change_of, change_line}
-use Rattle.er_world.specs.KeptEnds.{StandsEnd}
+use Rattle.drill_ends.specs.KeptEnds.{StandsEnd}
 use Rattle.er_world.specs.Ledgers.{HoldsLedger}
 use Rattle.er_world.specs.Ports.{PortWent}
 use Rattle.er_world.specs.Counts.{counts_of, counted_told, counted_pass, counted_change}

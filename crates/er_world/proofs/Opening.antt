@@ -1,7 +1,6 @@
 -- A link of the code that was just opened stands where that of the model does.
-use Rattle.std.proofs.Common.{◌≡◌, ℕ, ◌-◌, ◌<◌, ◌≤◌, ◌^◌, ◌==◌, ◌&&◌, nat_le, if◌then◌else◌, Bool, true, false, List, [], refl, sym, ap, ◌∙◌, subst, append-nil, Option, Some, None, arith}
+use Rattle.std.proofs.Common.{◌≡◌, ℕ, ◌<◌, ◌≤◌, ◌^◌, ◌==◌, Bool, true, false, List, [], refl, sym, ap, ◌∙◌, subst, append-nil, Option, None}
 use mathlib.Core.Path.{fun_ext}
-use Rattle.std.proofs.lemmas.Bool.{le-leb}
 use Rattle.er_base.specs.declared.side.Side.TheVariants.{E}
 use Rattle.des_block.specs.declared.triple_key.TripleKey.{TripleKey}
 use Rattle.er_settings.specs.declared.settings.Settings.{Settings}
@@ -12,35 +11,17 @@ use Rattle.drill_model.specs.Ends.{End, OfSafe, OfStation, OfStack}
 use Rattle.drill_model.specs.Ends as model
 use Rattle.drill_model.specs.Links.{LinkOpening, OfPair, OfStations, OfStacks, key_on, joined, joined_pair, opened, give}
 use Rattle.er_world.specs.declared.place.Place.{Place}
-use Rattle.er_world.specs.declared.drill_end.DrillEnd.{DrillEnd}
+use Rattle.drill_ends.specs.declared.drill_end.DrillEnd.{DrillEnd}
 use Rattle.er_world.specs.declared.link.Link.{Link as KeptLink}
-use Rattle.er_world.specs.Keys.{entries_of, IsSteady}
-use Rattle.er_world.specs.KeptEnds.{StandsEnd}
+use Rattle.drill_ends.specs.Keys.{entries_of, KeyIsFound}
+use Rattle.drill_ends.specs.KeptEnds.{StandsEnd}
 use Rattle.end_model.specs.Ends.{Call, Answer}
 use Rattle.end_model.specs.Ends as stacks
 use Rattle.drill_model.specs.StackReports.{OpensOrderly}
 use Rattle.er_end.specs.KeptEnds.{KEnd, kept_opened}
 use Rattle.er_end.specs.Standing.{EndStands, IsAllowed, MadeStands}
-use Rattle.er_world.specs.KeptStacks.{StandsStack}
+use Rattle.drill_ends.specs.KeptStacks.{StandsStack}
 use Rattle.er_world.specs.KeptLinks.{new_link, StandsLink, LinkWent, LinkDoes}
-
-no_key : (b : Bool) (x : Option TripleKey) → x ≡ (if b then x else x)
-no_key true x = refl
-no_key false x = refl
-
-its_key : (b c d : Bool) (kmac : TripleKey) → c ≡ true → d ≡ true
-    → (if (b && c) && d then Some kmac else None) ≡ (if b then Some kmac else None)
-its_key true c d kmac is at = rw (is, at) refl
-its_key false c d kmac is at = refl
-
--- the one key of a link at a moment of 64 bits
-one_key : (own_engine own_rbc : ℕ) (kr : Option TripleKey) (ke : TripleKey) (ra rb now engine rbc : ℕ) → now < 2 ^ 64
-    → key_at (entries_of own_engine own_rbc kr) now engine rbc ≡ key_for (OfKeys own_engine own_rbc ke kr ra rb) engine rbc
-one_key own_engine own_rbc None ke ra rb now engine rbc bound = no_key ((own_engine == engine) && (own_rbc == rbc)) None
-one_key own_engine own_rbc (Some kmac) ke ra rb now engine rbc bound =
-    let first : nat_le 0 now ≡ true = le-leb 0 now (omega arith) in
-    let last : nat_le now (2 ^ 64 - 1) ≡ true = le-leb now (2 ^ 64 - 1) (omega (arith, bound)) in
-    its_key ((own_engine == engine) && (own_rbc == rbc)) (nat_le 0 now) (nat_le now (2 ^ 64 - 1)) kmac first last
 
 -- a link that was just made
 stands_joined : (opening : LinkOpening) (e r : DrillEnd) (of_model_e of_model_r : End) (keys : List Entry) (moment : ℕ)
@@ -68,16 +49,6 @@ stands_new opening e r keys moment of_e of_r found =
 no_keys_found : (engine rbc : ℕ) (ke kr : TripleKey) (now : ℕ) → now < 2 ^ 64 → key_at (entries_of engine rbc None) now ≡ key_for (OfFixed engine rbc ke kr)
 no_keys_found engine rbc ke kr now bound = fun_ext (λ e. fun_ext (λ r. refl))
 
-pub key_found : (engine rbc : ℕ) (ke : TripleKey) (kr : Option TripleKey) (ra rb now : ℕ) → now < 2 ^ 64
-    → key_at (entries_of engine rbc kr) now ≡ key_for (OfKeys engine rbc ke kr ra rb)
-key_found engine rbc ke kr ra rb now bound = fun_ext (λ e. fun_ext (λ r. one_key engine rbc kr ke ra rb now e r bound))
-
--- which is found alike at any two moments
-pub steady : (engine rbc : ℕ) (kr : Option TripleKey) → IsSteady (entries_of engine rbc kr)
-steady engine rbc kr a b low most =
-    let none : TripleKey = record { first = 0; second = 0; third = 0 } in
-    key_found engine rbc none kr 0 0 a (omega (arith, low)) ∙ sym (key_found engine rbc none kr 0 0 b (omega (arith, most)))
-
 -- two connected ends
 pub opens_fixed : (engine rbc : ℕ) (ke kr : TripleKey) (e r : DrillEnd) (keys : List Entry) (own : ℕ) (link : KeptLink) (settings : Settings) (show : Bool) (n : ℕ) (before : List ℕ)
     → link ≡ new_link e r keys own
@@ -91,7 +62,7 @@ opens_fixed engine rbc ke kr e r keys own link settings show n before is of_e of
     }
 
 -- an engine that calls
-pub opens_called : (engine rbc : ℕ) (ke : TripleKey) (kr : Option TripleKey) (ra rb : ℕ) (e r : DrillEnd) (keys : List Entry) (own : ℕ) (link new : KeptLink)
+pub opens_called : KeyIsFound → (engine rbc : ℕ) (ke : TripleKey) (kr : Option TripleKey) (ra rb : ℕ) (e r : DrillEnd) (keys : List Entry) (own : ℕ) (link new : KeptLink)
     (settings : Settings) (place : Place) (show : Bool) (n : ℕ) (before now : List ℕ)
     → link ≡ new_link e r keys own
     → StandsEnd e (OfSafe (begun (OfKeys engine rbc ke kr ra rb)).e) → StandsEnd r (OfSafe (begun (OfKeys engine rbc ke kr ra rb)).r)
@@ -99,7 +70,7 @@ pub opens_called : (engine rbc : ℕ) (ke : TripleKey) (kr : Option TripleKey) (
     → place ≡ record { number = n; side = E; show = show }
     → LinkDoes (λ l. give l place.side model.Start) place.show place.number link new before now
     → (moment : ℕ) → own ≡ moment → LinkWent (opened settings moment (OfPair (OfKeys engine rbc ke kr ra rb))) show n [] new before now
-opens_called engine rbc ke kr ra rb e r keys own link new settings place show n before now is of_e of_r keys_are there does moment at =
+opens_called key_found engine rbc ke kr ra rb e r keys own link new settings place show n before now is of_e of_r keys_are there does moment at =
     let opening : PairOpening = OfKeys engine rbc ke kr ra rb in
     let made : link ≡ new_link e r (entries_of engine rbc kr) moment =
     is ∙ ap (λ (k : List Entry). new_link e r k own) keys_are ∙ ap (new_link e r (entries_of engine rbc kr)) at in
@@ -145,7 +116,7 @@ stack_stands made orderly opening allowed low k is =
     }
 
 -- two stacks, of which the engine's starts
-pub opens_stacked : (engine rbc : ℕ) (ke : TripleKey) (kr : Option TripleKey) (ra rb : ℕ) (e r : DrillEnd) (keys : List Entry) (own : ℕ) (link new : KeptLink)
+pub opens_stacked : KeyIsFound → (engine rbc : ℕ) (ke : TripleKey) (kr : Option TripleKey) (ra rb : ℕ) (e r : DrillEnd) (keys : List Entry) (own : ℕ) (link new : KeptLink)
     (settings : Settings) (place : Place) (show : Bool) (n : ℕ) (before now : List ℕ)
     → link ≡ new_link e r keys own
     → StandsEnd e (OfStack (stacks.opened (Call settings engine rbc ke rb own))) → StandsEnd r (OfStack (stacks.opened (Answer settings rbc ra own)))
@@ -153,7 +124,7 @@ pub opens_stacked : (engine rbc : ℕ) (ke : TripleKey) (kr : Option TripleKey) 
     → place ≡ record { number = n; side = E; show = show }
     → LinkDoes (λ l. give l place.side model.Start) place.show place.number link new before now
     → (moment : ℕ) → own ≡ moment → LinkWent (opened settings moment (OfStacks engine rbc ke kr ra rb)) show n [] new before now
-opens_stacked engine rbc ke kr ra rb e r keys own link new settings place show n before now is of_e of_r keys_are there does moment at =
+opens_stacked key_found engine rbc ke kr ra rb e r keys own link new settings place show n before now is of_e of_r keys_are there does moment at =
     let opening : LinkOpening = OfStacks engine rbc ke kr ra rb in
     let of_model_e : End = OfStack (stacks.opened (Call settings engine rbc ke rb own)) in
     let of_model_r : End = OfStack (stacks.opened (Answer settings rbc ra own)) in

@@ -13,8 +13,9 @@ use Rattle.drill_model.specs.Marks.{outcome_forged, marks_behind}
 use Rattle.drill_model.specs.Texts.{outcome_line, link_lines}
 use Rattle.er_world.specs.declared.place.Place.{Place}
 use Rattle.er_world.specs.declared.ledger.Ledger.{Ledger}
-use Rattle.er_world.specs.declared.told.Told.{Told}
-use Rattle.er_world.specs.Tellings.{IsTold, heard_in, EachTold, told_line, told_frames}
+use Rattle.drill_ends.specs.declared.told.Told.{Told}
+use Rattle.drill_ends.specs.Tellings.{IsTold, heard_in, EachTold}
+use Rattle.er_world.specs.ToldLines.{told_line, told_frames}
 use Rattle.er_world.specs.Ledgers.{HoldsLedger, mistrusts_of, forged_by, told_pairs, told_mark, Keeps, TellsOne, TellsAll, Telling}
 
 or_false : (a : Bool) → (a || false) ≡ a

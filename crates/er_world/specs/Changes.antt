@@ -4,8 +4,6 @@ use Rattle.er_base.specs.declared.side.Side.{Side}
 use Rattle.drill_model.specs.Outcomes.{Outcome, Lost, Repeated, Altered, Inserted, NothingWaits, IsShort}
 use Rattle.drill_model.specs.Waiting.{LineChange, Lose, Repeat, Alter, Put}
 use Rattle.drill_model.specs.Links.{LinkStep, Send, Pass, Change, Take, Release}
-use Rattle.drill_model.specs.Ends.{EndEvent}
-use Rattle.drill_model.specs.Ends as model
 use Rattle.drill_model.specs.Texts.{empty_line, short_line}
 use Rattle.er_world.specs.declared.waiting.Change.{Change as CodeResult}
 use Rattle.er_world.specs.declared.waiting.Change.TheVariants as result
@@ -13,8 +11,6 @@ use Rattle.er_world.specs.declared.action.LineChange.{LineChange as CodeChange}
 use Rattle.er_world.specs.declared.action.LineChange.TheVariants as how
 use Rattle.er_world.specs.declared.action.Action.{Action}
 use Rattle.er_world.specs.declared.action.Action.TheVariants as does
-use Rattle.er_world.specs.declared.end_event.EndEvent.{EndEvent as CodeEvent}
-use Rattle.er_world.specs.declared.end_event.EndEvent.TheVariants as event
 use Rattle.er_world.specs.declared.place.Place.{Place}
 
 -- what came of it
@@ -56,12 +52,3 @@ action_step side does.Pass = Pass side
 action_step side (does.Change change) = Change side (change_of change)
 action_step side does.Take = Take side
 action_step side (does.Release sub) = Release side sub
-
--- what is given to an end
-abbrev pub event_of : CodeEvent → EndEvent
-event_of event.Start = model.Start
-event_of (event.Receive octets) = model.Receive octets.now
-event_of (event.Send octets) = model.Send octets.now
-event_of event.Take = model.Take
-event_of (event.Release sub) = model.Release sub
-event_of event.Tick = model.Tick

@@ -1,13 +1,14 @@
 -- Representation: what the code counts of all that comes at a link; no claim rests on it.
-use Rattle.std.specs.Prelude.{ℕ, ◌+◌, ◌-◌, ◌^◌, min, Bool, true, false, if◌then◌else◌, List, [], ◌∷◌}
+use Rattle.std.specs.Prelude.{ℕ, ◌+◌, ◌-◌, ◌^◌, min, Bool, true, false, List}
 use Rattle.std.specs.List.{count_by}
 use Rattle.drill_model.specs.declared.totals.Totals.{Totals}
 use Rattle.drill_model.specs.Outcomes.{Occurrence}
-use Rattle.drill_model.specs.Ends.{EndEvent, Start, Receive, Send, Take, Release, Tick}
+use Rattle.drill_model.specs.Ends.{EndEvent}
 use Rattle.drill_model.specs.Kinds.{deliveries}
 use Rattle.drill_model.specs.Totals.{sends, acceptances, losses, repeats}
-use Rattle.er_world.specs.declared.told.Told.{Told}
-use Rattle.er_world.specs.declared.told.Told.TheVariants as told
+use Rattle.drill_ends.specs.declared.told.Told.{Told}
+use Rattle.drill_ends.specs.declared.told.Told.TheVariants as told
+use Rattle.drill_ends.specs.SendCounts.{sent_at}
 use Rattle.er_world.specs.declared.waiting.Change.{Change}
 use Rattle.er_world.specs.declared.waiting.Change.TheVariants as result
 
@@ -53,33 +54,6 @@ is_message told.NothingToTake = false
 is_message (told.Refused refused) = false
 is_message (told.Released release) = false
 is_message (told.Frame octets) = false
-
--- a send was refused
-abbrev pub is_refusal : Told → Bool
-is_refusal (told.Sealed key text) = false
-is_refusal (told.Verified key text) = false
-is_refusal (told.Connected peer key text) = false
-is_refusal (told.Accepted user key text) = false
-is_refusal told.Up = false
-is_refusal (told.Arrived payload) = false
-is_refusal (told.Took message) = false
-is_refusal told.NothingToTake = false
-is_refusal (told.Refused refused) = true
-is_refusal (told.Released release) = false
-is_refusal (told.Frame octets) = false
-
-abbrev pub begins_refused : List Told → Bool
-begins_refused [] = false
-begins_refused (t ∷ list) = is_refusal t
-
--- a send is Ok exactly where it isn't refused
-abbrev pub sent_at : EndEvent → List Told → ℕ
-sent_at Start list = 0
-sent_at (Receive octets) list = 0
-sent_at (Send octets) list = if begins_refused list then 0 else 1
-sent_at Take list = 0
-sent_at (Release sub) list = 0
-sent_at Tick list = 0
 
 abbrev pub counted_told : EndEvent → List Told → Totals → Totals
 counted_told event list t = record t {

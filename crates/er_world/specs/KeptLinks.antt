@@ -13,10 +13,10 @@ use Rattle.drill_model.specs.Marks.{marks_behind}
 use Rattle.drill_model.specs.Texts.{link_lines}
 use Rattle.er_world.specs.declared.waiting.Change.{Change}
 use Rattle.er_world.specs.declared.action.LineChange.{LineChange}
-use Rattle.er_world.specs.declared.drill_end.DrillEnd.{DrillEnd}
+use Rattle.drill_ends.specs.declared.drill_end.DrillEnd.{DrillEnd}
 use Rattle.er_world.specs.declared.link.Link.{Link as KeptLink}
 use Rattle.er_world.specs.Changes.{outcomes_of, change_of}
-use Rattle.er_world.specs.KeptEnds.{StandsEnd}
+use Rattle.drill_ends.specs.KeptEnds.{StandsEnd}
 use Rattle.er_world.specs.Ledgers.{HoldsLedger}
 use Rattle.er_world.specs.Counts.{counts_of, no_totals}
 

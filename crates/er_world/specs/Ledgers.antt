@@ -10,10 +10,11 @@ use Rattle.drill_model.specs.Marks.{marks_behind}
 use Rattle.drill_model.specs.Texts.{link_lines}
 use Rattle.er_world.specs.declared.place.Place.{Place}
 use Rattle.er_world.specs.declared.ledger.Ledger.{Ledger}
-use Rattle.er_world.specs.declared.told.Told.{Told}
-use Rattle.er_world.specs.declared.told.Told.TheVariants as told
+use Rattle.drill_ends.specs.declared.told.Told.{Told}
+use Rattle.drill_ends.specs.declared.told.Told.TheVariants as told
 use Rattle.er_world.specs.Pairs.{Gains}
-use Rattle.er_world.specs.Tellings.{EachTold, told_line, told_frames}
+use Rattle.drill_ends.specs.Tellings.{EachTold}
+use Rattle.er_world.specs.ToldLines.{told_line, told_frames}
 
 -- what is kept is what came
 pub record HoldsLedger (kept : Ledger) (facts : List MarkedFact) : Type 0 where

@@ -1,16 +1,8 @@
-pub mod Keys
 pub mod Pairs
 pub mod PairKeys
-pub mod Refusals
-pub mod Tellings
+pub mod ToldLines
 pub mod Changes
 pub mod Ledgers
-pub mod KeptStations
-pub mod KeptStacks
-pub mod KeptEnds
-pub mod SafeEnds
-pub mod StationEnds
-pub mod StackEnds
 pub mod Counts
 pub mod Ports
 pub mod KeptLinks

@@ -9,11 +9,12 @@ use Rattle.drill_model.specs.Kinds.{sent_in}
 use Rattle.er_world.specs.declared.place.Place.{Place}
 use Rattle.er_world.specs.declared.port.Port.{Port}
 use Rattle.er_world.specs.declared.ledger.Ledger.{Ledger}
-use Rattle.er_world.specs.declared.told.Told.{Told}
-use Rattle.er_world.specs.Tellings.{AreTold}
-use Rattle.er_world.specs.KeptEnds.{StandsEnd}
+use Rattle.drill_ends.specs.declared.told.Told.{Told}
+use Rattle.drill_ends.specs.Tellings.{AreTold}
+use Rattle.drill_ends.specs.KeptEnds.{StandsEnd}
 use Rattle.er_world.specs.Ledgers.{TellsAll}
-use Rattle.er_world.specs.Counts.{counted_told, sent_at}
+use Rattle.drill_ends.specs.SendCounts.{sent_at}
+use Rattle.er_world.specs.Counts.{counted_told}
 
 -- an end went on so at an event, behind these facts of its link
 pub record PortWent (place : Place) (facts : List MarkedFact) (event : EndEvent) (a : End × List Outcome) (waited : List (List ℕ)) (new : Port)

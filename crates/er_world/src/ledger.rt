@@ -3,13 +3,14 @@
 ghost use Rattle.std.specs.Prelude.{◌≡◌, [], false, List, IfOk, OnOk};
 ghost use Rattle.safe_pair.specs.Facts.{MarkedFact};
 ghost use Rattle.drill_model.specs.Outcomes.{Outcome};
-ghost use Rattle.er_world.specs.Tellings.{AreTold};
+ghost use Rattle.drill_ends.specs.Tellings.{AreTold};
 ghost use Rattle.er_world.specs.Ledgers.{HoldsLedger, Keeps, Marks, TellsOne, TellsAll, forged_by, mistrusts_of};
 
 use crate::place::Place;
 use crate::sealed_pairs::SealedPairs;
-use crate::told::{Told, next_told, print_told, queue};
+use crate::telling::{next_told, print_told, queue};
 use crate::waiting::Waiting;
+use drill_ends::Told;
 use er_base::{NoMemory, Side};
 use std::alloc::Global;
 use std::collections::VecDeque;

@@ -3,23 +3,13 @@
 
 mod action;
 mod counts;
-mod drill_end;
-mod end_event;
-mod finder;
 mod ledger;
 mod lines;
 mod link;
-mod moment;
 mod place;
 mod port;
-mod refusal;
-mod safe_end;
 mod sealed_pairs;
-mod stack_call;
-mod stack_end;
-mod station_end;
-mod telling_station;
-mod told;
+mod telling;
 mod waiting;
 mod world;
 

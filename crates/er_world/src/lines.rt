@@ -3,13 +3,13 @@
 ghost use Rattle.std.specs.Prelude.{◌≡◌, ◌++◌, if◌then◌else◌, [], codes, IfOk, OnOk, OnErr};
 ghost use Rattle.std.specs.Fmt.{decimal};
 ghost use Rattle.drill_model.specs.Outcomes.{RefusedReleased, RefusedNotConnected, RefusedLength, RefusedFull};
-ghost use Rattle.er_world.specs.Refusals.{shown_refusal};
+ghost use Rattle.drill_ends.specs.Refusals.{shown_refusal};
 ghost use Rattle.er_world.specs.Changes.{change_line};
 ghost use Rattle.drill_model.specs.Texts.{head, up_line, forged_word, by_word, release_words, connected_line, accepted_line, taken_line, none_line, released_line, refused_line, frame_line, empty_line, short_line, passes_line};
 
 use crate::place::Place;
-use crate::refusal::Refusal;
 use crate::waiting::Change;
+use drill_ends::Refusal;
 use er_base::{NoMemory, Release, decimal_word, hex_word};
 use std::alloc::Global;
 

@@ -5,20 +5,18 @@ ghost use Rattle.safety_automaton.specs.Keys.{key_at};
 ghost use Rattle.safe_pair.specs.Facts.{MarkedFact};
 ghost use Rattle.drill_model.specs.Ends.{End, end_step};
 ghost use Rattle.drill_model.specs.Waiting.{changes};
-ghost use Rattle.er_world.specs.Changes.{IsFirst, change_of, event_of, outcomes_of};
-ghost use Rattle.er_world.specs.KeptEnds.{StandsEnd};
+ghost use Rattle.er_world.specs.Changes.{IsFirst, change_of, outcomes_of};
+ghost use Rattle.drill_ends.specs.Events.{event_of};
+ghost use Rattle.drill_ends.specs.KeptEnds.{StandsEnd};
 ghost use Rattle.er_world.specs.Ledgers.{HoldsLedger};
 ghost use Rattle.er_world.specs.Ports.{PortWent};
 
 use crate::action::LineChange;
 use crate::counts::count_told;
-use crate::drill_end::DrillEnd;
-use crate::end_event::EndEvent;
-use crate::finder::OneKey;
 use crate::ledger::Ledger;
-use crate::moment::Moment;
 use crate::place::Place;
 use crate::waiting::{Change, Waiting};
+use drill_ends::{DrillEnd, EndEvent, Moment, OneKey};
 use drill_model::Totals;
 use er_base::{NoMemory, Octets};
 use std::alloc::Global;
@@ -81,7 +79,7 @@ impl Port {
             → PortWent place facts (event_of event.now) (end_step (key_at keys.now now) now end (event_of event.now)) self.old.waiting self.new ledger.new
             totals.old totals.new out.old.items out.new.items) }
     {
-        safety_automaton::laws::steps();
+        drill_ends::laws::sends();
         let _ = now.get();
         let told = self.end.answer(alloc, keys, now, event)?;
         count_told(event, &told, totals);

@@ -22,15 +22,11 @@ ghost use Rattle.er_world.specs.WorldSteps.{Does, WorldDoes, Ends, left_by, touc
 
 use crate::action::{Action, LineChange};
 use crate::counts::{no_totals, sum};
-use crate::drill_end::DrillEnd;
-use crate::end_event::EndEvent;
-use crate::finder::OneKey;
 use crate::lines::{print_empty, print_passes};
 use crate::link::{Link, MOST_WAITING};
-use crate::moment::Moment;
 use crate::place::Place;
-use crate::station_end::StationEnd;
 use des_block::TripleKey;
+use drill_ends::{DrillEnd, EndEvent, Moment, OneKey, StationEnd};
 use drill_model::{Totals, WorldFault};
 use er_base::{NoMemory, Octets, Side};
 use er_end::End;
@@ -144,6 +140,7 @@ fn called(
     ensures { IfOk result (λ link. place.side ≡ E → (settings : AnySettings) (now : ℕ) → moment ≡ now
         → LinkWent (opened settings now (OfPair (OfKeys engine rbc ke kr ra rb))) place.show place.number [] link out.old.items out.new.items) }
 {
+    drill_ends::laws::keys();
     let e = DrillEnd::Safe(Safe::initiator(engine, rbc, ke, rb));
     let r = DrillEnd::Safe(Safe::responder(rbc, ra));
     let mut link = Link::new(alloc, e, r, OneKey::new(engine, rbc, kr), moment);
@@ -171,6 +168,7 @@ fn stacked(
     ensures { IfOk result (λ link. place.side ≡ E → (now : ℕ) → moment ≡ now
         → LinkWent (opened settings.now now (OfStacks engine rbc ke kr ra rb)) place.show place.number [] link out.old.items out.new.items) }
 {
+    drill_ends::laws::keys();
     er_end::laws::standing();
     drill_model::laws::stacks_report();
     let e = DrillEnd::Stack(End::call(alloc, settings, engine, rbc, ke, rb, moment.get())?);

@@ -7,6 +7,6 @@ use Rattle.er_world.proofs.world.called.Goals as goal
 pub returns : goal.returns
 returns c =
     λ is settings now at.
-    opens_called c.args.engine c.args.rbc c.args.ke c.args.kr c.args.ra c.args.rb _ _ _ c.args.moment c.new-link.result c.give.new.self settings c.args.place c.args.place.show c.args.place.number
+    opens_called c.keys.ensures c.args.engine c.args.rbc c.args.ke c.args.kr c.args.ra c.args.rb _ _ _ c.args.moment c.new-link.result c.give.new.self settings c.args.place c.args.place.show c.args.place.number
     c.args.out.now.items c.give.new.out.items
     c.new-link.ensures (ap (λ k. k.safety) c.initiator.ensures.made) (ap (λ k. k.safety) c.responder.ensures.made) c.new.ensures (place_at c.args.place E is) c.in_ok-give.ensures now at

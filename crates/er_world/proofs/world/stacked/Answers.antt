@@ -2,7 +2,7 @@ use Rattle.std.proofs.Common.{ℕ, subst}
 use Rattle.er_base.specs.declared.side.Side.TheVariants.{E}
 use Rattle.end_model.specs.Ends.{Call, Answer}
 use Rattle.end_model.specs.Ends as stacks
-use Rattle.er_world.specs.KeptStacks.{StandsStack}
+use Rattle.drill_ends.specs.KeptStacks.{StandsStack}
 use Rattle.er_world.proofs.LinkRows.{place_at}
 use Rattle.er_world.proofs.Opening.{stack_stands, opens_stacked}
 use Rattle.er_world.proofs.world.stacked.Goals as goal
@@ -10,7 +10,7 @@ use Rattle.er_world.proofs.world.stacked.Goals as goal
 pub returns : goal.returns
 returns c =
     λ is now at.
-    opens_stacked c.args.engine c.args.rbc c.args.ke c.args.kr c.args.ra c.args.rb _ _ _ c.args.moment c.new-link.result c.give.new.self c.args.settings.now c.args.place c.args.place.show c.args.place.number
+    opens_stacked c.keys.ensures c.args.engine c.args.rbc c.args.ke c.args.kr c.args.ra c.args.rb _ _ _ c.args.moment c.new-link.result c.give.new.self c.args.settings.now c.args.place c.args.place.show c.args.place.number
     c.args.out.now.items c.give.new.out.items
     c.new-link.ensures
     (subst (λ (m : ℕ). StandsStack c.in_ok-call.field-0 (stacks.opened (Call c.args.settings.now c.args.engine c.args.rbc c.args.ke c.args.rb m))) c.get.ensures.same

@@ -1,4 +1,4 @@
-use Rattle.er_world.specs.Tellings.{heard_in}
+use Rattle.drill_ends.specs.Tellings.{heard_in}
 use Rattle.er_world.proofs.Tells.{telling_begins, telling_goes_on, telling_ends}
 use Rattle.er_world.proofs.ledger.Ledger.tell_all.Goals as goal
 

@@ -2,7 +2,7 @@
 use Rattle.std.specs.Prelude.{List, length}
 use Rattle.safe_pair.specs.Facts.{MarkedFact}
 use Rattle.drill_model.specs.Outcomes.{Outcome}
-use Rattle.er_world.specs.Tellings.{AreTold, heard_in}
+use Rattle.drill_ends.specs.Tellings.{AreTold, heard_in}
 use Rattle.er_world.specs.Ledgers.{HoldsLedger, Telling}
 use Rattle.er_world.proofs.ledger.Ledger.tell_all.Given as goal
 

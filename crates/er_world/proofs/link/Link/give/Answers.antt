@@ -1,5 +1,5 @@
 use Rattle.std.proofs.lemmas.Result.{on_ok_weaker}
-use Rattle.er_world.specs.Changes.{event_of}
+use Rattle.drill_ends.specs.Events.{event_of}
 use Rattle.er_world.proofs.LinkRows.{gives_e, gives_r}
 use Rattle.er_world.proofs.link.Link.give.Goals as goal
 

@@ -1,7 +1,6 @@
 use Rattle.std.proofs.lemmas.Result.{on_ok_weaker}
-use Rattle.er_world.specs.Changes.{event_of}
+use Rattle.drill_ends.specs.Events.{event_of}
 use Rattle.safety_automaton.specs.Keys.{key_at}
-use Rattle.er_world.proofs.Sends.{sent_so}
 use Rattle.er_world.proofs.port.Port.answer.Goals as goal
 
 pub returns-clause-went : goal.returns-clause-went
@@ -15,6 +14,6 @@ returns-clause-went c =
       told = w.told;
       all = all _ facts w.told h;
       counts_are = c.count_told.ensures;
-      sent_are = sent_so c.steps.ensures.only (key_at c.args.keys.now c.args.now) c.args.now end (event_of c.args.event.now) c.in_ok-told.told.items w.told;
+      sent_are = c.sends.ensures (key_at c.args.keys.now c.args.now) c.args.now end (event_of c.args.event.now) c.in_ok-told.told.items w.told;
     })
     c.tell_all.ensures

@@ -1,0 +1,11 @@
+pub mod SafeRows
+pub mod StationFrames
+pub mod StationCalls
+pub mod StationRows
+pub mod StackMoments
+pub mod StackTells
+pub mod StackRows
+pub mod StackOctets
+pub mod StackCalls
+pub mod Sends
+pub mod KeyRows

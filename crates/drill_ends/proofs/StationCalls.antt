@@ -1,0 +1,148 @@
+-- What the calls of a station tell, as the outcomes of the model.
+use Rattle.std.proofs.Common.{◌≡◌, ℕ, ◌<◌, ◌≤◌, Bool, true, false, List, [], ◌∷◌, ◌++◌, length, map, Option, Some, None, refl, sym, ap, ◌∙◌, subst, append-nil, append_assoc, if◌then◌else◌}
+use Rattle.std.specs.Prelude.{nat_le, nat_lt}
+use Rattle.std.proofs.lemmas.Bool.{le-leb, lt-ltb}
+use Rattle.std.proofs.lemmas.Grind.{flat_map-append}
+use Rattle.er_base.specs.Stored.{Stored}
+use Rattle.er_base.specs.declared.release.Release.{Release}
+use Rattle.er_base.specs.declared.cause.Cause.TheVariants.{User}
+use Rattle.er_base.specs.Causes.{release_of}
+use Rattle.station_model.specs.Frames.{Frame, sent_octets}
+use Rattle.station_model.specs.Stations.{Station, Deed, no_deed}
+use Rattle.station_model.specs.Sending.{waiting}
+use Rattle.station_model.specs.Calls.{closes, hands, finishes}
+use Rattle.station_pair.specs.Links.{said_octets}
+use Rattle.station_pair.specs.Steps.{quits}
+use Rattle.hdlc_balanced.specs.Kept.{Kept, texts, Stands}
+use Rattle.drill_model.specs.Outcomes.{Outcome, RefusedFull, Frame as FrameOut}
+use Rattle.drill_model.specs.StationEnds.{if_up, if_arrived, if_released, told_by, called, refusal_of, handed_unless}
+use Rattle.drill_ends.specs.declared.told.Told.{Told}
+use Rattle.drill_ends.specs.declared.told.Told.TheVariants as told
+use Rattle.drill_ends.specs.declared.refusal.Refusal.TheVariants as refusal
+use Rattle.drill_ends.specs.Tellings.{EachTold, AreTold, heard_of, heard_in}
+use Rattle.drill_ends.specs.KeptStations.{StandsQuiet}
+use Rattle.drill_ends.specs.StationEnds.{told_up, told_arrived, told_released, told_deed, told_frames, TellsFrames, CallDid}
+
+-- ---- what is told one behind another
+
+each_append : (os ps : List Outcome) (ts us : List Told) → EachTold os ts → EachTold ps us → EachTold (os ++ ps) (ts ++ us)
+each_append [] ps [] us a b = b
+each_append [] ps (t ∷ ts) us a b = absurd a
+each_append (o ∷ os) ps [] us a b = absurd a
+each_append (o ∷ os) ps (t ∷ ts) us a b = (a.0, each_append os ps ts us a.1 b)
+
+pub told_append : (os ps : List Outcome) (ts us : List Told) → AreTold os ts → AreTold ps us → AreTold (os ++ ps) (ts ++ us)
+told_append os ps ts us a b =
+    subst (λ (xs : List Outcome). EachTold xs (ts ++ us)) (sym (flat_map-append heard_of os ps)) (each_append (heard_in os) (heard_in ps) ts us a b)
+
+-- ---- one call
+
+up_told : (up : Bool) → AreTold (if_up up) (told_up up)
+up_told true = (refl, tt)
+up_told false = tt
+
+arrived_told : (payload : Option (List ℕ)) → AreTold (if_arrived payload) (told_arrived payload)
+arrived_told None = tt
+arrived_told (Some payload) = (refl, tt)
+
+pub released_told : (release : Option Release) → AreTold (if_released release) (told_released release)
+released_told None = tt
+released_told (Some release) = (refl, tt)
+
+pub frames_told : (calling extended : Bool) (frames : List Frame) → AreTold (map FrameOut (map (sent_octets calling extended) frames)) (told_frames calling extended frames)
+frames_told calling extended [] = tt
+frames_told calling extended (f ∷ frames) = (refl, frames_told calling extended frames)
+
+call_told : (t : Station) → AreTold (told_by t) (told_deed t.deed ++ told_frames t.calling t.extended t.said)
+call_told t =
+    told_append ((if_up t.deed.up ++ if_arrived t.deed.payload) ++ if_released t.deed.released) (map FrameOut (said_octets t))
+    (told_deed t.deed) (told_frames t.calling t.extended t.said)
+    (told_append (if_up t.deed.up ++ if_arrived t.deed.payload) (if_released t.deed.released) (told_up t.deed.up ++ told_arrived t.deed.payload) (told_released t.deed.released)
+    (told_append (if_up t.deed.up) (if_arrived t.deed.payload) (told_up t.deed.up) (told_arrived t.deed.payload) (up_told t.deed.up) (arrived_told t.deed.payload))
+    (released_told t.deed.released))
+    (frames_told t.calling t.extended t.said)
+
+-- between two calls, with an empty room
+pub call_begins : (k : Kept) (s : Station) (room : Stored) → StandsQuiet k s → room.items ≡ [] → Stands k [] room no_deed s
+call_begins k s room h empty = record {
+  is = h.is;
+  order = h.order;
+  given = h.given;
+  deed = h.deed;
+  text = empty ∙ sym (ap (texts k.calling k.extended) h.said);
+}
+
+-- and behind it: what the call told, and then its frames
+pub call_ends : (k : Kept) (room : Stored) (d : Deed) (t : Station) (before between now : List Told)
+    → Stands k [] room d t → between ≡ before ++ told_deed d → TellsFrames room.items between now → CallDid k before now (called t)
+call_ends k room d t before between now h tells frames =
+    let calling : k.calling ≡ t.calling = ap (λ (x : Kept). x.calling) h.is in
+    let extended : k.extended ≡ t.extended = ap (λ (x : Kept). x.extended) h.is in
+    let deed : told_deed d ≡ told_deed t.deed = ap told_deed (sym h.deed) in
+    let sent : told_frames k.calling k.extended t.said ≡ told_frames t.calling t.extended t.said =
+    ap (λ (b : Bool). told_frames b k.extended t.said) calling ∙ ap (λ (b : Bool). told_frames t.calling b t.said) extended in
+    record {
+      stands = record { is = h.is; order = h.order; given = h.given; said = refl; deed = refl };
+      list = told_deed t.deed ++ told_frames t.calling t.extended t.said;
+      grew = frames k.calling k.extended t.said h.text
+          ∙ ap (λ (xs : List Told). xs ++ told_frames k.calling k.extended t.said) tells
+          ∙ append_assoc before (told_deed d) (told_frames k.calling k.extended t.said)
+          ∙ ap (λ (xs : List Told). before ++ (xs ++ told_frames k.calling k.extended t.said)) deed
+          ∙ ap (λ (xs : List Told). before ++ (told_deed t.deed ++ xs)) sent;
+      told = call_told t;
+    }
+
+-- a call at a moment
+pub stands_at : (call : ℕ → Station → Station) (k : Kept) (room : Stored) (d : Deed) (s : Station) (a b : ℕ) → a ≡ b
+    → Stands k [] room d (call a s) → Stands k [] room d (call b s)
+stands_at call k room d s a b same h = subst (λ (n : ℕ). Stands k [] room d (call n s)) same h
+
+-- what is kept of a side of a model, as the code has it inside
+pub begins_inside : (inside k : Kept) (s : Station) (room : Stored) → inside ≡ k → StandsQuiet k s → room.items ≡ [] → Stands inside [] room no_deed s
+begins_inside inside k s room is h empty = subst (λ (x : Kept). Stands x [] room no_deed s) (sym is) (call_begins k s room h empty)
+
+-- nothing was told
+pub nothing_told : (before : List Told) → before ≡ before ++ told_deed no_deed
+nothing_told before = sym (append-nil before)
+
+-- ---- the user releases
+
+pub quit_stands : (k : Kept) (room : Stored) (sub : ℕ) (s : Station) → Stands k [] room no_deed (closes s)
+    → Stands k [] room (record { up = false; payload = None; released = Some (release_of (User sub)) }) (quits sub s)
+quit_stands k room sub s h = record { is = h.is; order = h.order; given = h.given; deed = refl; text = h.text }
+
+-- ---- the user sends
+
+sends_if : (s : Station) (payload : List ℕ) → nat_le 1 (length payload) ≡ true → nat_le (length payload) 1026 ≡ true
+    → refusal_of s payload None ≡ (if nat_lt (waiting s) 16 then None else Some (RefusedFull (waiting s)))
+sends_if s payload some few = rw (some, few) refl
+
+pub none_refused : (s : Station) (payload : List ℕ) → 1 ≤ length payload → length payload ≤ 1026 → waiting s < 16 → refusal_of s payload None ≡ None
+none_refused s payload some few less =
+    sends_if s payload (le-leb 1 (length payload) some) (le-leb (length payload) 1026 few)
+    ∙ ap (λ (b : Bool). if b then None else Some (RefusedFull (waiting s))) (lt-ltb (waiting s) 16 less)
+
+pub full_refused : (s : Station) (payload : List ℕ) (n : ℕ) → 1 ≤ length payload → length payload ≤ 1026 → waiting s ≡ 16 → n ≡ 16
+    → refusal_of s payload None ≡ Some (RefusedFull n)
+full_refused s payload n some few many is =
+    sends_if s payload (le-leb 1 (length payload) some) (le-leb (length payload) 1026 few)
+    ∙ ap (λ (m : ℕ). if nat_lt m 16 then None else Some (RefusedFull m)) many
+    ∙ ap (λ (m : ℕ). Some (RefusedFull m)) (sym is)
+
+pub hand_did : (k : Kept) (s : Station) (payload : List ℕ) (now : ℕ) (before after : List Told) → refusal_of s payload None ≡ None
+    → CallDid k before after (called (finishes (hands now payload s))) → CallDid k before after (handed_unless (refusal_of s payload None) now payload s)
+hand_did k s payload now before after none d =
+    subst (λ o. CallDid k before after (handed_unless o now payload s)) (sym none)
+    (record { stands = d.stands; list = d.list; grew = d.grew; told = d.told })
+
+pub full_did : (old k : Kept) (s : Station) (payload : List ℕ) (now n : ℕ) (before after : List Told) → refusal_of s payload None ≡ Some (RefusedFull n)
+    → StandsQuiet old s → k ≡ old → after ≡ before ++ told.Refused (refusal.Full n) ∷ []
+    → CallDid k before after (handed_unless (refusal_of s payload None) now payload s)
+full_did old k s payload now n before after some h same grew =
+    subst (λ o. CallDid k before after (handed_unless o now payload s)) (sym some)
+    (record {
+      stands = subst (λ (x : Kept). StandsQuiet x s) (sym same) h;
+      list = told.Refused (refusal.Full n) ∷ [];
+      grew = grew;
+      told = (record { refused = refusal.Full n; told_is = refl; is = refl }, tt);
+    })

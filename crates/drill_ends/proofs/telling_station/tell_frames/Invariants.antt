@@ -1,0 +1,13 @@
+use Rattle.std.proofs.Common.{◌≡◌, Bool, List, length}
+use Rattle.station_model.specs.Frames.{Frame}
+use Rattle.hdlc_balanced.specs.Kept.{texts}
+use Rattle.drill_ends.specs.StationEnds.{TellingFrames}
+use Rattle.drill_ends.proofs.telling_station.tell_frames.Given as goal
+
+abbrev pub invariant-loop-length : goal.invariant-loop-length
+invariant-loop-length l =
+    (calling extended : Bool) (frames : List Frame) → l.written ≡ texts calling extended frames
+    → TellingFrames calling extended frames l.rest l.fn.told.items l.told.items
+
+abbrev pub decreases-loop-length : goal.decreases-loop-length
+decreases-loop-length l = length l.rest

@@ -1,0 +1,11 @@
+pub mod Keys
+pub mod Refusals
+pub mod Events
+pub mod Tellings
+pub mod KeptStations
+pub mod KeptStacks
+pub mod KeptEnds
+pub mod SafeEnds
+pub mod StationEnds
+pub mod StackEnds
+pub mod SendCounts

@@ -1,0 +1,10 @@
+-- Representation: why the code refuses a send, as the model has it; no claim rests on it.
+use Rattle.drill_model.specs.Outcomes.{SendRefusal, RefusedReleased, RefusedNotConnected, RefusedLength, RefusedFull}
+use Rattle.drill_ends.specs.declared.refusal.Refusal.{Refusal}
+use Rattle.drill_ends.specs.declared.refusal.Refusal.TheVariants as refusal
+
+abbrev pub shown_refusal : Refusal → SendRefusal
+shown_refusal (refusal.Released release) = RefusedReleased release
+shown_refusal refusal.NotConnected = RefusedNotConnected
+shown_refusal (refusal.Length found) = RefusedLength found
+shown_refusal (refusal.Full waiting) = RefusedFull waiting

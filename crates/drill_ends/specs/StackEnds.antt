@@ -1,0 +1,115 @@
+-- Representation: what an end of level full of the code tells of an event; no claim rests on it.
+use Rattle.std.specs.Prelude.{ℕ, ◌≡◌, ◌≤◌, Bool, List, [], ◌∷◌, ◌++◌, Option, Some, None}
+use Rattle.des_block.specs.declared.triple_key.TripleKey.{TripleKey}
+use Rattle.safety_automaton.specs.Keys.{Entry, key_at}
+use Rattle.safety_automaton.specs.Safety.{session_in}
+use Rattle.station_model.specs.Frames.{Frame}
+use Rattle.hdlc_balanced.specs.Kept.{texts}
+use Rattle.end_model.specs.Layers.{model}
+use Rattle.end_model.specs.Steps.{begins, begins_at}
+use Rattle.end_model.specs.Ends.{End as Stack, news, hears_each}
+use Rattle.drill_model.specs.Outcomes.{Outcome}
+use Rattle.drill_model.specs.StackEnds.{stack_told, stack_begins, stack_hears, stack_sends, stack_takes, stack_releases, stack_ticks}
+use Rattle.drill_model.specs.StackReports.{IsOrderly}
+use Rattle.drill_model.specs.Ends.{EndEvent, stack_end_step}
+use Rattle.drill_model.specs.Ends as event
+use Rattle.er_end.specs.KeptLayers.{KCore, kept}
+use Rattle.er_end.specs.KeptEnds.{KEnd}
+use Rattle.er_end.specs.Standing.{EndStands}
+use Rattle.drill_ends.specs.declared.told.Told.{Told}
+use Rattle.drill_ends.specs.declared.told.Told.TheVariants as told
+use Rattle.drill_ends.specs.declared.safe_end.Checked.{Checked}
+use Rattle.drill_ends.specs.declared.stack_call.Call.{Call}
+use Rattle.drill_ends.specs.declared.drill_end.DrillEnd.TheVariants as code
+use Rattle.drill_ends.specs.Tellings.{AreTold}
+use Rattle.drill_ends.specs.SafeEnds.{checked_text, told_sealed}
+use Rattle.drill_ends.specs.StationEnds.{told_released, told_frames}
+use Rattle.drill_ends.specs.KeptStacks.{StandsStack}
+use Rattle.drill_ends.specs.KeptEnds.{EndWent}
+
+-- ---- a call
+
+-- what is kept of a call is what it shows
+pub record IsCall (call : Call) (x : KCore) : Type 0 where
+  pub connected : call.connected ≡ x.connected
+  pub accepted : call.accepted ≡ kept.news x.upper
+  pub released : call.released ≡ x.leaves
+  pub out : call.out ≡ x.line.out
+
+-- what is told of a text that verified
+abbrev pub told_checked : Option ℕ → Option (List ℕ) → Option Checked → List Told
+told_checked connected accepted None = []
+told_checked (Some peer) accepted (Some c) = told.Connected peer c.key c.text ∷ []
+told_checked None (Some user) (Some c) = told.Accepted user c.key c.text ∷ []
+told_checked None None (Some c) = told.Verified c.key c.text ∷ []
+
+-- what is told of a call at a stack of which this is kept
+abbrev pub told_safety : KEnd → Call → List Told
+told_safety k call =
+    told_checked call.connected call.accepted (checked_text k.core.safe.verified (session_in k.core.safe.safety.phase))
+    ++ told_sealed k.core.safe.sealed (session_in k.core.safe.safety.phase)
+
+abbrev pub TellsCall : KEnd → Call → List Told → List Told → Type 0
+TellsCall k call before now =
+    (calling extended : Bool) (frames : List Frame) → call.out ≡ texts calling extended frames
+    → now ≡ before ++ (told_safety k call ++ (told_released call.released ++ told_frames calling extended frames))
+
+-- ---- an event
+
+-- a stack went on so, and told its outcomes
+pub record StackDid (new : KEnd) (before now : List Told) (a : Stack × List Outcome) : Type 0 where
+  pub stands : StandsStack new a.0
+  pub list : List Told
+  pub grew : now ≡ before ++ list
+  pub told : AreTold a.1 list
+
+-- wherever the stack stands
+abbrev pub StackDoes : KEnd → KEnd → List Told → List Told → (Stack → Stack × List Outcome) → Type 0
+StackDoes old new before now moves = (m : Stack) → StandsStack old m → StackDid new before now (moves m)
+
+-- ---- octets
+
+-- some octets were given to a stack at this moment, which closed what frames they may: where it stands, and what was told
+pub record StackHeard (key_of : ℕ → ℕ → Option TripleKey) (moment : ℕ) (m : Stack) (given : List ℕ) (k : KEnd) (before now : List Told)
+    : Type 0 where
+  pub at : Stack
+  pub stands : EndStands k at
+  pub stream : at.stream ≡ m.stream ++ given
+  -- the same core but for what was told
+  pub same : begins model at.core ≡ begins model (hears_each (λ n. key_of) moment (news m.stream given) (begins_at model moment m.core))
+  pub orderly : IsOrderly at.core
+  pub moment_is : at.core.moment ≤ 1000000000000000
+  pub list : List Told
+  pub grew : now ≡ before ++ list
+  pub told : AreTold (stack_told (λ n. key_of) moment (news m.stream given) (begins_at model moment m.core)) list
+
+-- a call that reads octets: the first of an event, and those behind others
+abbrev pub StackReads : List Entry → (moment : ℕ) → KEnd → List ℕ → KEnd → List Told → List Told → Type 0
+StackReads keys moment old octets new between now =
+    ((m : Stack) → StandsStack old m → StackHeard (key_at keys moment) moment m octets new between now)
+    × ((m : Stack) (given : List ℕ) (before : List Told) → StackHeard (key_at keys moment) moment m given old before between
+    → StackHeard (key_at keys moment) moment m (given ++ octets) new before now)
+
+abbrev pub StackHears : List Entry → (moment : ℕ) → KEnd → List ℕ → KEnd → List Told → List Told → Type 0
+StackHears keys moment old octets new before now = StackDoes old new before now (stack_hears (λ n. key_at keys moment) moment octets)
+
+-- in the midst of it: some octets were given, and with what is left they are all
+pub record StackReading (keys : List Entry) (moment : ℕ) (m : Stack) (octets rest : List ℕ) (k : KEnd) (before now : List Told) : Type 0 where
+  pub given : List ℕ
+  pub whole : given ++ rest ≡ octets
+  pub heard : StackHeard (key_at keys moment) moment m given k before now
+
+-- ---- any event
+
+-- what an event does to a stack
+abbrev pub stack_moves : List Entry → (moment : ℕ) → EndEvent → Stack → Stack × List Outcome
+stack_moves keys moment event.Start m = stack_begins moment m
+stack_moves keys moment (event.Receive octets) m = stack_hears (λ n. key_at keys moment) moment octets m
+stack_moves keys moment (event.Send user) m = stack_sends moment user m
+stack_moves keys moment event.Take m = stack_takes moment m
+stack_moves keys moment (event.Release sub) m = stack_releases moment sub m
+stack_moves keys moment event.Tick m = stack_ticks moment m
+
+abbrev pub StackAnswers : List Entry → (moment : ℕ) → KEnd → EndEvent → KEnd → List Told → Type 0
+StackAnswers keys moment old event new list =
+    (m : Stack) → StandsStack old m → EndWent (code.Stack new) list (stack_end_step (key_at keys moment) moment m event)

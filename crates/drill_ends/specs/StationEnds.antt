@@ -1,0 +1,99 @@
+-- Representation: what an end of level link of the code tells of an event; no claim rests on it.
+use Rattle.std.specs.Prelude.{ℕ, ◌≡◌, Bool, true, false, List, [], ◌∷◌, ◌++◌, map, Option, Some, None}
+use Rattle.er_base.specs.declared.release.Release.{Release}
+use Rattle.station_model.specs.Frames.{Frame, sent_octets}
+use Rattle.station_model.specs.Stations.{Station, Deed}
+use Rattle.station_pair.specs.Links.{news}
+use Rattle.drill_model.specs.Outcomes.{Outcome}
+use Rattle.drill_model.specs.Ends.{End, OfStation}
+use Rattle.drill_model.specs.StationEnds.{called, frames_heard}
+use Rattle.hdlc_balanced.specs.Kept.{Kept, texts}
+use Rattle.drill_ends.specs.declared.told.Told.{Told}
+use Rattle.drill_ends.specs.declared.told.Told.TheVariants as told
+use Rattle.drill_ends.specs.Tellings.{AreTold}
+use Rattle.drill_ends.specs.declared.station_end.StationEnd.{StationEnd}
+use Rattle.drill_ends.specs.KeptStations.{StandsQuiet, StandsStation}
+
+-- what is told of a call
+abbrev pub told_up : Bool → List Told
+told_up true = told.Up ∷ []
+told_up false = []
+
+abbrev pub told_arrived : Option (List ℕ) → List Told
+told_arrived None = []
+told_arrived (Some payload) = told.Arrived payload ∷ []
+
+abbrev pub told_released : Option Release → List Told
+told_released None = []
+told_released (Some release) = told.Released release ∷ []
+
+abbrev pub told_deed : Deed → List Told
+told_deed d = (told_up d.up ++ told_arrived d.payload) ++ told_released d.released
+
+-- frames that were written are told one by one
+abbrev pub told_frames : (calling extended : Bool) → List Frame → List Told
+told_frames calling extended frames = map (λ f. told.Frame (sent_octets calling extended f)) frames
+
+abbrev pub TellsFrames : List ℕ → List Told → List Told → Type 0
+TellsFrames written before now =
+    (calling extended : Bool) (frames : List Frame) → written ≡ texts calling extended frames → now ≡ before ++ told_frames calling extended frames
+
+-- in the midst of it: what is left leads from here to where all lead from the beginning
+pub record TellingFrames (calling extended : Bool) (frames : List Frame) (rest : List ℕ) (before now : List Told) : Type 0 where
+  pub left : List Frame
+  pub is : rest ≡ texts calling extended left
+  pub leads : now ++ told_frames calling extended left ≡ before ++ told_frames calling extended frames
+
+-- a call was made, what it told and the frames that it sent were told
+pub record CallDid (new : Kept) (before now : List Told) (a : Station × List Outcome) : Type 0 where
+  pub stands : StandsQuiet new a.0
+  pub list : List Told
+  pub grew : now ≡ before ++ list
+  pub told : AreTold a.1 list
+
+-- wherever the station stands
+abbrev pub CallDoes : Kept → Kept → List Told → List Told → (Station → Station × List Outcome) → Type 0
+CallDoes old new before now moves = (s : Station) → StandsQuiet old s → CallDid new before now (moves s)
+
+-- the same of a call that may tell a release
+abbrev pub CallTells : Kept → Kept → List Told → List Told → Option Release → (Station → Station) → Type 0
+CallTells old new before now released call =
+    (s : Station) → StandsQuiet old s → CallDid new before now (called (call s)) × (released ≡ (call s).deed.released)
+
+-- a station went on so, was given this stream, and told its outcomes
+pub record StationDid (new : StationEnd) (stream : List ℕ) (before now : List Told) (a : Station × List Outcome) : Type 0 where
+  pub stands : StandsStation new a.0 stream
+  pub list : List Told
+  pub grew : now ≡ before ++ list
+  pub told : AreTold a.1 list
+
+-- an event that gives no octets, wherever the station stands
+abbrev pub StationDoes : StationEnd → StationEnd → List Told → List Told → (Station → Station × List Outcome) → Type 0
+StationDoes old new before now moves =
+    (s : Station) (stream : List ℕ) → StandsStation old s stream → StationDid new stream before now (moves s)
+
+-- octets were given
+abbrev pub StationReads : (moment : ℕ) → StationEnd → List ℕ → StationEnd → List Told → List Told → Type 0
+StationReads moment old octets new before now =
+    (s : Station) (stream : List ℕ) → StandsStation old s stream
+    → StationDid new (stream ++ octets) before now (frames_heard moment (news stream octets) s)
+
+-- in the midst of it: some octets were given, and with what is left it is all
+pub record Reading (moment : ℕ) (s : Station) (stream octets rest : List ℕ) (kept : StationEnd) (before now : List Told) : Type 0 where
+  pub at : Station
+  pub given : List ℕ
+  pub came : List Outcome
+  pub whole : given ++ rest ≡ stream ++ octets
+  pub leads : frames_heard moment (news stream octets) s
+      ≡ ((frames_heard moment (news given rest) at).0, came ++ (frames_heard moment (news given rest) at).1)
+  pub did : StationDid kept given before now (at, came)
+
+-- an end of level link went on so, and told its outcomes
+pub record StationWent (new : StationEnd) (before now : List Told) (a : End × List Outcome) : Type 0 where
+  pub at : Station
+  pub given : List ℕ
+  pub is : a.0 ≡ OfStation at given
+  pub stands : StandsStation new at given
+  pub list : List Told
+  pub grew : now ≡ before ++ list
+  pub told : AreTold a.1 list

@@ -1,0 +1,58 @@
+ghost use Rattle.std.specs.Prelude.{◌≡◌};
+ghost use Rattle.drill_ends.specs.Keys.{entries_of, IsSteady};
+
+use des_block::TripleKey;
+use safety_automaton::KeyFinder;
+use std::marker::Model;
+
+/// The one key that the ends of a link can find, at every moment: the KMAC of an engine and a radio block centre, if the latter has
+/// one. In contracts it is the list of the keys.
+#[derive(Drop)]
+pub struct OneKey {
+    engine: u32,
+    rbc: u32,
+    kmac: Option<TripleKey>,
+}
+
+impl Model for OneKey {
+    ghost use Rattle.std.specs.Prelude.{List};
+    ghost use Rattle.safety_automaton.specs.Keys.{Entry};
+    ghost use Rattle.drill_ends.specs.Keys.{entries_of};
+
+    ghost Value = { List Entry };
+
+    ghost view = { λ k. entries_of k.engine k.rbc k.kmac };
+}
+
+impl OneKey {
+    /// The KMAC of an engine and a radio block centre, by their ETCS numbers, if there is one.
+    pub fn new(engine: u32, rbc: u32, kmac: Option<TripleKey>) -> OneKey
+        ensures { result ≡ entries_of engine rbc kmac }
+    {
+        OneKey { engine, rbc, kmac }
+    }
+
+    /// The key is found alike at any two moments.
+    pub fn is_steady(&self)
+        ensures { IsSteady self.now }
+    {
+        let _kmac = self.kmac;
+    }
+}
+
+impl KeyFinder for OneKey {
+    ghost entries = { λ k. k };
+
+    fn find(&self, engine: u32, rbc: u32, now: u64) -> Option<TripleKey> {
+        match self.kmac {
+            Some(kmac) => {
+                if self.engine == engine && self.rbc == rbc {
+                    Some(kmac)
+                } else {
+                    None
+                }
+            }
+            None => None,
+        }
+    }
+}

@@ -1,0 +1,25 @@
+//! The ends of the links of a drill, one kind a level, and what each tells of an event.
+#![tactic(auto)]
+
+mod drill_end;
+mod end_event;
+mod finder;
+pub mod laws;
+mod moment;
+mod refusal;
+mod safe_end;
+mod send_counts;
+mod stack_call;
+mod stack_end;
+mod station_end;
+mod telling_station;
+mod told;
+
+pub use drill_end::DrillEnd;
+pub use end_event::EndEvent;
+pub use finder::OneKey;
+pub use moment::Moment;
+pub use refusal::Refusal;
+pub use send_counts::sent_at;
+pub use station_end::StationEnd;
+pub use told::Told;

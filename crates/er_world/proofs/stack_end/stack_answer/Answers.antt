@@ -1,5 +1,0 @@
-use Rattle.er_world.proofs.StackCalls.{answers_so}
-use Rattle.er_world.proofs.stack_end.stack_answer.Goals as goal
-
-pub returns : goal.returns
-returns c = answers_so _ _ _ _ _ c.tell_event.new.told.items _ c.new-told.ensures.items c.in_ok-tell_event.ensures
