@@ -20,3 +20,4 @@ pub mod BulkMeanings
 pub mod LineEndings
 pub mod LineMeanings
 pub mod LineDispatch
+pub mod Recordings

@@ -17,3 +17,4 @@ pub mod LineCommands
 pub mod LineCommandViews
 pub mod LineRuns
 pub mod LineWriting
+pub mod Recordings

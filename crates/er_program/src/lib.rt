@@ -14,6 +14,7 @@ mod file_cabinet;
 mod halt;
 mod key_lines;
 mod last_lines;
+pub mod laws;
 mod line_command;
 mod machine_clock;
 mod migrate;
