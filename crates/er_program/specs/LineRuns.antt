@@ -61,7 +61,7 @@ pub record IsKeyed (entries : List Entry) (engine rbc : ℕ) (before : Outside) 
   pub asked : Grew before.clock clock (moment ∷ [])
   pub kmac : TripleKey
   pub holds : key_at entries moment engine rbc ≡ Some kmac
-  pub loop : Loop kmac (outside before.seen clock)
+  pub loop : Loop kmac (outside before.seen before.listening clock)
 
 -- the loop answered that it served: so many turns, and why it stopped
 pub record Stopped (HasLooped : ℕ → Stop → Type 0) : Type 0 where
@@ -94,7 +94,7 @@ LoopBreaks (Call keys address engine rbc turns) entries g before now =
 
 -- the same, but of the sink as it was then: with these octets and faults
 abbrev pub with_sink : Outside → Option (List ℕ) → ℕ → Outside
-with_sink now held sunk = outside (seen held sunk now.seen.calls now.seen.failed) now.clock
+with_sink now held sunk = outside (seen held sunk now.seen.calls now.seen.failed) now.listening now.clock
 
 -- the wires failed, and then a part of the last line was written
 pub record FailsWith (command : LineCommand) (entries : List Entry) (g : Given) (before now : Outside) (Last : Option (List ℕ) → Option (List ℕ) → Type 0) : Type 0 where

@@ -38,8 +38,8 @@ fn serve_with<K: Sink, W: Wires, C: Clock, R: Rng>(
     ensures ends { (keys : List ℕ) → LoopEnds (Serve keys address.now rbc turns) store.now
         (given (length users.items) (map mind users.items) (R.stream randoms.old))
         (W.turn_faults wires.old) (W.turn_faults wires.new)
-        (outside (seen (K.held sink.old) (K.faults sink.old) (W.calls wires.old) (W.faults wires.old)) (C.answers clock.old))
-        (outside (seen (K.held sink.new) (K.faults sink.new) (W.calls wires.new) (W.faults wires.new)) (C.answers clock.new)) result }
+        (outside (seen (K.held sink.old) (K.faults sink.old) (W.calls wires.old) (W.faults wires.old)) (W.listening wires.old) (C.answers clock.old))
+        (outside (seen (K.held sink.new) (K.faults sink.new) (W.calls wires.new) (W.faults wires.new)) (W.listening wires.new) (C.answers clock.new)) result }
     ensures sink_count { K.faults sink.old ≤ K.faults sink.new }
 {
     let plan = LinePlan {
@@ -73,8 +73,8 @@ fn serve_file<K: Sink, W: Wires, C: Clock, R: Rng>(
     ensures ends { (keys : List ℕ) → FileEnds (Serve keys address.now rbc turns) (keys_of octets.now)
         (given (length users.items) (map mind users.items) (R.stream randoms.old))
         (W.turn_faults wires.old) (W.turn_faults wires.new)
-        (outside (seen (K.held sink.old) (K.faults sink.old) (W.calls wires.old) (W.faults wires.old)) (C.answers clock.old))
-        (outside (seen (K.held sink.new) (K.faults sink.new) (W.calls wires.new) (W.faults wires.new)) (C.answers clock.new)) result }
+        (outside (seen (K.held sink.old) (K.faults sink.old) (W.calls wires.old) (W.faults wires.old)) (W.listening wires.old) (C.answers clock.old))
+        (outside (seen (K.held sink.new) (K.faults sink.new) (W.calls wires.new) (W.faults wires.new)) (W.listening wires.new) (C.answers clock.new)) result }
     ensures sink_count { K.faults sink.old ≤ K.faults sink.new }
 {
     match KeyStore::from_bytes(alloc, octets) {
@@ -104,8 +104,8 @@ pub fn serve_run<F: Cabinet, K: Sink, W: Wires, C: Clock, R: Rng>(
         (F.faults cabinet.new)
         (given (length users.items) (map mind users.items) (R.stream randoms.old))
         (W.turn_faults wires.old) (W.turn_faults wires.new)
-        (outside (seen (K.held sink.old) (K.faults sink.old) (W.calls wires.old) (W.faults wires.old)) (C.answers clock.old))
-        (outside (seen (K.held sink.new) (K.faults sink.new) (W.calls wires.new) (W.faults wires.new)) (C.answers clock.new)) result }
+        (outside (seen (K.held sink.old) (K.faults sink.old) (W.calls wires.old) (W.faults wires.old)) (W.listening wires.old) (C.answers clock.old))
+        (outside (seen (K.held sink.new) (K.faults sink.new) (W.calls wires.new) (W.faults wires.new)) (W.listening wires.new) (C.answers clock.new)) result }
     ensures asked { IfOk result (λ _. Grew (F.asked cabinet.old) (F.asked cabinet.new) (keys.now ∷ [])) }
     ensures part { GrewPart (F.asked cabinet.old) (F.asked cabinet.new) (keys.now ∷ []) }
     ensures files { Kept (F.files cabinet.old) (F.files cabinet.new) }

@@ -140,8 +140,8 @@ fn line_answered<F: Cabinet, K: Sink, W: Wires, C: Clock, R: Rng>(
     ensures ends { LineEnds (line_view command.now) (F.files cabinet.new) (F.faults cabinet.old) (F.faults cabinet.new)
         (given (length users.items) (map mind users.items) (R.stream randoms.old))
         (W.turn_faults wires.old) (W.turn_faults wires.new)
-        (outside (seen (K.held sink.old) (K.faults sink.old) (W.calls wires.old) (W.faults wires.old)) (C.answers clock.old))
-        (outside (seen (K.held sink.new) (K.faults sink.new) (W.calls wires.new) (W.faults wires.new)) (C.answers clock.new)) result }
+        (outside (seen (K.held sink.old) (K.faults sink.old) (W.calls wires.old) (W.faults wires.old)) (W.listening wires.old) (C.answers clock.old))
+        (outside (seen (K.held sink.new) (K.faults sink.new) (W.calls wires.new) (W.faults wires.new)) (W.listening wires.new) (C.answers clock.new)) result }
     ensures asked { IfOk result (λ _. Grew (F.asked cabinet.old) (F.asked cabinet.new) (key_file_of (line_view command.now) ∷ [])) }
     ensures part { GrewPart (F.asked cabinet.old) (F.asked cabinet.new) (key_file_of (line_view command.now) ∷ []) }
     ensures files { Kept (F.files cabinet.old) (F.files cabinet.new) }
@@ -183,8 +183,8 @@ fn line_ran<F: Cabinet, K: Sink, W: Wires, C: Clock, R: Rng>(
     ensures means { LineMeans (line_view command.now) (F.files cabinet.new) (F.faults cabinet.old) (F.faults cabinet.new)
         (W.turn_faults wires.old) (W.turn_faults wires.new)
         (given (length users.items) (map mind users.items) (R.stream randoms.old))
-        (outside (seen (K.held sink.old) (K.faults sink.old) (W.calls wires.old) (W.faults wires.old)) (C.answers clock.old))
-        (outside (seen (K.held sink.new) (K.faults sink.new) (W.calls wires.new) (W.faults wires.new)) (C.answers clock.new)) result.0 }
+        (outside (seen (K.held sink.old) (K.faults sink.old) (W.calls wires.old) (W.faults wires.old)) (W.listening wires.old) (C.answers clock.old))
+        (outside (seen (K.held sink.new) (K.faults sink.new) (W.calls wires.new) (W.faults wires.new)) (W.listening wires.new) (C.answers clock.new)) result.0 }
     ensures asked { result.0 ≢ 5 → result.0 ≢ 7
         → Grew (F.asked cabinet.old) (F.asked cabinet.new) (key_file_of (line_view command.now) ∷ []) }
     ensures part { GrewPart (F.asked cabinet.old) (F.asked cabinet.new) (key_file_of (line_view command.now) ∷ []) }
@@ -223,8 +223,8 @@ fn dispatched<F: Cabinet, K: Sink, W: Wires, C: Clock, R: Rng>(
         → LineMeans c (F.files cabinet.new) (F.faults cabinet.old) (F.faults cabinet.new)
         (W.turn_faults wires.old) (W.turn_faults wires.new)
         (given (length users.items) (map mind users.items) (R.stream randoms.old))
-        (outside (seen (K.held sink.old) (K.faults sink.old) (W.calls wires.old) (W.faults wires.old)) (C.answers clock.old))
-        (outside (seen (K.held sink.new) (K.faults sink.new) (W.calls wires.new) (W.faults wires.new)) (C.answers clock.new)) result.0 }
+        (outside (seen (K.held sink.old) (K.faults sink.old) (W.calls wires.old) (W.faults wires.old)) (W.listening wires.old) (C.answers clock.old))
+        (outside (seen (K.held sink.new) (K.faults sink.new) (W.calls wires.new) (W.faults wires.new)) (W.listening wires.new) (C.answers clock.new)) result.0 }
     ensures line_asked { (c : AnyLineCommand) → line_command_of (texts words.now) ≡ Some c → result.0 ≢ 5 → result.0 ≢ 7
         → Grew (F.asked cabinet.old) (F.asked cabinet.new) (key_file_of c ∷ []) }
     ensures line_part { (c : AnyLineCommand) → line_command_of (texts words.now) ≡ Some c
@@ -320,38 +320,38 @@ pub fn run<F: Cabinet, K: Sink, W: Wires, C: Clock, R: Rng>(
     ensures line_served { (c : AnyLineCommand) → line_command_of (texts words.now) ≡ Some c → result.0 ≡ 0
         → IsServed c (F.files cabinet.new)
         (given (length users.items) (map mind users.items) (R.stream randoms.old))
-        (outside (seen (K.held sink.old) (K.faults sink.old) (W.calls wires.old) (W.faults wires.old)) (C.answers clock.old))
-        (outside (seen (K.held sink.new) (K.faults sink.new) (W.calls wires.new) (W.faults wires.new)) (C.answers clock.new)) }
+        (outside (seen (K.held sink.old) (K.faults sink.old) (W.calls wires.old) (W.faults wires.old)) (W.listening wires.old) (C.answers clock.old))
+        (outside (seen (K.held sink.new) (K.faults sink.new) (W.calls wires.new) (W.faults wires.new)) (W.listening wires.new) (C.answers clock.new)) }
     ensures line_fetch { (c : AnyLineCommand) → line_command_of (texts words.now) ≡ Some c → result.0 ≡ 2
         → IsKeyFileUnfetched c (F.faults cabinet.old) (F.faults cabinet.new)
-        (outside (seen (K.held sink.old) (K.faults sink.old) (W.calls wires.old) (W.faults wires.old)) (C.answers clock.old))
-        (outside (seen (K.held sink.new) (K.faults sink.new) (W.calls wires.new) (W.faults wires.new)) (C.answers clock.new)) }
+        (outside (seen (K.held sink.old) (K.faults sink.old) (W.calls wires.old) (W.faults wires.old)) (W.listening wires.old) (C.answers clock.old))
+        (outside (seen (K.held sink.new) (K.faults sink.new) (W.calls wires.new) (W.faults wires.new)) (W.listening wires.new) (C.answers clock.new)) }
     ensures line_keys { (c : AnyLineCommand) → line_command_of (texts words.now) ≡ Some c → result.0 ≡ 4
         → IsLineKeyless c (F.files cabinet.new)
-        (outside (seen (K.held sink.old) (K.faults sink.old) (W.calls wires.old) (W.faults wires.old)) (C.answers clock.old))
-        (outside (seen (K.held sink.new) (K.faults sink.new) (W.calls wires.new) (W.faults wires.new)) (C.answers clock.new)) }
+        (outside (seen (K.held sink.old) (K.faults sink.old) (W.calls wires.old) (W.faults wires.old)) (W.listening wires.old) (C.answers clock.old))
+        (outside (seen (K.held sink.new) (K.faults sink.new) (W.calls wires.new) (W.faults wires.new)) (W.listening wires.new) (C.answers clock.new)) }
     ensures line_sink { (c : AnyLineCommand) → line_command_of (texts words.now) ≡ Some c → result.0 ≡ 5
         → IsLineSinkFailed c (F.files cabinet.new) (F.faults cabinet.old) (F.faults cabinet.new)
         (given (length users.items) (map mind users.items) (R.stream randoms.old))
-        (outside (seen (K.held sink.old) (K.faults sink.old) (W.calls wires.old) (W.faults wires.old)) (C.answers clock.old))
-        (outside (seen (K.held sink.new) (K.faults sink.new) (W.calls wires.new) (W.faults wires.new)) (C.answers clock.new)) }
+        (outside (seen (K.held sink.old) (K.faults sink.old) (W.calls wires.old) (W.faults wires.old)) (W.listening wires.old) (C.answers clock.old))
+        (outside (seen (K.held sink.new) (K.faults sink.new) (W.calls wires.new) (W.faults wires.new)) (W.listening wires.new) (C.answers clock.new)) }
     ensures line_wires { (c : AnyLineCommand) → line_command_of (texts words.now) ≡ Some c → result.0 ≡ 6
         → IsWiresFailed c (F.files cabinet.new)
         (given (length users.items) (map mind users.items) (R.stream randoms.old))
         (W.turn_faults wires.old) (W.turn_faults wires.new)
-        (outside (seen (K.held sink.old) (K.faults sink.old) (W.calls wires.old) (W.faults wires.old)) (C.answers clock.old))
-        (outside (seen (K.held sink.new) (K.faults sink.new) (W.calls wires.new) (W.faults wires.new)) (C.answers clock.new)) }
+        (outside (seen (K.held sink.old) (K.faults sink.old) (W.calls wires.old) (W.faults wires.old)) (W.listening wires.old) (C.answers clock.old))
+        (outside (seen (K.held sink.new) (K.faults sink.new) (W.calls wires.new) (W.faults wires.new)) (W.listening wires.new) (C.answers clock.new)) }
     ensures line_memory { (c : AnyLineCommand) → line_command_of (texts words.now) ≡ Some c → result.0 ≡ 7
         → IsMemoryTold c (F.files cabinet.new)
         (given (length users.items) (map mind users.items) (R.stream randoms.old))
-        (outside (seen (K.held sink.old) (K.faults sink.old) (W.calls wires.old) (W.faults wires.old)) (C.answers clock.old))
-        (outside (seen (K.held sink.new) (K.faults sink.new) (W.calls wires.new) (W.faults wires.new)) (C.answers clock.new))
+        (outside (seen (K.held sink.old) (K.faults sink.old) (W.calls wires.old) (W.faults wires.old)) (W.listening wires.old) (C.answers clock.old))
+        (outside (seen (K.held sink.new) (K.faults sink.new) (W.calls wires.new) (W.faults wires.new)) (W.listening wires.new) (C.answers clock.new))
         (λ held held_now. Grew held held_now memory_line) }
     ensures line_complete { (c : AnyLineCommand) → line_command_of (texts words.now) ≡ Some c
         → IsLineComplete c (F.files cabinet.new) (F.faults cabinet.old) (F.faults cabinet.new)
         (W.turn_faults wires.old) (W.turn_faults wires.new)
-        (outside (seen (K.held sink.old) (K.faults sink.old) (W.calls wires.old) (W.faults wires.old)) (C.answers clock.old))
-        (outside (seen (K.held sink.new) (K.faults sink.new) (W.calls wires.new) (W.faults wires.new)) (C.answers clock.new)) result.0 }
+        (outside (seen (K.held sink.old) (K.faults sink.old) (W.calls wires.old) (W.faults wires.old)) (W.listening wires.old) (C.answers clock.old))
+        (outside (seen (K.held sink.new) (K.faults sink.new) (W.calls wires.new) (W.faults wires.new)) (W.listening wires.new) (C.answers clock.new)) result.0 }
 
     // The key file is asked for, once, and nothing else is.
     ensures line_asked { (c : AnyLineCommand) → line_command_of (texts words.now) ≡ Some c → result.0 ≢ 5 → result.0 ≢ 7

@@ -266,5 +266,5 @@ handled_done a b c i j k r m s t u new g p q parts = record {
       let o = dealt r m s g p.answers in
       let last : Printed b c j k u (takes_all r m o.0 q.answers) = subst (λ z. Printed b c j k u (takes_all r m z q.answers)) p.is.state q.is in
       let all = printed_then a b c i j k t u o (takes_all r m o.0 q.answers) p.is last in
-      record { state = parts ∙ ap (λ (z : Session). parted r m z) last.state; printed = all.printed; later = all.later };
+      record { state = parts ∙ ap (λ (z : Session). parted r m z) last.state; printed = all.printed; later = all.later; in_grammar = all.in_grammar };
 }

@@ -1,5 +1,6 @@
 pub mod Deals
 pub mod Givings
+pub mod Grammars
 pub mod Hearings
 pub mod Pourings
 pub mod Takings

@@ -115,6 +115,7 @@ pouring_more r m octets at used a b c i j k s t u p less whole q is =
           ∙ ap (λ (z : List ℕ). ((handled r m t (Hears rest) q.answers).0, z)) (ap (λ z. drop (at + z) octets) is ∙ sym (drop_more at (used_of t.end rest) octets));
       printed = q.is.printed;
       later = q.is.later;
+      in_grammar = q.is.in_grammar;
     }) in
     record {
       answers = p.answers ++ q.answers ∷ [];
@@ -159,7 +160,7 @@ pouring_done r m octets at a b i j s t p idle =
       answers = p.answers;
       is =
           subst (λ z. Printed a b i j t (z.0.0, z.1)) (sym is)
-          (record { state = ap (λ (z : Session × List ℕ). z.0) p.is.state; printed = p.is.printed; later = p.is.later });
+          (record { state = ap (λ (z : Session × List ℕ). z.0) p.is.state; printed = p.is.printed; later = p.is.later; in_grammar = p.is.in_grammar });
     }
 
 pub idle_broken : (rest : List ℕ) (t : Session) → t.broken ≡ true → ((length rest == 0) || t.broken) ≡ true

@@ -77,7 +77,7 @@ taken_text conn message out line =
     append_assoc line (outcomes_text conn (Taken message ∷ [])) (outcomes_text conn (if_octets out))
     ∙ ap (λ z. line ++ (z ++ outcomes_text conn (if_octets out))) (append-nil (line_text (outcome_words conn (told (Taken message)))))
 
-told_so : (now : ℕ) (k : KEnd) (message out : List ℕ) → message ≡ first_in (waiting_in k) → 0 < length (waiting_in k) → out ≡ (after_take now k).core.line.out
+pub told_so : (now : ℕ) (k : KEnd) (message out : List ℕ) → message ≡ first_in (waiting_in k) → 0 < length (waiting_in k) → out ≡ (after_take now k).core.line.out
     → Taken message ∷ if_octets out ≡ tells now end.Take k
 told_so now k message out is some o =
     ap (λ z. Taken z ∷ if_octets out) is ∙ ap (λ z. Taken (first_in (waiting_in k)) ∷ if_octets z) o ∙ sym (takes_some now k some)

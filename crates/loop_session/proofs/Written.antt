@@ -12,11 +12,12 @@ use Rattle.er_users.specs.Saying.{Spoken}
 use Rattle.er_users.specs.Users.{Mind, Heard}
 use Rattle.link_trait.specs.Outside.{Grew, GrewPart, Rose}
 use Rattle.link_trait.specs.Growth.{grew_nothing, grew_then, part_nothing, part_then, part_more}
+use Rattle.loop_model.specs.Grammar.{IsInGrammar, AreInGrammar}
 use Rattle.loop_model.specs.Journals.{Entry, entry_text, text}
 use Rattle.loop_model.specs.Sessions.{Rules, Session, Given, Stalls, event_of, written, breaks, end_after, outcomes_of, octets_in, heard_in, entry_of, stalled, joined, fed}
 use Rattle.loop_session.specs.declared.loop_fault.LoopFault.{LoopFault}
 use Rattle.loop_session.specs.declared.loop_fault.LoopFault.TheVariants.{Wires, Sink, NoMemory}
-use Rattle.loop_session.specs.Giving.{too_many, joined_to, octets_of, Gave, HeardSo, peer_heard}
+use Rattle.loop_session.specs.Giving.{happened, too_many, joined_to, octets_of, Gave, HeardSo, peer_heard}
 use Rattle.loop_session.specs.Parts.{FailedFor, Breaks, Puts, Printed, Prints, Chooses, with_mind}
 
 pub nothing_put : (a : Option (List ℕ)) (f : ℕ) (line : List ℕ) → (length line == 0) ≡ true → Grew a a line × (f ≤ f)
@@ -56,6 +57,10 @@ wanted a f new plain model (Err other) fault want p q = record { answers = plain
 pub text_parts : (xs ys : List Entry) → text (xs ++ ys) ≡ text xs ++ text ys
 text_parts [] ys = refl
 text_parts (x ∷ xs) ys = ap (λ z. entry_text x ++ z) (text_parts xs ys) ∙ sym (append_assoc (entry_text x) (text xs) (text ys))
+
+pub grammar_parts : (xs ys : List Entry) → AreInGrammar xs → AreInGrammar ys → AreInGrammar (xs ++ ys)
+grammar_parts [] ys p q = q
+grammar_parts (x ∷ xs) ys p q = (p.0, grammar_parts xs ys p.1 q)
 
 -- one event
 lines_are : (x : Entry) (line before : List ℕ) → before ≡ []
@@ -99,10 +104,11 @@ printed_then a b c f g h mid new x y p q = record {
   state = q.state;
   printed = subst (λ z. Grew a c z) (sym (text_parts x.1 y.1)) (grew_then a b c (text x.1) (text y.1) p.printed q.printed);
   later = (let u : f ≤ g = p.later in let v : g ≤ h = q.later in omega arith);
+  in_grammar = grammar_parts x.1 y.1 p.in_grammar q.in_grammar;
 }
 
 pub printed_nothing : {S : Type 0} (a : Option (List ℕ)) (f : ℕ) (s : S) → Printed a a f f s (s, [])
-printed_nothing a f s = record { state = refl; printed = grew_nothing a; later = omega arith }
+printed_nothing a f s = record { state = refl; printed = grew_nothing a; later = omega arith; in_grammar = tt }
 
 -- ---- an event given to an end
 
@@ -120,9 +126,10 @@ pub gave_of : (r : Rules) (m : ℕ) (s s0 : Session) (g : Given) (now : Session)
     → before ≡ []
     → line ≡ (before ++ line_text (entry_words m s0.number (written s0.end g))) ++ outcomes_text s0.number (tells m (event_of r g) s0.end)
     → (fits ≡ not (too_many s0.output (octets_in (tells m (event_of r g) s0.end)))) × (now.output ≡ joined_to s0.output (octets_in (tells m (event_of r g) s0.end)))
+    → IsInGrammar (happened m s0.number (written s0.end g) (tells m (event_of r g) s0.end))
     → Gave r m s g now line fits
 unfolding end_after outcomes_of
-gave_of r m s s0 g now line before fits same is broken e p q joins =
+gave_of r m s s0 g now line before fits same is broken e p q joins grammar =
     subst (λ (z : Session). Gave r m z g now line fits) (sym same)
     (record {
       text = lines_are (entry_of r m s0 g) line before p q;
@@ -133,6 +140,7 @@ gave_of r m s s0 g now line before fits same is broken e p q joins =
           ∙ ap (λ (z : Bool). let t : Session = record s0 { end = happens m (event_of r g) s0.end; mind = now.mind; output = joined_to s0.output (octets_in (tells m (event_of r g) s0.end)); broken = z } in t)
           (broken ∙ if_is_or s0.broken (breaks g));
       fits = joins.0;
+      in_grammar = grammar;
     })
 
 -- an event whose octets fit
@@ -180,16 +188,18 @@ tell_fits a b f g r m s now e line fits gave all grew =
           ∙ ap (λ (z : Bool). let t : Session = record s { end = end_after r m s.end e; mind = now.mind; output = (if z then s.output else s.output ++ octets_of r m s e); broken = s.broken || breaks e } in t) few;
       printed = subst (λ z. Grew a b z) (gave.text ∙ one_text (entry_of r m s e)) grew.0;
       later = grew.1;
+      in_grammar = (gave.in_grammar, tt);
     })
 
 prints_behind : (a b c : Option (List ℕ)) (f g h : ℕ) (x : Entry) (new : Session) (o : Session × List Entry) (res : Result (Unit {0}) LoopFault)
-    → Grew a b (entry_text x) → f ≤ g → Prints b c g h new o res → Prints a c f h new (o.0, x ∷ o.1) res
-prints_behind a b c f g h x new o (Ok done) p q r = record {
+    → Grew a b (entry_text x) → f ≤ g → IsInGrammar x → Prints b c g h new o res → Prints a c f h new (o.0, x ∷ o.1) res
+prints_behind a b c f g h x new o (Ok done) p q i r = record {
   state = r.state;
   printed = grew_then a b c (entry_text x) (text o.1) p r.printed;
   later = (let y : g ≤ h = r.later in omega arith);
+  in_grammar = (i, r.in_grammar);
 }
-prints_behind a b c f g h x new o (Err fault) p q r = breaks_behind a b c f g h (entry_text x) (text o.1) fault p q r
+prints_behind a b c f g h x new o (Err fault) p q i r = breaks_behind a b c f g h (entry_text x) (text o.1) fault p q r
 
 pub tell_stalls : (a b c : Option (List ℕ)) (f g h : ℕ) (r : Rules) (m : ℕ) (s now new : Session) (e : Given) (line : List ℕ) (fits : Bool) (res : Result (Unit {0}) LoopFault)
     → Gave r m s e now line fits → fits ≡ false → Grew a b line × (f ≤ g) → Prints b c g h new (stalled r m now) res
@@ -202,15 +212,16 @@ tell_stalls a b c f g h r m s now new e line fits res gave not_all grew rest =
     ∙ ap (λ (z : Bool). let t : Session = record s { end = end_after r m s.end e; mind = now.mind; output = (if z then s.output else s.output ++ octets_of r m s e); broken = s.broken || breaks e } in t) many in
     subst (λ (z : Session × List Entry). Prints a c f h new (with_mind now.mind z) res) (sym (stalls_is r m s e many))
     (prints_behind a b c f g h (entry_of r m s e) new (stalled r m s2) res
-    (subst (λ z. Grew a b z) gave.text grew.0) grew.1
+    (subst (λ z. Grew a b z) gave.text grew.0) grew.1 gave.in_grammar
     (subst (λ (z : Session). Prints b c g h new (stalled r m z) res) there rest))
 
 pub stall_prints : (a b : Option (List ℕ)) (f g : ℕ) (r : Rules) (m : ℕ) (s s0 : Session) (end' : KEnd) (line before : List ℕ) (res : Result (Unit {0}) LoopFault)
     → s ≡ s0 → end' ≡ happens m (event_of r Stalls) s0.end → before ≡ []
     → line ≡ (before ++ line_text (entry_words m s0.number (written s0.end Stalls))) ++ outcomes_text s0.number (tells m (event_of r Stalls) s0.end)
+    → IsInGrammar (happened m s0.number (written s0.end Stalls) (tells m (event_of r Stalls) s0.end))
     → Puts a b f g line res → Prints a b f g (record s0 { end = end'; broken = true }) (stalled r m s) res
 unfolding end_after outcomes_of
-stall_prints a b f g r m s s0 end' line before res same e p q puts =
+stall_prints a b f g r m s s0 end' line before res same e p q grammar puts =
     subst (λ (z : Session). Prints a b f g (record s0 { end = end'; broken = true }) (stalled r m z) res) (sym same)
     (puts_prints res (lines_are (entry_of r m s0 Stalls) line before p q ∙ one_text (entry_of r m s0 Stalls)) puts)
   where
@@ -220,6 +231,7 @@ stall_prints a b f g r m s s0 end' line before res same e p q puts =
       state = ap (λ (z : KEnd). let t : Session = record s0 { end = z; broken = true } in t) e;
       printed = subst (λ z. Grew a b z) is p.0;
       later = p.1;
+      in_grammar = (grammar, tt);
     }
     puts_prints (Err fault) is p = breaks_as a b f g line (text (entry_of r m s0 Stalls ∷ [])) fault is p
 
@@ -250,6 +262,7 @@ gave_mind r m s now now0 g mind lines fits same gave = record {
   text = gave.text;
   state = ap (λ (z : Session). let t : Session = record z { mind = mind } in t) (sym same ∙ gave.state);
   fits = gave.fits;
+  in_grammar = gave.in_grammar;
 }
 
 pub heard_so : (mind0 mind1 : Option Mind) (h0 h : Option Heard) (now : Option Mind) (spoken : Spoken) → mind0 ≡ mind1 → h ≡ h0

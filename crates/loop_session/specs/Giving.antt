@@ -3,9 +3,16 @@
 use Rattle.std.specs.Prelude.{◌≡◌, ℕ, ◌+◌, nat_lt, not, Bool, ◌||◌, if◌then◌else◌, List, ◌++◌, length, Option, Some, None, Result, Ok, Err}
 use Rattle.er_users.specs.Saying.{Spoken}
 use Rattle.er_users.specs.Users.{Mind, Heard, Connected, Said}
-use Rattle.loop_model.specs.Journals.{entry_text}
+use Rattle.end_model.specs.Outcomes.{Outcome}
+use Rattle.er_trace.specs.declared.event.Event.{Event}
+use Rattle.loop_model.specs.Grammar.{IsInGrammar}
+use Rattle.loop_model.specs.Journals.{Entry, entry_text}
 use Rattle.loop_model.specs.Sessions.{Rules, Session, Given, most_output, breaks, end_after, outcomes_of, octets_in, entry_of, hears, sends_of, leave_of}
 use Rattle.loop_session.specs.declared.gives.Came.{Came}
+
+-- an event with its outcomes, as the journal has it
+abbrev pub happened : (moment conn : ℕ) → Event → List Outcome → Entry
+happened moment conn event outcomes = record { moment = moment; conn = conn; event = event; outcomes = outcomes }
 
 -- so many together are too many
 abbrev pub too_many : List ℕ → List ℕ → Bool
@@ -42,11 +49,12 @@ behind r m s g mind = record s {
   broken = s.broken || breaks g;
 }
 
--- an event was given to the end of a session: the lines of it, and whether its octets fit
+-- an event was given to the end of a session: the lines of it, whether its octets fit, and that it is in the grammar of traces
 pub record Gave (r : Rules) (m : ℕ) (s : Session) (g : Given) (now : Session) (lines : List ℕ) (all_fit : Bool) : Type 0 where
   pub text : lines ≡ entry_text (entry_of r m s g)
   pub state : now ≡ behind r m s g now.mind
   pub fits : all_fit ≡ not (too_many s.output (octets_of r m s g))
+  pub in_grammar : IsInGrammar (entry_of r m s g)
 
 -- what a user said, as events
 abbrev pub events_of : Spoken → List Given

@@ -3,6 +3,7 @@ use Rattle.std.specs.Prelude.{◌≡◌, ℕ, ◌≤◌, List, length, drop, Opt
 use Rattle.safety_automaton.specs.Keys as keys
 use Rattle.er_users.specs.Users.{Mind}
 use Rattle.link_trait.specs.Outside.{Grew, GrewPart, Rose}
+use Rattle.loop_model.specs.Grammar.{AreInGrammar}
 use Rattle.loop_model.specs.Journals.{Entry, text}
 use Rattle.loop_model.specs.Outs.{runs}
 use Rattle.loop_model.specs.Sessions.{Rules, Session, Says, poured}
@@ -30,11 +31,12 @@ abbrev pub Puts : {T : Type 0} → Option (List ℕ) → Option (List ℕ) → �
 Puts before now f g line (Ok done) = Grew before now line × (f ≤ g)
 Puts before now f g line (Err fault) = Breaks before now f g line fault
 
--- a part left this state, and the text of its events was written
+-- a part left this state, the text of its events was written, and they are in the grammar of traces
 pub record Printed {S : Type 0} (before now : Option (List ℕ)) (f g : ℕ) (new : S) (a : S × List Entry) : Type 0 where
   pub state : new ≡ a.0
   pub printed : Grew before now (text a.1)
   pub later : f ≤ g
+  pub in_grammar : AreInGrammar a.1
 
 abbrev pub Prints : {T S : Type 0} → Option (List ℕ) → Option (List ℕ) → ℕ → ℕ → S → S × List Entry → Result T LoopFault → Type 0
 Prints before now f g new a (Ok done) = Printed before now f g new a

@@ -1,6 +1,6 @@
 //! Events at a session, each with all that follows it.
 
-ghost use Rattle.std.specs.Prelude.{◌≡◌, ◌≤◌, ◌<◌, ◌-◌, List, length, drop, IfOk};
+ghost use Rattle.std.specs.Prelude.{◌≡◌, ◌≤◌, ◌<◌, ◌^◌, ◌-◌, List, length, drop, IfOk};
 ghost use Rattle.safety_automaton.specs.Keys as keys;
 ghost use Rattle.er_end.specs.KeptEnds.{used_of};
 ghost use Rattle.loop_model.specs.Sessions.{Session as LoopSession, Given, Begins, Hears, Ticks, Ends, Faults, heard_in, outcomes_of, handled, pours};
@@ -92,6 +92,8 @@ impl<U: SafeUser> Session<U> {
         sink: &mut S,
     ) -> Result<(), LoopFault>
         requires moment { when.moment ≤ 1000000000000000 }
+        requires engine { call.now.engine < 2 ^ 24 }
+        requires rbc { call.now.rbc < 2 ^ 24 }
         requires setup { when.setup ≤ 600000 }
         ensures chooses { (entries : List keys.Entry) → Chooses (S.held sink.old) (S.held sink.new) (S.faults sink.old) (S.faults sink.new) self.new
             (handled (rules entries when.setup) when.moment self.old (Begins call.now.engine call.now.rbc call.now.rb)) result }
@@ -172,6 +174,7 @@ impl<U: SafeUser> Session<U> {
         sink: &mut S,
     ) -> Result<usize, LoopFault>
         requires moment { when.moment ≤ 1000000000000000 }
+        requires octets { length octets.now ≤ 4096 }
         requires setup { when.setup ≤ 600000 }
         ensures chooses { Chooses (S.held sink.old) (S.held sink.new) (S.faults sink.old) (S.faults sink.new) self.new
             (handled (rules (K.entries keys.now) when.setup) when.moment self.old (Hears octets.now)) result }
@@ -207,6 +210,7 @@ impl<U: SafeUser> Session<U> {
         sink: &mut S,
     ) -> Result<(), LoopFault>
         requires moment { when.moment ≤ 1000000000000000 }
+        requires octets { length octets.now ≤ 4096 }
         requires setup { when.setup ≤ 600000 }
         ensures chooses { Chooses (S.held sink.old) (S.held sink.new) (S.faults sink.old) (S.faults sink.new) self.new
             (pours (rules (K.entries keys.now) when.setup) when.moment self.old octets.now) result }

@@ -1,6 +1,6 @@
 //! Events given to the end of a connection: their lines, the octets that the end gives, and what its user hears.
 
-ghost use Rattle.std.specs.Prelude.{◌≡◌, ◌≤◌, ◌++◌, ◌∷◌, [], take, not, Some, None, OnOk, IfOk, option_map};
+ghost use Rattle.std.specs.Prelude.{◌≡◌, ◌≤◌, ◌<◌, ◌^◌, ◌++◌, ◌∷◌, [], length, take, not, Some, None, OnOk, IfOk, option_map};
 ghost use Rattle.safety_automaton.specs.Keys.{key_at};
 ghost use Rattle.er_base.specs.LineTexts.{line_text};
 ghost use Rattle.er_trace.specs.Texts.{entry_words};
@@ -9,10 +9,12 @@ ghost use Rattle.end_model.specs.Ends.{Start, Come, Send, Take, Leave, Tick, End
 ghost use Rattle.er_end.specs.KeptEnds.{happens, tells, used_of};
 ghost use Rattle.trace_model.specs.Printed.{outcomes_text};
 ghost use Rattle.loop_model.specs.Sessions.{octets_in, heard_in};
-ghost use Rattle.loop_session.specs.Giving.{Joins, JoinsCame, too_many, joined_to, peer_heard, HeardSo};
+ghost use Rattle.loop_model.specs.Grammar.{IsInGrammar};
+ghost use Rattle.loop_session.specs.Giving.{happened, Joins, JoinsCame, too_many, joined_to, peer_heard, HeardSo};
 
 use crate::hearing::hear_message;
 use crate::join::join_waiting;
+use crate::ranges::{see_deeds, see_octets, see_refusal, see_word};
 use bytes::BytesMut;
 use end_lines::{tell, tell_empty, tell_octets, tell_refused, tell_taken};
 use er_base::NoMemory;
@@ -55,7 +57,7 @@ fn put(moment: u64, conn: u64, event: Event, line: &mut Vec<u8>) -> Result<(), N
 }
 
 /// A moment has come.
-#[tactic(auto, using(crate::proofs::Givings::octets_told, crate::proofs::Givings::heard_told))]
+#[tactic(auto, using(crate::proofs::Givings::octets_told, crate::proofs::Givings::heard_told, crate::proofs::Grammars::happens_so))]
 pub fn give_tick(
     end: &mut End,
     conn: u64,
@@ -65,6 +67,7 @@ pub fn give_tick(
 ) -> Result<Came, NoMemory>
     requires { moment ≤ 1000000000000000 }
     ensures end { OnOk result (end.new ≡ happens moment Tick end.old) }
+    ensures grammar { OnOk result (IsInGrammar (happened moment conn event.Tick (tells moment Tick end.old))) }
     ensures text { OnOk result (line.new.items
         ≡ (line.old.items ++ line_text (entry_words moment conn event.Tick)) ++ outcomes_text conn (tells moment Tick end.old)) }
     ensures joins { JoinsCame result output.old.items output.new.items (octets_in (tells moment Tick end.old)) }
@@ -72,6 +75,7 @@ pub fn give_tick(
 {
     put(moment, conn, Event::Tick, line)?;
     let deeds = end.tick(moment);
+    see_deeds(&deeds);
     tell(conn, &deeds, line)?;
     let fits = join_waiting(output, deeds.out)?;
     Ok(Came {
@@ -81,7 +85,7 @@ pub fn give_tick(
 }
 
 /// The user releases, with this sub-reason: whether the octets that the end gives fit.
-#[tactic(auto, using(crate::proofs::Givings::octets_told))]
+#[tactic(auto, using(crate::proofs::Givings::octets_told, crate::proofs::Grammars::happens_so))]
 pub fn give_release(
     end: &mut End,
     conn: u64,
@@ -92,18 +96,20 @@ pub fn give_release(
 ) -> Result<bool, NoMemory>
     requires { moment ≤ 1000000000000000 }
     ensures end { OnOk result (end.new ≡ happens moment (Leave sub) end.old) }
+    ensures grammar { OnOk result (IsInGrammar (happened moment conn (event.Release sub) (tells moment (Leave sub) end.old))) }
     ensures text { OnOk result (line.new.items
         ≡ (line.old.items ++ line_text (entry_words moment conn (event.Release sub))) ++ outcomes_text conn (tells moment (Leave sub) end.old)) }
     ensures joins { Joins result output.old.items output.new.items (octets_in (tells moment (Leave sub) end.old)) }
 {
     put(moment, conn, Event::Release(sub), line)?;
     let deeds = end.release(moment, sub);
+    see_deeds(&deeds);
     tell(conn, &deeds, line)?;
     join_waiting(output, deeds.out)
 }
 
 /// The user sends a message: whether the octets that the end gives fit. Where it is refused, no octets join those that wait.
-#[tactic(auto, using(crate::proofs::Givings::octets_told))]
+#[tactic(auto, using(crate::proofs::Givings::octets_told, crate::proofs::Grammars::happens_so))]
 pub fn give_send(
     end: &mut End,
     conn: u64,
@@ -112,8 +118,10 @@ pub fn give_send(
     line: &mut Vec<u8>,
     output: &mut BytesMut,
 ) -> Result<bool, NoMemory>
-    requires { moment ≤ 1000000000000000 }
+    requires moment { moment ≤ 1000000000000000 }
+    requires text { length text.now ≤ 4096 }
     ensures end { OnOk result (end.new ≡ happens moment (Send text.now) end.old) }
+    ensures grammar { OnOk result (IsInGrammar (happened moment conn (event.Send text.now) (tells moment (Send text.now) end.old))) }
     ensures text { OnOk result (line.new.items
         ≡ (line.old.items ++ line_text (entry_words moment conn (event.Send text.now))) ++ outcomes_text conn (tells moment (Send text.now) end.old)) }
     ensures joins { Joins result output.old.items output.new.items (octets_in (tells moment (Send text.now) end.old)) }
@@ -121,10 +129,12 @@ pub fn give_send(
     print_send(moment, conn, text, line)?;
     match end.send(moment, text) {
         Ok(deeds) => {
+            see_deeds(&deeds);
             tell(conn, &deeds, line)?;
             join_waiting(output, deeds.out)
         }
         Err(refused) => {
+            see_refusal(&refused);
             tell_refused(conn, &refused, line)?;
             join_waiting(output, b"")
         }
@@ -132,7 +142,7 @@ pub fn give_send(
 }
 
 /// The user takes the oldest message that waits, and hears it: whether the octets that the end gives fit.
-#[tactic(auto, using(crate::proofs::Takings::takes_none, crate::proofs::Hearings::heard_nothing))]
+#[tactic(auto, using(crate::proofs::Takings::takes_none, crate::proofs::Hearings::heard_nothing, crate::proofs::Grammars::happens_so))]
 pub fn give_take<U: SafeUser>(
     end: &mut End,
     user: &mut Option<U>,
@@ -144,6 +154,7 @@ pub fn give_take<U: SafeUser>(
 ) -> Result<bool, NoMemory>
     requires { moment ≤ 1000000000000000 }
     ensures end { OnOk result (end.new ≡ happens moment Take end.old) }
+    ensures grammar { OnOk result (IsInGrammar (happened moment conn event.Take (tells moment Take end.old))) }
     ensures text { OnOk result (line.new.items
         ≡ (line.old.items ++ line_text (entry_words moment conn event.Take)) ++ outcomes_text conn (tells moment Take end.old)) }
     ensures joins { Joins result output.old.items output.new.items (octets_in (tells moment Take end.old)) }
@@ -152,6 +163,8 @@ pub fn give_take<U: SafeUser>(
     put(moment, conn, Event::Take, line)?;
     match end.take(moment) {
         Some(taken) => {
+            see_octets(taken.text);
+            see_octets(taken.out);
             tell_taken(conn, taken.text, line)?;
             tell_octets(conn, taken.out, line)?;
             hear_message(user, taken.text, replies);
@@ -166,22 +179,27 @@ pub fn give_take<U: SafeUser>(
 }
 
 /// The line stalled: octets that were to join those that wait are dropped.
+#[tactic(auto, using(crate::proofs::Grammars::happens_so))]
 pub fn give_stalled(
     end: &mut End,
     conn: u64,
     moment: u64,
     line: &mut Vec<u8>,
 ) -> Result<(), NoMemory>
+    requires { moment ≤ 1000000000000000 }
     ensures end { OnOk result (end.new ≡ happens moment Stalled end.old) }
+    ensures grammar { OnOk result (IsInGrammar (happened moment conn event.Stalled (tells moment Stalled end.old))) }
     ensures text { OnOk result (line.new.items
         ≡ (line.old.items ++ line_text (entry_words moment conn event.Stalled)) ++ outcomes_text conn (tells moment Stalled end.old)) }
 {
     put(moment, conn, Event::Stalled, line)?;
-    tell(conn, &end.stalled(), line)
+    let deeds = end.stalled();
+    see_deeds(&deeds);
+    tell(conn, &deeds, line)
 }
 
 /// The line ended.
-#[tactic(auto, using(crate::proofs::Givings::octets_told, crate::proofs::Givings::heard_told))]
+#[tactic(auto, using(crate::proofs::Givings::octets_told, crate::proofs::Givings::heard_told, crate::proofs::Grammars::happens_so))]
 pub fn give_ended(
     end: &mut End,
     conn: u64,
@@ -189,7 +207,9 @@ pub fn give_ended(
     line: &mut Vec<u8>,
     output: &mut BytesMut,
 ) -> Result<Came, NoMemory>
+    requires { moment ≤ 1000000000000000 }
     ensures end { OnOk result (end.new ≡ happens moment Ended end.old) }
+    ensures grammar { OnOk result (IsInGrammar (happened moment conn event.Ended (tells moment Ended end.old))) }
     ensures text { OnOk result (line.new.items
         ≡ (line.old.items ++ line_text (entry_words moment conn event.Ended)) ++ outcomes_text conn (tells moment Ended end.old)) }
     ensures joins { JoinsCame result output.old.items output.new.items (octets_in (tells moment Ended end.old)) }
@@ -197,6 +217,7 @@ pub fn give_ended(
 {
     put(moment, conn, Event::Ended, line)?;
     let deeds = end.ended();
+    see_deeds(&deeds);
     tell(conn, &deeds, line)?;
     let fits = join_waiting(output, deeds.out)?;
     Ok(Came {
@@ -206,7 +227,7 @@ pub fn give_ended(
 }
 
 /// The line failed.
-#[tactic(auto, using(crate::proofs::Givings::octets_told, crate::proofs::Givings::heard_told))]
+#[tactic(auto, using(crate::proofs::Givings::octets_told, crate::proofs::Givings::heard_told, crate::proofs::Grammars::happens_so))]
 pub fn give_fault(
     end: &mut End,
     conn: u64,
@@ -214,7 +235,9 @@ pub fn give_fault(
     line: &mut Vec<u8>,
     output: &mut BytesMut,
 ) -> Result<Came, NoMemory>
+    requires { moment ≤ 1000000000000000 }
     ensures end { OnOk result (end.new ≡ happens moment Fault end.old) }
+    ensures grammar { OnOk result (IsInGrammar (happened moment conn event.Fault (tells moment Fault end.old))) }
     ensures text { OnOk result (line.new.items
         ≡ (line.old.items ++ line_text (entry_words moment conn event.Fault)) ++ outcomes_text conn (tells moment Fault end.old)) }
     ensures joins { JoinsCame result output.old.items output.new.items (octets_in (tells moment Fault end.old)) }
@@ -222,6 +245,7 @@ pub fn give_fault(
 {
     put(moment, conn, Event::Fault, line)?;
     let deeds = end.fault();
+    see_deeds(&deeds);
     tell(conn, &deeds, line)?;
     let fits = join_waiting(output, deeds.out)?;
     Ok(Came {
@@ -231,7 +255,7 @@ pub fn give_fault(
 }
 
 /// The end of an engine begins: its station sends the set-up frame.
-#[tactic(auto, using(crate::proofs::Givings::octets_told, crate::proofs::Givings::heard_told))]
+#[tactic(auto, using(crate::proofs::Givings::octets_told, crate::proofs::Givings::heard_told, crate::proofs::Grammars::happens_so))]
 pub fn give_start(
     end: &mut End,
     conn: u64,
@@ -240,13 +264,17 @@ pub fn give_start(
     line: &mut Vec<u8>,
     output: &mut BytesMut,
 ) -> Result<Came, NoMemory>
-    requires { moment ≤ 1000000000000000 }
+    requires moment { moment ≤ 1000000000000000 }
+    requires engine { call.now.engine < 2 ^ 24 }
+    requires rbc { call.now.rbc < 2 ^ 24 }
     ensures end { OnOk result (end.new ≡ happens moment Start end.old) }
+    ensures grammar { OnOk result (IsInGrammar (happened moment conn (event.Call call.now.engine call.now.rbc call.now.rb) (tells moment Start end.old))) }
     ensures text { OnOk result (line.new.items
         ≡ (line.old.items ++ line_text (entry_words moment conn (event.Call call.now.engine call.now.rbc call.now.rb))) ++ outcomes_text conn (tells moment Start end.old)) }
     ensures joins { JoinsCame result output.old.items output.new.items (octets_in (tells moment Start end.old)) }
     ensures heard { IfOk result (λ came. heard_in (tells moment Start end.old) ≡ peer_heard came.connected) }
 {
+    see_word(call.rb);
     let event = Event::Call {
         engine: call.engine,
         rbc: call.rbc,
@@ -254,6 +282,7 @@ pub fn give_start(
     };
     put(moment, conn, event, line)?;
     let deeds = end.start(moment);
+    see_deeds(&deeds);
     tell(conn, &deeds, line)?;
     let fits = join_waiting(output, deeds.out)?;
     Ok(Came {
@@ -274,7 +303,7 @@ fn front(piece: &[u8], used: usize) -> &[u8]
 }
 
 /// Octets come, and the end uses them up to the first closed frame: how many.
-#[tactic(auto, using(crate::proofs::Givings::octets_told, crate::proofs::Givings::heard_told))]
+#[tactic(auto, using(crate::proofs::Givings::octets_told, crate::proofs::Givings::heard_told, crate::proofs::Grammars::happens_so))]
 pub fn give_octets<K: KeyFinder>(
     keys: &K,
     end: &mut End,
@@ -284,8 +313,11 @@ pub fn give_octets<K: KeyFinder>(
     line: &mut Vec<u8>,
     output: &mut BytesMut,
 ) -> Result<(usize, Came), NoMemory>
-    requires { moment ≤ 1000000000000000 }
+    requires moment { moment ≤ 1000000000000000 }
+    requires piece { length piece.now ≤ 4096 }
     ensures end { OnOk result (end.new ≡ happens moment (Come (key_at (K.entries keys.now)) piece.now) end.old) }
+    ensures grammar { OnOk result (IsInGrammar (happened moment conn (event.Octets (take (used_of end.old piece.now) piece.now))
+        (tells moment (Come (key_at (K.entries keys.now)) piece.now) end.old))) }
     ensures text { OnOk result (line.new.items
         ≡ (line.old.items ++ line_text (entry_words moment conn (event.Octets (take (used_of end.old piece.now) piece.now))))
         ++ outcomes_text conn (tells moment (Come (key_at (K.entries keys.now)) piece.now) end.old)) }
@@ -296,6 +328,7 @@ pub fn give_octets<K: KeyFinder>(
 {
     let (used, deeds) = end.octets(keys, moment, piece);
     print_octets(moment, conn, front(piece, used), line)?;
+    see_deeds(&deeds);
     tell(conn, &deeds, line)?;
     let fits = join_waiting(output, deeds.out)?;
     let came = Came {

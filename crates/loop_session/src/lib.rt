@@ -11,6 +11,7 @@ mod hearing;
 mod join;
 mod loop_fault;
 mod parting;
+mod ranges;
 mod replying;
 mod scratch;
 mod session;

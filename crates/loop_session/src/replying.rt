@@ -1,6 +1,6 @@
 //! What follows an event that was given to the end of a session: its lines are written, and what the user said follows as events.
 
-ghost use Rattle.std.specs.Prelude.{◌≡◌, ◌≤◌};
+ghost use Rattle.std.specs.Prelude.{◌≡◌, ◌≤◌, length};
 ghost use Rattle.loop_model.specs.Outs.{runs};
 ghost use Rattle.loop_model.specs.Sessions.{Rules, Session as LoopSession, Given, Sends, Leaves, Takes, heard_in, outcomes_of, stalled, fed, dealt, takes_all};
 ghost use Rattle.loop_session.specs.Giving.{Gave, HeardSo, events_of};
@@ -22,6 +22,7 @@ impl<U: SafeUser> Session<U> {
         line: &mut Vec<u8>,
         sink: &mut S,
     ) -> Result<(), LoopFault>
+        requires { moment ≤ 1000000000000000 }
         ensures prints { (r : Rules) → Prints (S.held sink.old) (S.held sink.new) (S.faults sink.old) (S.faults sink.new) self.new (stalled r moment self.old) result }
         ensures number { self.new.number ≡ self.old.number }
         ensures later { S.faults sink.old ≤ S.faults sink.new }
@@ -40,6 +41,7 @@ impl<U: SafeUser> Session<U> {
         line: &mut Vec<u8>,
         sink: &mut S,
     ) -> Result<(), LoopFault>
+        requires { moment ≤ 1000000000000000 }
         ensures prints { (r : Rules) (s : LoopSession) (g : Given) → Gave r moment s g self.old line.old.items fits
             → Prints (S.held sink.old) (S.held sink.new) (S.faults sink.old) (S.faults sink.new) self.new (with_mind self.old.mind (fed r moment s g)) result }
         ensures number { self.new.number ≡ self.old.number }
@@ -63,7 +65,8 @@ impl<U: SafeUser> Session<U> {
         line: &mut Vec<u8>,
         sink: &mut S,
     ) -> Result<(), LoopFault>
-        requires { moment ≤ 1000000000000000 }
+        requires moment { moment ≤ 1000000000000000 }
+        requires text { length text.now ≤ 4096 }
         ensures prints { (r : Rules) → Prints (S.held sink.old) (S.held sink.new) (S.faults sink.old) (S.faults sink.new) self.new (fed r moment self.old (Sends text.now)) result }
         ensures number { self.new.number ≡ self.old.number }
         ensures later { S.faults sink.old ≤ S.faults sink.new }

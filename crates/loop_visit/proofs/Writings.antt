@@ -6,6 +6,7 @@ use Rattle.link_trait.specs.Growth.{grew_nothing, grew_then}
 use Rattle.link_trait.specs.Wires.{Call, Writes, Closes}
 use Rattle.link_trait.specs.declared.wires.WriteAnswer.{WriteAnswer}
 use Rattle.link_trait.specs.declared.wires.WriteAnswer.TheVariants as write
+use Rattle.loop_model.specs.Grammar.{AreInGrammar}
 use Rattle.loop_model.specs.Journals.{Entry, text}
 use Rattle.loop_model.specs.Outs.{Out, still, next, makes, acts, exactly}
 use Rattle.loop_model.specs.Sessions.{Session, is_released}
@@ -51,6 +52,7 @@ acted_made h j c d u v new o p = record {
   told = p.told;
   answered = p.answered;
   counted = p.counted;
+  in_grammar = subst AreInGrammar (sym p.silent) tt;
 }
 
 -- ---- one write

@@ -5,6 +5,7 @@ use Rattle.link_trait.specs.Outside.{Grew, GrewPart}
 use Rattle.link_trait.specs.Wires.{Call, Listens, Dials, Turns, Reads, Writes, Closes, Reading, Gave, NotNow, End, Failed}
 use Rattle.link_trait.specs.declared.wires.WriteAnswer.{WriteAnswer}
 use Rattle.link_trait.specs.declared.wires.WriteAnswer.TheVariants as write
+use Rattle.loop_model.specs.Grammar.{AreInGrammar}
 use Rattle.loop_model.specs.Journals.{text}
 use Rattle.loop_model.specs.Outs.{Out}
 use Rattle.loop_model.specs.Laws.{failures}
@@ -50,7 +51,7 @@ AreAnsweredSo (call ∷ calls) = IsAnsweredSo call × AreAnsweredSo calls
 abbrev pub Counts : ℕ → ℕ → List Call → Type 0
 Counts before now calls = min (before + failures calls) (2 ^ 64 - 1) ≤ now
 
--- a part left this state; the text of its events was written, and its calls were made
+-- a part left this state; the text of its events was written, they are in the grammar of traces, and its calls were made
 pub record Acted {S : Type 0} (a b : Seen) (new : S) (o : Out S) : Type 0 where
   pub state : new ≡ o.state
   pub printed : Grew a.held b.held (text o.entries)
@@ -58,6 +59,7 @@ pub record Acted {S : Type 0} (a b : Seen) (new : S) (o : Out S) : Type 0 where
   pub told : Grew a.calls b.calls o.calls
   pub answered : AreAnsweredSo o.calls
   pub counted : Counts a.failed b.failed o.calls
+  pub in_grammar : AreInGrammar o.entries
 
 -- a beginning of these calls was made
 pub record Began (a b : Seen) (all : List Call) : Type 0 where

@@ -4,6 +4,7 @@ use Rattle.er_base.specs.declared.no_memory.NoMemory.{NoMemory as Want}
 use Rattle.link_trait.specs.Outside.{Grew, GrewPart, Rose}
 use Rattle.link_trait.specs.Growth.{grew_nothing, grew_then, part_nothing, part_whole, part_then, part_more}
 use Rattle.link_trait.specs.Wires.{Call}
+use Rattle.loop_model.specs.Grammar.{AreInGrammar}
 use Rattle.loop_model.specs.Journals.{Entry, entry_text, text}
 use Rattle.loop_model.specs.Outs.{Out, still, next, changed, prints, makes}
 use Rattle.loop_model.specs.Laws.{is_failed, failures}
@@ -12,7 +13,7 @@ use Rattle.loop_session.specs.declared.loop_fault.LoopFault.TheVariants.{Wires, 
 use Rattle.loop_session.specs.Parts.{FailedFor, Breaks, Printed}
 use Rattle.loop_visit.specs.Acting.{Seen, seen, IsAnsweredSo, AreAnsweredSo, Counts, Acted, Began, BreaksAt}
 
--- ---- texts, answers and counts of both
+-- ---- texts, answers, counts and grammar of both
 
 pub text_parts : (xs ys : List Entry) → text (xs ++ ys) ≡ text xs ++ text ys
 text_parts [] ys = refl
@@ -21,6 +22,10 @@ text_parts (x ∷ xs) ys = ap (λ z. entry_text x ++ z) (text_parts xs ys) ∙ s
 pub answered_parts : (xs ys : List Call) → AreAnsweredSo xs → AreAnsweredSo ys → AreAnsweredSo (xs ++ ys)
 answered_parts [] ys p q = q
 answered_parts (x ∷ xs) ys p q = (p.0, answered_parts xs ys p.1 q)
+
+pub grammar_parts : (xs ys : List Entry) → AreInGrammar xs → AreInGrammar ys → AreInGrammar (xs ++ ys)
+grammar_parts [] ys p q = q
+grammar_parts (x ∷ xs) ys p q = (p.0, grammar_parts xs ys p.1 q)
 
 pub failures_parts : (xs ys : List Call) → failures (xs ++ ys) ≡ failures xs + failures ys
 unfolding failures
@@ -54,6 +59,7 @@ acted_still a s = record {
   told = grew_nothing a.calls;
   answered = tt;
   counted = counts_none a.failed a.failed (let z : a.failed ≤ a.failed = omega arith in z);
+  in_grammar = tt;
 }
 
 pub acted_next : {S T : Type 0} (a b c : Seen) (mid : S) (new : T) (o : Out S) (f : S → Out T) → Acted a b mid o → Acted b c new (f mid) → Acted a c new (next o f)
@@ -67,6 +73,7 @@ acted_next a b c mid new o f p q = behind (subst (λ z. Acted b c new (f z)) p.s
       told = grew_then a.calls b.calls c.calls o.calls (f o.state).calls p.told q.told;
       answered = answered_parts o.calls (f o.state).calls p.answered q.answered;
       counted = counts_then a.failed b.failed c.failed o.calls (f o.state).calls p.counted q.counted;
+      in_grammar = grammar_parts o.entries (f o.state).entries p.in_grammar q.in_grammar;
     }
 
 pub acted_changed : {S T : Type 0} (a b : Seen) (g : S → T) (new : S) (o : Out S) → Acted a b new o → Acted a b (g new) (changed g o)
@@ -77,6 +84,7 @@ acted_changed a b g new o p = record {
   told = p.told;
   answered = p.answered;
   counted = p.counted;
+  in_grammar = p.in_grammar;
 }
 
 pub acted_prints : {S : Type 0} (h i : Option (List ℕ)) (j k : ℕ) (c : Option (List Call)) (u : ℕ) (new : S) (x : S × List Entry) → Printed h i j k new x → Acted (seen h j c u) (seen i k c u) new (prints x)
@@ -87,6 +95,7 @@ acted_prints h i j k c u new x p = record {
   told = grew_nothing c;
   answered = tt;
   counted = counts_none u u (let z : u ≤ u = omega arith in z);
+  in_grammar = p.in_grammar;
 }
 
 pub acted_makes : {S : Type 0} (h : Option (List ℕ)) (j : ℕ) (c d : Option (List Call)) (u v : ℕ) (s : S) (call : Call)
@@ -98,6 +107,7 @@ acted_makes h j c d u v s call told answered counted = record {
   told = told;
   answered = (answered, tt);
   counted = counted;
+  in_grammar = tt;
 }
 
 -- ---- parts that broke off

@@ -45,6 +45,7 @@ fn take_in<U: SafeUser, K: KeyFinder, S: Sink>(
 ) -> Result<(), LoopFault>
     requires moment { when.moment ≤ 1000000000000000 }
     requires setup { when.setup ≤ 600000 }
+    requires octets { length octets.now ≤ 4096 }
     requires fits { (n : ℕ) → answer ≡ ReadAnswer.Some n → (1 ≤ n) × (n ≤ length octets.now) }
     ensures chooses { Chooses (S.held sink.old) (S.held sink.new) (S.faults sink.old) (S.faults sink.new) session.new
         (came (reading_of answer octets.now) (rules (K.entries keys.now) when.setup) when.moment session.old) result }

@@ -1,6 +1,6 @@
 //! Visits of one session.
 
-ghost use Rattle.std.specs.Prelude.{◌≡◌, ◌≤◌, List};
+ghost use Rattle.std.specs.Prelude.{◌≡◌, ◌≤◌, ◌<◌, ◌^◌, List};
 ghost use Rattle.loop_model.specs.Sessions.{Begins};
 ghost use Rattle.safety_automaton.specs.Keys as keys;
 ghost use Rattle.loop_model.specs.Visits.{visited, served, is_due, Tick as VisitTick};
@@ -130,6 +130,8 @@ pub fn begin_call<U: SafeUser, K: KeyFinder, W: Wires, S: Sink>(
     sink: &mut S,
 ) -> Result<bool, LoopFault>
     requires moment { when.moment ≤ 1000000000000000 }
+    requires engine { call.now.engine < 2 ^ 24 }
+    requires rbc { call.now.rbc < 2 ^ 24 }
     requires setup { when.setup ≤ 600000 }
     ensures does { Visits (seen (S.held sink.old) (S.faults sink.old) (W.calls wires.old) (W.faults wires.old))
         (seen (S.held sink.new) (S.faults sink.new) (W.calls wires.new) (W.faults wires.new))

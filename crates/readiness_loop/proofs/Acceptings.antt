@@ -1,15 +1,17 @@
 -- A connection that was accepted gets a session, or is turned away; and what is handled whole behind a turn.
-use Rattle.std.proofs.Common.{◌≡◌, ℕ, ◌-◌, ◌<◌, ◌≤◌, nat_lt, true, false, List, [], ◌∷◌, ◌++◌, Option, Some, None, Result, Ok, Err, OnOk, length, take, zero, suc, slice_get, refl, sym, ◌∙◌, ap, subst, arith, length-append}
+use Rattle.std.proofs.Common.{◌≡◌, ℕ, ◌-◌, ◌^◌, ◌<◌, ◌≤◌, nat_lt, true, false, List, [], ◌∷◌, ◌++◌, Option, Some, None, Result, Ok, Err, OnOk, length, take, zero, suc, slice_get, refl, sym, ◌∙◌, ap, subst, arith, length-append}
 use Rattle.std.proofs.lemmas.Bool.Decides.{nat_tests}
 use Rattle.rand_core.specs.Stream.{Stream, next_u64}
 use Rattle.slab.specs.Slab.{Slab, get}
 use Rattle.er_base.specs.declared.no_memory.NoMemory.{NoMemory as Want}
+use Rattle.er_trace.specs.Ranges.{IsInRange}
 use Rattle.er_trace.specs.declared.event.Event.{Event}
 use Rattle.er_trace.specs.declared.event.Event.TheVariants as event
 use Rattle.er_users.specs.Users.{Mind}
 use Rattle.link_trait.specs.Outside.{Grew, GrewPart}
 use Rattle.link_trait.specs.Growth.{grew_nothing, part_nothing, part_whole}
 use Rattle.link_trait.specs.Wires.{Call, Closes}
+use Rattle.loop_model.specs.Grammar.{IsInGrammar}
 use Rattle.loop_model.specs.Journals.{Entry, text}
 use Rattle.loop_model.specs.Outs.{Out}
 use Rattle.loop_model.specs.Laws.{failures}
@@ -70,6 +72,11 @@ puts_behind a b f g line (Err other) fault want put p q =
     let same : other ≡ NoMemory want = cc in
     subst (λ z. Breaks a b f g line z) (sym same) (record { begun = part_whole a b line put.0; failed = put.1 })
 
+-- an event without an outcome, in its ranges
+pub opens_so : (m conn : ℕ) (event : Event) → m ≤ 1000000000000000 → conn < 2 ^ 64 → IsInRange event
+    → IsInGrammar (record { moment = m; conn = conn; event = event; outcomes = [] })
+opens_so m conn event p q r = record { event = record { moment = p; conn = q; event = r }; outcomes = tt }
+
 -- the event of a connection that is turned away
 abbrev away_event : ℕ → ℕ → Event → Entry
 away_event m conn why = record { moment = m; conn = conn; event = why; outcomes = [] }
@@ -81,15 +88,16 @@ away_breaks h i f g calls failed l m conn why fault is p =
     line_breaks h i f g calls failed (turned_away l conn why) (text (away_event m conn why ∷ [])) fault (ap (λ z. text (away_event z conn why ∷ [])) (sym is)) p
 
 pub away_acted : (h i : Option (List ℕ)) (f g : ℕ) (calls now : Option (List Call)) (x y : ℕ) (l : Loop) (m conn : ℕ) (why : Event)
-    → l.moment ≡ m → Grew h i (text (away_event m conn why ∷ [])) × (f ≤ g) → Grew calls now (Closes conn ∷ []) → x ≤ y
+    → l.moment ≡ m → IsInGrammar (away_event m conn why) → Grew h i (text (away_event m conn why ∷ [])) × (f ≤ g) → Grew calls now (Closes conn ∷ []) → x ≤ y
     → Acted (seen h f calls x) (seen i g now y) l (turned_away l conn why)
-away_acted h i f g calls now x y l m conn why is p q less = record {
+away_acted h i f g calls now x y l m conn why is grammar p q less = record {
   state = refl;
   printed = subst (λ z. Grew h i (text (away_event z conn why ∷ []))) (sym is) p.0;
   later = p.1;
   told = q;
   answered = (tt, tt);
   counted = rw (failures-close conn) (omega (arith, less));
+  in_grammar = (subst (λ z. IsInGrammar (away_event z conn why)) (sym is) grammar, tt);
 }
 
 -- ---- accepted
@@ -156,10 +164,11 @@ answered_loop plan l users mind conn = record {
 -- by the result of writing the line
 answered_by_result : {T : Type 0} (h i : Option (List ℕ)) (f g : ℕ) (calls : Option (List Call)) (failed : ℕ) (plan : Plan) (l new : Loop) (users : List Mind) (mind : Mind) (conn : ℕ) (r : Result T LoopFault)
     → l.users ≡ users ++ mind ∷ [] → answered_by (Some mind) plan l conn ≡ accepted plan l conn
+    → OnOk r (IsInGrammar (answer_event l.words plan.rbc l.moment conn))
     → Puts h i f g (text (answer_event l.words plan.rbc l.moment conn ∷ [])) r
     → OnOk r (new ≡ answered_loop plan l users mind conn)
     → Acts (seen h f calls failed) (seen i g calls failed) new (accepted plan l conn) r
-answered_by_result h i f g calls failed plan l new users mind conn (Ok done) has same p is =
+answered_by_result h i f g calls failed plan l new users mind conn (Ok done) has same grammar p is =
     subst (λ z. Acted (seen h f calls failed) (seen i g calls failed) new z) same
     (record {
       state = is ∙ ap (λ (z : List Mind). answered_loop plan l z mind conn) (sym (ap other_users has ∙ other_ones users mind));
@@ -168,21 +177,23 @@ answered_by_result h i f g calls failed plan l new users mind conn (Ok done) has
       told = grew_nothing calls;
       answered = tt;
       counted = rw failures-none (omega arith);
+      in_grammar = (grammar, tt);
     })
-answered_by_result h i f g calls failed plan l new users mind conn (Err fault) has same p is =
+answered_by_result h i f g calls failed plan l new users mind conn (Err fault) has same grammar p is =
     subst (λ z. BreaksAt (seen h f calls failed) (seen i g calls failed) z fault) same
     (line_breaks h i f g calls failed (answered_by (Some mind) plan l conn) (text (answer_event l.words plan.rbc l.moment conn ∷ [])) fault refl p)
 
 pub accept_answered : {T : Type 0} (h i : Option (List ℕ)) (f g : ℕ) (calls : Option (List Call)) (failed : ℕ) (plan : Plan) (l new : Loop) (users : List Mind) (mind : Mind) (conn : ℕ) (r : Result T LoopFault)
     → length l.sessions < 256 → l.users ≡ users ++ mind ∷ []
+    → OnOk r (IsInGrammar (answer_event l.words plan.rbc l.moment conn))
     → Puts h i f g (text (answer_event l.words plan.rbc l.moment conn ∷ [])) r
     → OnOk r (new ≡ answered_loop plan l users mind conn)
     → Acts (seen h f calls failed) (seen i g calls failed) new (accepted plan l conn) r
 unfolding accepted
-accept_answered h i f g calls failed plan l new users mind conn r few has p is =
+accept_answered h i f g calls failed plan l new users mind conn r few has grammar p is =
     let o : Out Loop = answered_by (Some mind) plan l conn in
     let same : o ≡ accepted plan l conn = sym (rw (is_below (length l.sessions) few) (ap (λ z. answered_by z plan l conn) (ap next_user has ∙ last_user users mind))) in
-    answered_by_result h i f g calls failed plan l new users mind conn r has same p is
+    answered_by_result h i f g calls failed plan l new users mind conn r has same grammar p is
 
 -- ---- what a function's other clauses say
 

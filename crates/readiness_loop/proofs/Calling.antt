@@ -140,9 +140,9 @@ opened_off plan caller a b l n m first conn asked fault moment did =
 pub opened_so : (plan : Plan) (caller : Caller) (a b : Around) (l new : Loop) (n m first conn : ℕ) (asked : List ℕ) (r : Result Bool LoopFault)
     → m ≡ max l.moment first → first ≤ 1000000000000000 → Grew a.asked b.asked (first ∷ [])
     → Does a.seen b.seen new (called plan caller (record l { moment = m }) conn) r
-    → b.newest ≡ a.newest → b.turns_failed ≡ a.turns_failed → IfOk r (λ stays. halt_if stays ≡ halt_by plan new.sessions)
+    → b.newest ≡ a.newest → b.turns_failed ≡ a.turns_failed → b.listening ≡ a.listening → IfOk r (λ stays. halt_if stays ≡ halt_by plan new.sessions)
     → Opens plan caller a b (course_of l n asked) conn new n r
-opened_so plan caller a b l new n m first conn asked (Ok stays) moment early clock did top fails halts =
+opened_so plan caller a b l new n m first conn asked (Ok stays) moment early clock did top fails hears halts =
     let c = course_of l n asked in
     let x : ℕ × Met = (first, did.answers) in
     let o = called plan caller (record l { moment = max l.moment first }) conn did.answers in
@@ -163,13 +163,15 @@ opened_so plan caller a b l new n m first conn asked (Ok stays) moment early clo
           opened = top ∙ ap (newest a.newest) (sym none.0);
           rises = subst (λ z. Rises a.newest z) (sym none.0) tt;
           failed = omega (arith, fails);
+          listens = hears;
+          alone = λ deaf. none.0;
         };
       };
       early = early;
     }
-opened_so plan caller a b l new n m first conn asked (Err Wires) moment early clock did top fails halts = did.breaks.failed
-opened_so plan caller a b l new n m first conn asked (Err Sink) moment early clock did top fails halts = opened_off plan caller a b l n m first conn asked Sink moment did
-opened_so plan caller a b l new n m first conn asked (Err (NoMemory want)) moment early clock did top fails halts =
+opened_so plan caller a b l new n m first conn asked (Err Wires) moment early clock did top fails hears halts = did.breaks.failed
+opened_so plan caller a b l new n m first conn asked (Err Sink) moment early clock did top fails hears halts = opened_off plan caller a b l n m first conn asked Sink moment did
+opened_so plan caller a b l new n m first conn asked (Err (NoMemory want)) moment early clock did top fails hears halts =
     opened_off plan caller a b l n m first conn asked (NoMemory want) moment did
 
 -- why it halts behind the opening
@@ -198,8 +200,8 @@ halts_away plan slots places dials none = halt_stays plan (sessions slots places
 pub opened_from : (plan : Plan) (caller : Caller) (a b : Around) (l new : Loop) (n count m first conn : ℕ) (asked : List ℕ) (r : Result Bool LoopFault)
     → count ≡ n → m ≡ max l.moment first → first ≤ 1000000000000000 → Grew a.asked b.asked (first ∷ [])
     → Does a.seen b.seen new (called plan caller (record l { moment = m }) conn) r
-    → b.newest ≡ a.newest → b.turns_failed ≡ a.turns_failed → IfOk r (λ stays. halt_if stays ≡ halt_by plan new.sessions)
+    → b.newest ≡ a.newest → b.turns_failed ≡ a.turns_failed → b.listening ≡ a.listening → IfOk r (λ stays. halt_if stays ≡ halt_by plan new.sessions)
     → Opens plan caller a b (course_of l n asked) conn new count r
-opened_from plan caller a b l new n count m first conn asked r same moment early clock did top fails halts =
+opened_from plan caller a b l new n count m first conn asked r same moment early clock did top fails hears halts =
     subst (λ z. Opens plan caller a b (course_of l n asked) conn new z r) (sym same)
-    (opened_so plan caller a b l new n m first conn asked r moment early clock did top fails halts)
+    (opened_so plan caller a b l new n m first conn asked r moment early clock did top fails hears halts)

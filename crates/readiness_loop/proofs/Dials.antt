@@ -174,6 +174,7 @@ dials_done laws plan caller a m b minds words address conn new count why begun w
       faults = (let less : a.seen.failed ≤ m.seen.failed = begun.failed in
           let counted : min (m.seen.failed + failures o.calls) (2 ^ 64 - 1) ≤ b.seen.failed = w.is.acted.counted in
           omega (arith, fewer, less, counted));
+      in_grammar = w.is.acted.in_grammar;
     })
 
 dials_lawful : (laws : Laws) (plan : Plan) (caller : Caller) (minds : List Mind) (words : Stream) (address : List ℕ) (x : Dialled)
@@ -194,11 +195,18 @@ dials_turns plan caller c address conn x count why is t =
     subst (λ z. HasTurns plan z count why) (sym (dials_is plan caller c address conn x is))
     (record { halts = t.halts; counted = t.counted; most = t.most; all = t.all; moment = t.moment })
 
+-- no connection but the one that was dialled
+dials_alone : (plan : Plan) (caller : Caller) (c : Course) (address : List ℕ) (conn : ℕ) (x : Dialled) → x.conn ≡ Some conn
+    → opened_in (whole plan caller c conn x).calls ≡ [] → opened_in (dials plan caller c address x).calls ≡ conn ∷ []
+unfolding opened_in
+dials_alone plan caller c address conn x is none =
+    ap (λ (z : Out Course). opened_in z.calls) (dials_is plan caller c address conn x is) ∙ ap (λ z. conn ∷ z) none
+
 dial_done : (laws : Laws) (engine rbc : ℕ) (kmac : TripleKey) (plan : Plan) (a m b : Around) (minds : List Mind) (words : Stream) (address : List ℕ) (conn : ℕ) (new : Loop) (count : ℕ) (why : Option Halt)
-    → AllAllowed plan.settings → plan.keys ≡ pair_of engine rbc kmac ∷ [] → plan.rbc ≡ rbc → m.newest ≡ conn → 0 < conn
+    → AllAllowed plan.settings → plan.keys ≡ pair_of engine rbc kmac ∷ [] → plan.rbc ≡ rbc → m.newest ≡ conn → 0 < conn → m.listening ≡ a.listening
     → HasBegun plan (wires.Dials address (Some conn)) a m → WentOn plan (caller_of engine kmac) m b (beginning minds words) conn new count why
     → HasDialled (outside_of a) (outside_of b) plan (caller_of engine kmac) address minds words count why
-dial_done laws engine rbc kmac plan a m b minds words address conn new count why allowed keys number top above begun w =
+dial_done laws engine rbc kmac plan a m b minds words address conn new count why allowed keys number top above hears begun w =
     let caller = caller_of engine kmac in
     let dialling = is_dialling engine rbc kmac plan m b minds words address conn new count why allowed keys number top above w in
     record {
@@ -209,6 +217,7 @@ dial_done laws engine rbc kmac plan a m b minds words address conn new count why
       lawful = dials_lawful laws plan caller minds words address w.answers dialling;
       replies = laws.replies.dialling plan caller (beginning minds words) address w.answers dialling;
       turns = dials_turns plan caller (beginning minds words) address conn w.answers count why w.is_conn w.turns;
+      alone = λ deaf. dials_alone plan caller (beginning minds words) address conn w.answers w.is_conn (w.is.alone (hears ∙ deaf));
     }
 
 -- a beginning was printed
@@ -245,33 +254,33 @@ dial_off plan caller a m k b minds words address conn l fault begun p q =
 
 -- the run, however it ended
 pub dial_ran : (laws : Laws) (engine rbc : ℕ) (kmac : TripleKey) (plan : Plan) (a m k b : Around) (minds : List Mind) (words : Stream) (address : List ℕ) (conn : ℕ) (l new : Loop) (count : ℕ) (r : Result Served LoopFault)
-    → AllAllowed plan.settings → plan.keys ≡ pair_of engine rbc kmac ∷ [] → plan.rbc ≡ rbc → m.newest ≡ conn → 0 < conn
+    → AllAllowed plan.settings → plan.keys ≡ pair_of engine rbc kmac ∷ [] → plan.rbc ≡ rbc → m.newest ≡ conn → 0 < conn → m.listening ≡ a.listening
     → HasBegun plan (wires.Dials address (Some conn)) a m → Opened plan (caller_of engine kmac) m k (beginning minds words) conn l 0 None
     → a.seen.sunk ≤ b.seen.sunk
     → ((asked : List ℕ) → Runs plan k b (course_of l 0 asked) new count r)
     → Dials plan (caller_of engine kmac) a b minds words address r
 unfolding met_so
-dial_ran laws engine rbc kmac plan a m k b minds words address conn l new count (Ok served) allowed keys number top above begun p later q =
-    dial_done laws engine rbc kmac plan a m b minds words address conn new served.turns (halt_for served.why) allowed keys number top above begun
+dial_ran laws engine rbc kmac plan a m k b minds words address conn l new count (Ok served) allowed keys number top above hears begun p later q =
+    dial_done laws engine rbc kmac plan a m b minds words address conn new served.turns (halt_for served.why) allowed keys number top above hears begun
     (ran_on laws plan (caller_of engine kmac) m k b minds words conn l new served.turns (halt_for served.why) p q)
-dial_ran laws engine rbc kmac plan a m k b minds words address conn l new count (Err Wires) allowed keys number top above begun p later q = (
-  LineFailed count (dial_done laws engine rbc kmac plan a m b minds words address conn new count (Some OnFailed) allowed keys number top above begun
+dial_ran laws engine rbc kmac plan a m k b minds words address conn l new count (Err Wires) allowed keys number top above hears begun p later q = (
+  LineFailed count (dial_done laws engine rbc kmac plan a m b minds words address conn new count (Some OnFailed) allowed keys number top above hears begun
       (ran_on laws plan (caller_of engine kmac) m k b minds words conn l new count (Some OnFailed) p (λ asked. (q asked).went))),
   (let x : a.turns_failed ≤ m.turns_failed = begun.turns_failed in let y : m.turns_failed ≤ k.turns_failed = p.went.is.failed in
       rose_past a.turns_failed k.turns_failed b.turns_failed (omega (arith, x, y)) (q []).rose),
 )
-dial_ran laws engine rbc kmac plan a m k b minds words address conn l new count (Err Sink) allowed keys number top above begun p later q =
+dial_ran laws engine rbc kmac plan a m k b minds words address conn l new count (Err Sink) allowed keys number top above hears begun p later q =
     dial_off plan (caller_of engine kmac) a m k b minds words address conn l Sink begun p q
-dial_ran laws engine rbc kmac plan a m k b minds words address conn l new count (Err (NoMemory want)) allowed keys number top above begun p later q =
+dial_ran laws engine rbc kmac plan a m k b minds words address conn l new count (Err (NoMemory want)) allowed keys number top above hears begun p later q =
     dial_off plan (caller_of engine kmac) a m k b minds words address conn l (NoMemory want) begun p q
 
 -- the connection was closed at once
 pub dial_closed : (laws : Laws) (engine rbc : ℕ) (kmac : TripleKey) (plan : Plan) (a m b : Around) (minds : List Mind) (words : Stream) (address : List ℕ) (conn : ℕ) (l : Loop) (stays : Bool)
-    → AllAllowed plan.settings → plan.keys ≡ pair_of engine rbc kmac ∷ [] → plan.rbc ≡ rbc → m.newest ≡ conn → 0 < conn
+    → AllAllowed plan.settings → plan.keys ≡ pair_of engine rbc kmac ∷ [] → plan.rbc ≡ rbc → m.newest ≡ conn → 0 < conn → m.listening ≡ a.listening
     → HasBegun plan (wires.Dials address (Some conn)) a m → stays ≡ false → Opened plan (caller_of engine kmac) m b (beginning minds words) conn l 0 (halt_if stays)
     → HasDialled (outside_of a) (outside_of b) plan (caller_of engine kmac) address minds words 0 (Some OnClosed)
-dial_closed laws engine rbc kmac plan a m b minds words address conn l stays allowed keys number top above begun closed p =
-    dial_done laws engine rbc kmac plan a m b minds words address conn l 0 (Some OnClosed) allowed keys number top above begun
+dial_closed laws engine rbc kmac plan a m b minds words address conn l stays allowed keys number top above hears begun closed p =
+    dial_done laws engine rbc kmac plan a m b minds words address conn l 0 (Some OnClosed) allowed keys number top above hears begun
     (closed_on plan (caller_of engine kmac) m b minds words conn l
     (subst (λ z. Opened plan (caller_of engine kmac) m b (beginning minds words) conn l 0 (halt_if z)) closed p))
 
@@ -356,12 +365,12 @@ from_start P minds words l0 n0 n is zero same p =
     subst (λ z. P (course_of z 0 []) 0) is (subst (λ z. P (course_of l0 z []) z) zero (subst (λ z. P (course_of l0 n0 []) z) same p))
 
 pub dial_closed_from : (laws : Laws) (engine rbc : ℕ) (kmac : TripleKey) (plan : Plan) (a m b : Around) (minds : List Mind) (words : Stream) (address : List ℕ) (conn : ℕ) (l0 l : Loop) (n0 n : ℕ) (stays : Bool)
-    → AllAllowed plan.settings → plan.keys ≡ pair_of engine rbc kmac ∷ [] → plan.rbc ≡ rbc → m.newest ≡ conn → 0 < conn
+    → AllAllowed plan.settings → plan.keys ≡ pair_of engine rbc kmac ∷ [] → plan.rbc ≡ rbc → m.newest ≡ conn → 0 < conn → m.listening ≡ a.listening
     → HasBegun plan (wires.Dials address (Some conn)) a m → stays ≡ false → l0 ≡ (beginning minds words).loop → n0 ≡ 0 → n ≡ n0
     → Opens plan (caller_of engine kmac) m b (course_of l0 n0 []) conn l n (Ok stays)
     → HasDialled (outside_of a) (outside_of b) plan (caller_of engine kmac) address minds words 0 (Some OnClosed)
-dial_closed_from laws engine rbc kmac plan a m b minds words address conn l0 l n0 n stays allowed keys number top above begun closed is zero same p =
-    dial_closed laws engine rbc kmac plan a m b minds words address conn l stays allowed keys number top above begun closed
+dial_closed_from laws engine rbc kmac plan a m b minds words address conn l0 l n0 n stays allowed keys number top above hears begun closed is zero same p =
+    dial_closed laws engine rbc kmac plan a m b minds words address conn l stays allowed keys number top above hears begun closed
     (from_start (λ c z. Opened plan (caller_of engine kmac) m b c conn l z (halt_if stays)) minds words l0 n0 n is zero same p)
 
 pub dial_stops_from : (plan : Plan) (caller : Caller) (a m b : Around) (minds : List Mind) (words : Stream) (address : List ℕ) (conn : ℕ) (l0 new : Loop) (n0 n : ℕ) (fault : LoopFault)
@@ -372,15 +381,15 @@ dial_stops_from plan caller a m b minds words address conn l0 new n0 n fault beg
     (from_start (λ c z. Opens plan caller m b c conn new z (Err fault)) minds words l0 n0 n is zero same p)
 
 pub dial_ran_from : (laws : Laws) (engine rbc : ℕ) (kmac : TripleKey) (plan : Plan) (a m k b : Around) (minds : List Mind) (words : Stream) (address : List ℕ) (conn : ℕ) (l0 l new : Loop) (n0 n count : ℕ) (stays : Bool) (r : Result Served LoopFault)
-    → AllAllowed plan.settings → plan.keys ≡ pair_of engine rbc kmac ∷ [] → plan.rbc ≡ rbc → m.newest ≡ conn → 0 < conn
+    → AllAllowed plan.settings → plan.keys ≡ pair_of engine rbc kmac ∷ [] → plan.rbc ≡ rbc → m.newest ≡ conn → 0 < conn → m.listening ≡ a.listening
     → HasBegun plan (wires.Dials address (Some conn)) a m → stays ≡ true → l0 ≡ (beginning minds words).loop → n0 ≡ 0 → n ≡ n0
     → Opens plan (caller_of engine kmac) m k (course_of l0 n0 []) conn l n (Ok stays) → a.seen.sunk ≤ b.seen.sunk
     → ((asked : List ℕ) → Runs plan k b (course_of l 0 asked) new count r)
     → Dials plan (caller_of engine kmac) a b minds words address r
-dial_ran_from laws engine rbc kmac plan a m k b minds words address conn l0 l new n0 n count stays r allowed keys number top above begun goes is zero same p later q =
+dial_ran_from laws engine rbc kmac plan a m k b minds words address conn l0 l new n0 n count stays r allowed keys number top above hears begun goes is zero same p later q =
     let from : Opened plan (caller_of engine kmac) m k (beginning minds words) conn l 0 (halt_if stays) =
     from_start (λ c z. Opened plan (caller_of engine kmac) m k c conn l z (halt_if stays)) minds words l0 n0 n is zero same p in
-    dial_ran laws engine rbc kmac plan a m k b minds words address conn l new count r allowed keys number top above begun
+    dial_ran laws engine rbc kmac plan a m k b minds words address conn l new count r allowed keys number top above hears begun
     (subst (λ z. Opened plan (caller_of engine kmac) m k (beginning minds words) conn l 0 (halt_if z)) goes from) later q
 
 -- ---- the public clauses

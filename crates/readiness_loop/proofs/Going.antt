@@ -43,12 +43,12 @@ readied_opens plan c x = before_opens (rules_of plan) (max c.loop.moment x.first
 
 pub go_came : (plan : Plan) (a m b : Around) (l new : Loop) (ss : List Session) (n count first at : ℕ) (asked : List ℕ) (h : Option Halt)
     → at ≡ max l.moment first → Grew a.asked m.asked (first ∷ []) → Did a.seen m.seen ss (before (rules_of plan) at l.sessions)
-    → m.newest ≡ a.newest → m.turns_failed ≡ a.turns_failed → None ≡ halt_by plan ss
+    → m.newest ≡ a.newest → m.turns_failed ≡ a.turns_failed → m.listening ≡ a.listening → None ≡ halt_by plan ss
     → Went (turned_unless None plan (course_of (record l { sessions = ss; moment = at }) n (asked ++ first ∷ []))) m b
     (course_of (record l { sessions = ss; moment = at }) n (asked ++ first ∷ [])) new count h
     → Went (went plan (course_of l n asked)) a b (course_of l n asked) new count h
 unfolding went
-go_came plan a m b l new ss n count first at asked h moment clock did top fails none q =
+go_came plan a m b l new ss n count first at asked h moment clock did top fails hears none q =
     let x : Turn = record q.answers { first = first; sweeps = did.answers } in
     let c = course_of l n asked in
     let r = readied plan c x in
@@ -75,6 +75,8 @@ go_came plan a m b l new ss n count first at asked h moment clock did top fails 
         opened = is.opened ∙ ap (λ z. newest z (opened_in o.calls)) top ∙ ap (newest a.newest) (sym calls_are);
         rises = subst (λ z. Rises a.newest z) (sym calls_are) (subst (λ z. Rises z (opened_in o.calls)) top is.rises);
         failed = (let p : m.turns_failed ≤ b.turns_failed = is.failed in omega (arith, p, fails));
+        listens = is.listens ∙ hears;
+        alone = λ deaf. calls_are ∙ is.alone (hears ∙ deaf);
       };
     }
 
@@ -101,17 +103,17 @@ go_off plan a m b l ss n first at asked fault moment did none q =
 
 pub go_on : (plan : Plan) (a m b : Around) (l new : Loop) (ss : List Session) (n count first at : ℕ) (asked : List ℕ) (r : Result Next LoopFault)
     → at ≡ max l.moment first → Grew a.asked m.asked (first ∷ []) → Did a.seen m.seen ss (before (rules_of plan) at l.sessions)
-    → m.newest ≡ a.newest → m.turns_failed ≡ a.turns_failed → None ≡ halt_by plan ss
+    → m.newest ≡ a.newest → m.turns_failed ≡ a.turns_failed → m.listening ≡ a.listening → None ≡ halt_by plan ss
     → Turned plan m b (course_of (record l { sessions = ss; moment = at }) n (asked ++ first ∷ [])) new count r
     → Turns plan a b (course_of l n asked) new count r
-go_on plan a m b l new ss n count first at asked (Ok then_) moment clock did top fails none q =
-    go_came plan a m b l new ss n count first at asked (halt_of then_) moment clock did top fails none q
-go_on plan a m b l new ss n count first at asked (Err Wires) moment clock did top fails none q = record {
-  went = go_came plan a m b l new ss n count first at asked (Some OnFailed) moment clock did top fails none q.went;
+go_on plan a m b l new ss n count first at asked (Ok then_) moment clock did top fails hears none q =
+    go_came plan a m b l new ss n count first at asked (halt_of then_) moment clock did top fails hears none q
+go_on plan a m b l new ss n count first at asked (Err Wires) moment clock did top fails hears none q = record {
+  went = go_came plan a m b l new ss n count first at asked (Some OnFailed) moment clock did top fails hears none q.went;
   rose = subst (λ z. Rose z b.turns_failed) fails q.rose;
 }
-go_on plan a m b l new ss n count first at asked (Err Sink) moment clock did top fails none q = go_off plan a m b l ss n first at asked Sink moment did none q
-go_on plan a m b l new ss n count first at asked (Err (NoMemory want)) moment clock did top fails none q =
+go_on plan a m b l new ss n count first at asked (Err Sink) moment clock did top fails hears none q = go_off plan a m b l ss n first at asked Sink moment did none q
+go_on plan a m b l new ss n count first at asked (Err (NoMemory want)) moment clock did top fails hears none q =
     go_off plan a m b l ss n first at asked (NoMemory want) moment did none q
 
 -- what comes before the turn broke off
@@ -140,10 +142,10 @@ go_stops plan a b l new n count first at asked (NoMemory want) moment p = before
 -- it closed the one connection of a dial
 pub go_closed : (plan : Plan) (a b : Around) (l : Loop) (ss : List Session) (n first at : ℕ) (asked : List ℕ)
     → at ≡ max l.moment first → Grew a.asked b.asked (first ∷ []) → Did a.seen b.seen ss (before (rules_of plan) at l.sessions)
-    → b.newest ≡ a.newest → b.turns_failed ≡ a.turns_failed → Some OnClosed ≡ halt_by plan ss
+    → b.newest ≡ a.newest → b.turns_failed ≡ a.turns_failed → b.listening ≡ a.listening → Some OnClosed ≡ halt_by plan ss
     → Went (went plan (course_of l n asked)) a b (course_of l n asked) (record l { sessions = ss; moment = at }) n (Some OnClosed)
 unfolding went
-go_closed plan a b l ss n first at asked moment clock did top fails halts =
+go_closed plan a b l ss n first at asked moment clock did top fails hears halts =
     let x : Turn = record nothing_comes { first = first; sweeps = did.answers } in
     let c = course_of l n asked in
     let r = readied plan c x in
@@ -168,6 +170,8 @@ go_closed plan a b l ss n first at asked moment clock did top fails halts =
             opened = top ∙ ap (newest a.newest) (sym calls_are);
             rises = subst (λ z. Rises a.newest z) (sym calls_are) tt;
             failed = omega (arith, fails);
+            listens = hears;
+            alone = λ deaf. calls_are;
           });
     }
 
@@ -181,21 +185,21 @@ closed_now plan ss n b p q r = sym (closed_is plan ss n b p q ∙ ap (λ (z : Bo
 
 pub go_on_from : (plan : Plan) (a m b : Around) (l l1 new : Loop) (ss : List Session) (n n1 count first at : ℕ) (asked : List ℕ) (r : Result Next LoopFault)
     → at ≡ max l.moment first → Grew a.asked m.asked (first ∷ []) → Did a.seen m.seen ss (before (rules_of plan) at l.sessions)
-    → m.newest ≡ a.newest → m.turns_failed ≡ a.turns_failed → None ≡ halt_by plan ss
+    → m.newest ≡ a.newest → m.turns_failed ≡ a.turns_failed → m.listening ≡ a.listening → None ≡ halt_by plan ss
     → l1 ≡ record l { sessions = ss; moment = at } → n1 ≡ n
     → Turned plan m b (course_of l1 n1 (asked ++ first ∷ [])) new count r
     → Turns plan a b (course_of l n asked) new count r
-go_on_from plan a m b l l1 new ss n n1 count first at asked r moment clock did top fails none is same q =
-    go_on plan a m b l new ss n count first at asked r moment clock did top fails none
+go_on_from plan a m b l l1 new ss n n1 count first at asked r moment clock did top fails hears none is same q =
+    go_on plan a m b l new ss n count first at asked r moment clock did top fails hears none
     (subst (λ z. Turned plan m b (course_of (record l { sessions = ss; moment = at }) z (asked ++ first ∷ [])) new count r) same
     (subst (λ z. Turned plan m b (course_of z n1 (asked ++ first ∷ [])) new count r) is q))
 
 pub go_closed_from : (plan : Plan) (a b : Around) (l l1 : Loop) (ss : List Session) (n n1 first at : ℕ) (asked : List ℕ)
     → at ≡ max l.moment first → Grew a.asked b.asked (first ∷ []) → Did a.seen b.seen ss (before (rules_of plan) at l.sessions)
-    → b.newest ≡ a.newest → b.turns_failed ≡ a.turns_failed → Some OnClosed ≡ halt_by plan ss
+    → b.newest ≡ a.newest → b.turns_failed ≡ a.turns_failed → b.listening ≡ a.listening → Some OnClosed ≡ halt_by plan ss
     → l1 ≡ record l { sessions = ss; moment = at } → n1 ≡ n
     → Went (went plan (course_of l n asked)) a b (course_of l n asked) l1 n1 (Some OnClosed)
-go_closed_from plan a b l l1 ss n n1 first at asked moment clock did top fails halts is same =
+go_closed_from plan a b l l1 ss n n1 first at asked moment clock did top fails hears halts is same =
     subst (λ z. Went (went plan (course_of l n asked)) a b (course_of l n asked) l1 z (Some OnClosed)) (sym same)
     (subst (λ z. Went (went plan (course_of l n asked)) a b (course_of l n asked) z n (Some OnClosed)) (sym is)
-    (go_closed plan a b l ss n first at asked moment clock did top fails halts))
+    (go_closed plan a b l ss n first at asked moment clock did top fails hears halts))

@@ -79,6 +79,7 @@ serves_done laws plan a m b minds words address new count why begun w =
           let less : a.seen.failed ≤ m.seen.failed = begun.failed in
           let counted : min (m.seen.failed + failures o.calls) (2 ^ 64 - 1) ≤ b.seen.failed = w.is.acted.counted in
           omega (arith, few, less, counted));
+      in_grammar = w.is.acted.in_grammar;
     }
 
 serves_lawful : (laws : Laws) (plan : Plan) (minds : List Mind) (words : Stream) (address : List ℕ) (turns : List Turn)

@@ -76,6 +76,8 @@ ran_none plan a l n asked = record {
     opened = refl;
     rises = tt;
     failed = omega arith;
+    listens = refl;
+    alone = λ deaf. refl;
   };
 }
 
@@ -114,6 +116,8 @@ came_next a m b c o f l new n count h why p q =
       opened = q.opened ∙ ap (λ z. newest z (opened_in w.calls)) p.opened ∙ sym (newest-append a.newest (opened_in o.calls) (opened_in w.calls)) ∙ ap (newest a.newest) (sym calls_are);
       rises = subst (λ z. Rises a.newest z) (sym calls_are) (rises-append a.newest (opened_in o.calls) (opened_in w.calls) p.rises (subst (λ z. Rises z (opened_in w.calls)) p.opened q.rises));
       failed = (let s : a.turns_failed ≤ m.turns_failed = p.failed in let t : m.turns_failed ≤ b.turns_failed = q.failed in omega (arith, s, t));
+      listens = q.listens ∙ p.listens;
+      alone = λ deaf. calls_are ∙ ap (λ z. z ++ opened_in w.calls) (p.alone deaf) ∙ q.alone (p.listens ∙ deaf);
     }
 
 -- one turn more

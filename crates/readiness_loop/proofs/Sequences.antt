@@ -2,12 +2,13 @@
 use Rattle.std.proofs.Common.{◌≡◌, ◌≤◌, [], refl, sym, subst, arith}
 use Rattle.link_trait.specs.Outside.{Grew, GrewPart}
 use Rattle.link_trait.specs.Growth.{grew_nothing, grew_then, part_then}
+use Rattle.loop_model.specs.Grammar.{AreInGrammar}
 use Rattle.loop_model.specs.Journals.{text}
 use Rattle.loop_model.specs.Outs.{Out, still, next}
 use Rattle.loop_model.specs.Laws.{failures}
 use Rattle.loop_session.specs.declared.loop_fault.LoopFault.{LoopFault}
 use Rattle.loop_visit.specs.Acting.{Seen, AreAnsweredSo, Counts, Acted, Began, BreaksAt}
-use Rattle.loop_visit.specs.Sequels.{text_parts, answered_parts, counts_then, began_then, failed_behind}
+use Rattle.loop_visit.specs.Sequels.{text_parts, answered_parts, grammar_parts, counts_then, began_then, failed_behind}
 
 pub failures-none : failures [] ≡ 0
 unfolding failures
@@ -26,6 +27,7 @@ acted_as a b x y o p same is h = record {
   told = subst (λ z. Grew a.calls b.calls z) (sym same.calls) h.told;
   answered = subst AreAnsweredSo (sym same.calls) h.answered;
   counted = subst (λ z. Counts a.failed b.failed z) (sym same.calls) h.counted;
+  in_grammar = subst AreInGrammar (sym same.entries) h.in_grammar;
 }
 
 pub breaks_as : {S T : Type 0} (a b : Seen) (o : Out S) (p : Out T) (fault : LoopFault) → SaysSame o p → BreaksAt a b o fault → BreaksAt a b p fault
@@ -44,6 +46,7 @@ acted_still a x y is = record {
   told = grew_nothing a.calls;
   answered = tt;
   counted = rw failures-none (omega arith);
+  in_grammar = tt;
 }
 
 -- one part, and another behind it
@@ -56,6 +59,7 @@ acted_then a b c x y o f p q = record {
   told = grew_then a.calls b.calls c.calls o.calls (f o.state).calls p.told q.told;
   answered = answered_parts o.calls (f o.state).calls p.answered q.answered;
   counted = counts_then a.failed b.failed c.failed o.calls (f o.state).calls p.counted q.counted;
+  in_grammar = grammar_parts o.entries (f o.state).entries p.in_grammar q.in_grammar;
 }
 
 -- the second part breaks off

@@ -1,5 +1,5 @@
 -- A turn: what happens is handled whole, and why the loop halts behind it.
-use Rattle.std.proofs.Common.{◌≡◌, ℕ, ◌+◌, ◌-◌, ◌≤◌, max, nat_lt, Bool, inl, inr, List, [], ◌∷◌, ◌++◌, Option, Some, None, Result, Ok, Err, length, refl, sym, ◌∙◌, ap, subst, arith, append-nil}
+use Rattle.std.proofs.Common.{◌≡◌, ℕ, ◌+◌, ◌-◌, ◌≤◌, max, nat_lt, Bool, true, false, inl, inr, List, [], ◌∷◌, ◌++◌, Option, Some, None, Result, Ok, Err, length, refl, sym, ◌∙◌, ap, subst, arith, append-nil}
 use Rattle.std.specs.Prelude.{◌==◌, ◌&&◌, if◌then◌else◌}
 use Rattle.std.proofs.lemmas.Bool.{cases_Bool}
 use Rattle.slab.specs.Slab.{Slab}
@@ -114,6 +114,15 @@ newest_by happening.Quiet before now p number = (p, tt)
 newest_by happening.Ended before now p number = (p, tt)
 newest_by happening.Failed before now p number = (p, tt)
 
+-- wires that don't listen accept none
+none_by : (what : Happening) (heard : Bool) → ((conn : Conn) → what ≡ happening.Accepted conn → heard ≡ true) → heard ≡ false → opened_by what ≡ []
+none_by (happening.Accepted conn) heard hearing deaf = absurd (let p : true ≡ false = sym (hearing conn refl) ∙ deaf in cc)
+none_by (happening.Readable conn) heard hearing deaf = refl
+none_by (happening.Writable conn) heard hearing deaf = refl
+none_by happening.Quiet heard hearing deaf = refl
+none_by happening.Ended heard hearing deaf = refl
+none_by happening.Failed heard hearing deaf = refl
+
 -- ---- a turn and what follows
 
 -- the turn itself, as one part
@@ -127,21 +136,23 @@ turn_acted h f calls now x y s at what p less = record {
   told = p;
   answered = (tt, tt);
   counted = omega (arith, less);
+  in_grammar = tt;
 }
 
 -- what was met
 met_in : Happening → ℕ → Met → Turn
 met_in what at met = record { first = 0; sweeps = record { ticks = []; closings = [] }; happening = what; second = at; met = met }
 
-pub turned_came : (plan : Plan) (h i : Option (List ℕ)) (f g : ℕ) (calls mid now : Option (List Call)) (x y z : ℕ) (tf tg : ℕ) (before opened : ℕ) (k j : Option (List ℕ))
+pub turned_came : (plan : Plan) (h i : Option (List ℕ)) (f g : ℕ) (calls mid now : Option (List Call)) (x y z : ℕ) (tf tg : ℕ) (before opened : ℕ) (heard hears : Bool) (k j : Option (List ℕ))
     (l new : Loop) (n : ℕ) (asked : List ℕ) (at : Option ℕ) (what : Happening) (second : ℕ) (why : Option Halt)
     → at ≡ until l.sessions → Grew calls mid (Turns at what ∷ []) → x ≤ y → Grew k j (second ∷ [])
     → Did (seen h f mid y) (seen i g now z) new (happened plan (record l { moment = max l.moment second }) what)
     → opened ≡ opened_by_turn what before → ((conn : Conn) → what ≡ happening.Accepted conn → conn.0 ≡ before + 1) → tf ≤ tg
+    → hears ≡ heard → ((conn : Conn) → what ≡ happening.Accepted conn → heard ≡ true)
     → why ≡ halt_behind plan what new.sessions
-    → Went (turned_unless None plan (course_of l n asked)) (around (seen h f calls x) tf before k) (around (seen i g now z) tg opened j) (course_of l n asked) new (n + 1) why
+    → Went (turned_unless None plan (course_of l n asked)) (around (seen h f calls x) tf before heard k) (around (seen i g now z) tg opened hears j) (course_of l n asked) new (n + 1) why
 unfolding met_in opened_in
-turned_came plan h i f g calls mid now x y z tf tg before opened k j l new n asked at what second why due told less clock did op number fewer halts =
+turned_came plan h i f g calls mid now x y z tf tg before opened heard hears k j l new n asked at what second why due told less clock did op number fewer same hearing halts =
     let c = course_of l n asked in
     let a = met_in what second did.answers in
     let d : Course = record { loop = record l { moment = max l.moment second }; turns = n + 1; halt = None; asked = asked ++ second ∷ [] } in
@@ -163,16 +174,18 @@ turned_came plan h i f g calls mid now x y z tf tg before opened k j l new n ask
         opened = counts.0 ∙ ap (newest before) (sym calls_are);
         rises = subst (λ t. Rises before t) (sym calls_are) counts.1;
         failed = fewer;
+        listens = same;
+        alone = λ deaf. calls_are ∙ none_by what heard hearing deaf;
       };
     }
 
-went_off : (plan : Plan) (h i : Option (List ℕ)) (f g : ℕ) (calls mid now : Option (List Call)) (x y z : ℕ) (tf tg : ℕ) (before opened : ℕ) (k j : Option (List ℕ))
+went_off : (plan : Plan) (h i : Option (List ℕ)) (f g : ℕ) (calls mid now : Option (List Call)) (x y z : ℕ) (tf tg : ℕ) (before opened : ℕ) (heard hears : Bool) (k j : Option (List ℕ))
     (l : Loop) (n : ℕ) (asked : List ℕ) (at : Option ℕ) (what : Happening) (second : ℕ) (fault : LoopFault)
     → at ≡ until l.sessions → Grew calls mid (Turns at what ∷ []) → x ≤ y
     → Stopped (seen h f mid y) (seen i g now z) (happened plan (record l { moment = max l.moment second }) what) fault
-    → WentOff (turned_unless None plan (course_of l n asked)) (around (seen h f calls x) tf before k) (around (seen i g now z) tg opened j) fault
+    → WentOff (turned_unless None plan (course_of l n asked)) (around (seen h f calls x) tf before heard k) (around (seen i g now z) tg opened hears j) fault
 unfolding met_in
-went_off plan h i f g calls mid now x y z tf tg before opened k j l n asked at what second fault due told less p =
+went_off plan h i f g calls mid now x y z tf tg before opened heard hears k j l n asked at what second fault due told less p =
     let c = course_of l n asked in
     let a = met_in what second p.answers in
     let d : Course = record { loop = record l { moment = max l.moment second }; turns = n + 1; halt = None; asked = asked ++ second ∷ [] } in
@@ -183,16 +196,16 @@ went_off plan h i f g calls mid now x y z tf tg before opened k j l n asked at w
           (breaks_as (seen h f mid y) (seen i g now z) (happened plan d.loop what p.answers) (follows plan d a) fault (record { entries = refl; calls = refl }) p.breaks);
     }
 
-pub turned_off : (plan : Plan) (h i : Option (List ℕ)) (f g : ℕ) (calls mid now : Option (List Call)) (x y z : ℕ) (tf tg : ℕ) (before opened : ℕ) (k j : Option (List ℕ))
+pub turned_off : (plan : Plan) (h i : Option (List ℕ)) (f g : ℕ) (calls mid now : Option (List Call)) (x y z : ℕ) (tf tg : ℕ) (before opened : ℕ) (heard hears : Bool) (k j : Option (List ℕ))
     (l new : Loop) (n m : ℕ) (asked : List ℕ) (at : Option ℕ) (what : Happening) (second : ℕ) (fault : LoopFault)
     → at ≡ until l.sessions → Grew calls mid (Turns at what ∷ []) → x ≤ y
     → Stopped (seen h f mid y) (seen i g now z) (happened plan (record l { moment = max l.moment second }) what) fault
-    → Turned plan (around (seen h f calls x) tf before k) (around (seen i g now z) tg opened j) (course_of l n asked) new m (Err fault)
-turned_off plan h i f g calls mid now x y z tf tg before opened k j l new n m asked at what second Wires due told less p = absurd p.breaks.failed
-turned_off plan h i f g calls mid now x y z tf tg before opened k j l new n m asked at what second Sink due told less p =
-    went_off plan h i f g calls mid now x y z tf tg before opened k j l n asked at what second Sink due told less p
-turned_off plan h i f g calls mid now x y z tf tg before opened k j l new n m asked at what second (NoMemory want) due told less p =
-    went_off plan h i f g calls mid now x y z tf tg before opened k j l n asked at what second (NoMemory want) due told less p
+    → Turned plan (around (seen h f calls x) tf before heard k) (around (seen i g now z) tg opened hears j) (course_of l n asked) new m (Err fault)
+turned_off plan h i f g calls mid now x y z tf tg before opened heard hears k j l new n m asked at what second Wires due told less p = absurd p.breaks.failed
+turned_off plan h i f g calls mid now x y z tf tg before opened heard hears k j l new n m asked at what second Sink due told less p =
+    went_off plan h i f g calls mid now x y z tf tg before opened heard hears k j l n asked at what second Sink due told less p
+turned_off plan h i f g calls mid now x y z tf tg before opened heard hears k j l new n m asked at what second (NoMemory want) due told less p =
+    went_off plan h i f g calls mid now x y z tf tg before opened heard hears k j l n asked at what second (NoMemory want) due told less p
 
 not_failed : (plan : Plan) (ss : List Session) → Some OnFailed ≡ halt_by plan ss → ⊥
 not_failed plan ss p =
@@ -210,21 +223,22 @@ failed_only plan happening.Ended ss p = absurd (let q : Some OnFailed ≡ Some O
 failed_only plan happening.Failed ss p = refl
 
 -- by what follows the happening
-pub turned_on : (plan : Plan) (h i : Option (List ℕ)) (f g : ℕ) (calls mid now : Option (List Call)) (x y z : ℕ) (tf tg : ℕ) (before opened : ℕ) (k j : Option (List ℕ))
+pub turned_on : (plan : Plan) (h i : Option (List ℕ)) (f g : ℕ) (calls mid now : Option (List Call)) (x y z : ℕ) (tf tg : ℕ) (before opened : ℕ) (heard hears : Bool) (k j : Option (List ℕ))
     (l new : Loop) (n : ℕ) (asked : List ℕ) (at : Option ℕ) (what : Happening) (second : ℕ) (r : Result Next LoopFault)
     → at ≡ until l.sessions → Grew calls mid (Turns at what ∷ []) → x ≤ y → Grew k j (second ∷ [])
     → Did (seen h f mid y) (seen i g now z) new (happened plan (record l { moment = max l.moment second }) what)
     → opened ≡ opened_by_turn what before → ((conn : Conn) → what ≡ happening.Accepted conn → conn.0 ≡ before + 1) → tf ≤ tg
+    → hears ≡ heard → ((conn : Conn) → what ≡ happening.Accepted conn → heard ≡ true)
     → (what ≡ happening.Failed → Rose tf tg) → HaltsSo r (halt_behind plan what new.sessions)
-    → Turned plan (around (seen h f calls x) tf before k) (around (seen i g now z) tg opened j) (course_of l n asked) new (n + 1) r
-turned_on plan h i f g calls mid now x y z tf tg before opened k j l new n asked at what second (Ok then_) due told less clock did op number fewer cause p =
-    turned_came plan h i f g calls mid now x y z tf tg before opened k j l new n asked at what second (halt_of then_) due told less clock did op number fewer p
-turned_on plan h i f g calls mid now x y z tf tg before opened k j l new n asked at what second (Err Wires) due told less clock did op number fewer cause p = record {
-  went = turned_came plan h i f g calls mid now x y z tf tg before opened k j l new n asked at what second (Some OnFailed) due told less clock did op number fewer p;
+    → Turned plan (around (seen h f calls x) tf before heard k) (around (seen i g now z) tg opened hears j) (course_of l n asked) new (n + 1) r
+turned_on plan h i f g calls mid now x y z tf tg before opened heard hears k j l new n asked at what second (Ok then_) due told less clock did op number fewer same hearing cause p =
+    turned_came plan h i f g calls mid now x y z tf tg before opened heard hears k j l new n asked at what second (halt_of then_) due told less clock did op number fewer same hearing p
+turned_on plan h i f g calls mid now x y z tf tg before opened heard hears k j l new n asked at what second (Err Wires) due told less clock did op number fewer same hearing cause p = record {
+  went = turned_came plan h i f g calls mid now x y z tf tg before opened heard hears k j l new n asked at what second (Some OnFailed) due told less clock did op number fewer same hearing p;
   rose = cause (failed_only plan what new.sessions p);
 }
-turned_on plan h i f g calls mid now x y z tf tg before opened k j l new n asked at what second (Err Sink) due told less clock did op number fewer cause p = absurd p
-turned_on plan h i f g calls mid now x y z tf tg before opened k j l new n asked at what second (Err (NoMemory want)) due told less clock did op number fewer cause p = absurd p
+turned_on plan h i f g calls mid now x y z tf tg before opened heard hears k j l new n asked at what second (Err Sink) due told less clock did op number fewer same hearing cause p = absurd p
+turned_on plan h i f g calls mid now x y z tf tg before opened heard hears k j l new n asked at what second (Err (NoMemory want)) due told less clock did op number fewer same hearing cause p = absurd p
 
 -- the halt behind a happening, by its two parts
 pub halts_as : (plan : Plan) (what : Happening) (ss : List Session) (why : Option Halt) (r : Result Next LoopFault) → why ≡ halt_by plan ss → HaltsSo r (halt_after what why)
@@ -267,27 +281,27 @@ pub closed_is : (plan : Plan) (ss : List Session) (n : ℕ) (b : Bool) → b ≡
 closed_is plan ss n b p q =
     ap (λ (z : ℕ). if plan.dials && (z == 0) then Some OnClosed else None) q ∙ ap (λ (z : Bool). if z then Some OnClosed else None) (sym p)
 
-pub turn_goes : (plan : Plan) (h i : Option (List ℕ)) (f g : ℕ) (calls mid now : Option (List Call)) (x y z : ℕ) (tf tm tg : ℕ) (before between opened : ℕ) (k j : Option (List ℕ))
+pub turn_goes : (plan : Plan) (h i : Option (List ℕ)) (f g : ℕ) (calls mid now : Option (List Call)) (x y z : ℕ) (tf tm tg : ℕ) (before between opened : ℕ) (heard hears : Bool) (k j : Option (List ℕ))
     (l new : Loop) (n count m : ℕ) (asked : List ℕ) (at : Option ℕ) (what : Happening) (second : ℕ) (closed : Bool) (entries : ℕ) (r : Result Next LoopFault)
     → at ≡ until l.sessions → Grew calls mid (Turns at what ∷ []) → x ≤ y → Grew k j (second ∷ []) → m ≡ max l.moment second
     → Did (seen h f mid y) (seen i g now z) new (happened plan (record l { moment = m }) what)
     → between ≡ opened_by_turn what before → opened ≡ between → ((conn : Conn) → what ≡ happening.Accepted conn → conn.0 ≡ before + 1)
-    → tf ≤ tm → tg ≡ tm → (what ≡ happening.Failed → Rose tf tm) → count ≡ n + 1
+    → tf ≤ tm → tg ≡ tm → hears ≡ heard → ((conn : Conn) → what ≡ happening.Accepted conn → heard ≡ true) → (what ≡ happening.Failed → Rose tf tm) → count ≡ n + 1
     → closed ≡ (plan.dials && (entries == 0)) → length new.sessions ≡ entries
     → ((why : Option Halt) → why ≡ (if closed then Some OnClosed else None) → HaltsSo r (halt_after what why))
-    → Turned plan (around (seen h f calls x) tf before k) (around (seen i g now z) tg opened j) (course_of l n asked) new count r
-turn_goes plan h i f g calls mid now x y z tf tm tg before between opened k j l new n count m asked at what second closed entries r due told less clock moment did op same number fewer tops cause counted is_closed len halts =
-    subst (λ t. Turned plan (around (seen h f calls x) tf before k) (around (seen i g now z) tg opened j) (course_of l n asked) new t r) (sym counted)
-    (turned_on plan h i f g calls mid now x y z tf tg before opened k j l new n asked at what second r due told less clock
+    → Turned plan (around (seen h f calls x) tf before heard k) (around (seen i g now z) tg opened hears j) (course_of l n asked) new count r
+turn_goes plan h i f g calls mid now x y z tf tm tg before between opened heard hears k j l new n count m asked at what second closed entries r due told less clock moment did op same number fewer tops listens hearing cause counted is_closed len halts =
+    subst (λ t. Turned plan (around (seen h f calls x) tf before heard k) (around (seen i g now z) tg opened hears j) (course_of l n asked) new t r) (sym counted)
+    (turned_on plan h i f g calls mid now x y z tf tg before opened heard hears k j l new n asked at what second r due told less clock
     (subst (λ t. Did (seen h f mid y) (seen i g now z) new (happened plan (record l { moment = t }) what)) moment did)
-    (same ∙ op) number (omega (arith, fewer, tops)) (λ p. subst (λ t. Rose tf t) (sym tops) (cause p))
+    (same ∙ op) number (omega (arith, fewer, tops)) listens hearing (λ p. subst (λ t. Rose tf t) (sym tops) (cause p))
     (halts_as plan what new.sessions (halt_by plan new.sessions) r refl (halts (halt_by plan new.sessions) (closed_is plan new.sessions entries closed is_closed len))))
 
-pub turn_stops : (plan : Plan) (h i : Option (List ℕ)) (f g : ℕ) (calls mid now : Option (List Call)) (x y z : ℕ) (tf tg : ℕ) (before opened : ℕ) (k j : Option (List ℕ))
+pub turn_stops : (plan : Plan) (h i : Option (List ℕ)) (f g : ℕ) (calls mid now : Option (List Call)) (x y z : ℕ) (tf tg : ℕ) (before opened : ℕ) (heard hears : Bool) (k j : Option (List ℕ))
     (l new : Loop) (n count m : ℕ) (asked : List ℕ) (at : Option ℕ) (what : Happening) (second : ℕ) (fault : LoopFault)
     → at ≡ until l.sessions → Grew calls mid (Turns at what ∷ []) → x ≤ y → m ≡ max l.moment second
     → Stopped (seen h f mid y) (seen i g now z) (happened plan (record l { moment = m }) what) fault
-    → Turned plan (around (seen h f calls x) tf before k) (around (seen i g now z) tg opened j) (course_of l n asked) new count (Err fault)
-turn_stops plan h i f g calls mid now x y z tf tg before opened k j l new n count m asked at what second fault due told less moment p =
-    turned_off plan h i f g calls mid now x y z tf tg before opened k j l new n count asked at what second fault due told less
+    → Turned plan (around (seen h f calls x) tf before heard k) (around (seen i g now z) tg opened hears j) (course_of l n asked) new count (Err fault)
+turn_stops plan h i f g calls mid now x y z tf tg before opened heard hears k j l new n count m asked at what second fault due told less moment p =
+    turned_off plan h i f g calls mid now x y z tf tg before opened heard hears k j l new n count asked at what second fault due told less
     (subst (λ t. Stopped (seen h f mid y) (seen i g now z) (happened plan (record l { moment = t }) what) fault) moment p)

@@ -7,10 +7,11 @@ use Rattle.safety_automaton.specs.Keys as keys
 use Rattle.er_users.specs.Users.{Mind}
 use Rattle.link_trait.specs.Outside.{Grew, GrewPart}
 use Rattle.link_trait.specs.Wires.{Listens, Dials}
+use Rattle.loop_model.specs.Grammar.{AreInGrammar}
 use Rattle.loop_model.specs.Outs.{Out}
 use Rattle.loop_model.specs.Loops.{Plan, Halt, OnEnded, OnClosed, OnFailed, Course, Turn, beginning, serves, Caller, Dialled, dials, printed}
 use Rattle.loop_model.specs.Laws.{IsIsolated, IsPrinted, AreAccounted, AreOnOpen, faults, HaltsBy, turns_of, greatest}
-use Rattle.loop_model.specs.Parts.{of}
+use Rattle.loop_model.specs.Parts.{of, opened_in}
 use Rattle.loop_model.specs.Points.{AreHeard, user_of, IsSpoken}
 use Rattle.loop_model.specs.Recordings.{IsReplayed}
 use Rattle.loop_visit.specs.Acting.{Seen, Began, AreAnsweredSo}
@@ -35,9 +36,11 @@ dialling kmac plan engine rbc handed =
 
 -- ---- what is seen of the outside
 
--- the sink: what it holds, and how often it failed; the wires: the calls, and how often they failed; the clock: its answers
+-- the sink: what it holds, and how often it failed; the wires: the calls, how often they failed, and whether they listen; the clock: its
+-- answers
 pub record Outside : Type 0 where
   pub seen : Seen
+  pub listening : Bool
   pub clock : Option (List ℕ)
 
 -- all that a loop prints and calls was printed and called: behind the header, where that was printed; and the clock was asked so
@@ -49,6 +52,8 @@ pub record IsDone (before now : Outside) (began : Bool) (plan : Plan) (o : Out C
   pub answered : AreAnsweredSo o.calls
   -- each event `fault` is one that the wires counted
   pub faults : min (before.seen.failed + faults o.entries) (2 ^ 64 - 1) ≤ now.seen.failed
+  -- each event line is in the grammar of traces
+  pub in_grammar : AreInGrammar o.entries
 
 -- a beginning of it was printed and called
 pub record IsBegun (before now : Outside) (plan : Plan) (o : Out Course) : Type 0 where
@@ -91,8 +96,8 @@ halt_for stop.Closed = Some OnClosed
 
 -- ---- the answers
 
-abbrev pub outside : Seen → Option (List ℕ) → Outside
-outside seen clock = record { seen = seen; clock = clock }
+abbrev pub outside : Seen → Bool → Option (List ℕ) → Outside
+outside seen listening clock = record { seen = seen; listening = listening; clock = clock }
 
 -- a loop that serves, for some answers of the outside: what it printed and called, and how it stopped
 pub record HasServed (before now : Outside) (plan : Plan) (address : List ℕ) (minds : List Mind) (words : Stream) (count : ℕ) (why : Option Halt) : Type 0 where
@@ -127,6 +132,8 @@ pub record HasDialled (before now : Outside) (plan : Plan) (caller : Caller) (ad
   pub lawful : IsLawful plan (dials plan caller (beginning minds words) address answers)
   pub replies : AreSpoken minds (dials plan caller (beginning minds words) address answers)
   pub turns : HasTurns plan (dials plan caller (beginning minds words) address answers) count why
+  -- where the wires didn't listen before, no other connection was opened
+  pub alone : before.listening ≡ false → opened_in (dials plan caller (beginning minds words) address answers).calls ≡ conn ∷ []
 
 pub record NeverDialled (before now : Outside) (address : List ℕ) : Type 0 where
   pub text : Grew before.seen.held now.seen.held []

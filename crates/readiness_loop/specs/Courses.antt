@@ -38,15 +38,18 @@ plan_of entries plan = record { settings = plan.settings; keys = entries; rbc = 
 abbrev pub loop_of : Slab Session → BTreeMap ℕ ℕ → List Mind → ℕ → Stream → Loop
 loop_of slots places users moment words = record { sessions = sessions slots places; users = users; moment = moment; words = words }
 
--- what is seen of the outside: of the sink and the wires; how often a listen, dial or turn failed; the newest connection; the clock's answers
+-- what is seen of the outside: of the sink and the wires; how often a listen, dial or turn failed; the newest connection, and whether the
+-- wires listen; the clock's answers
 pub record Around : Type 0 where
   pub seen : Seen
   pub turns_failed : ℕ
   pub newest : ℕ
+  pub listening : Bool
   pub asked : Option (List ℕ)
 
-abbrev pub around : Seen → ℕ → ℕ → Option (List ℕ) → Around
-around s turns_failed newest asked = record { seen = s; turns_failed = turns_failed; newest = newest; asked = asked }
+abbrev pub around : Seen → ℕ → ℕ → Bool → Option (List ℕ) → Around
+around s turns_failed newest listening asked =
+    record { seen = s; turns_failed = turns_failed; newest = newest; listening = listening; asked = asked }
 
 -- so far the loop came from a course on, and this is what was printed, called and asked on the way
 pub record Came (a b : Around) (c : Course) (l : Loop) (n : ℕ) (h : Option Halt) (o : Out Course) : Type 0 where
@@ -60,6 +63,8 @@ pub record Came (a b : Around) (c : Course) (l : Loop) (n : ℕ) (h : Option Hal
   pub opened : b.newest ≡ newest a.newest (opened_in o.calls)
   pub rises : Rises a.newest (opened_in o.calls)
   pub failed : a.turns_failed ≤ b.turns_failed
+  pub listens : b.listening ≡ a.listening
+  pub alone : a.listening ≡ false → opened_in o.calls ≡ []
 
 -- there are answers for which the model of a part came so far
 pub record Went {A : Type 0} (model : A → Out Course) (a b : Around) (c : Course) (l : Loop) (n : ℕ) (h : Option Halt) : Type 0 where
@@ -145,7 +150,7 @@ IsReadyFor happening.Failed newest slots es = AreSeated newest slots es
 -- ---- the two calls
 
 abbrev pub outside_of : Around → Outside
-outside_of a = outside a.seen a.asked
+outside_of a = outside a.seen a.listening a.asked
 
 -- how a loop that serves ends
 abbrev pub Serves : Plan → Around → Around → List Mind → Stream → List ℕ → Result Served LoopFault → Type 0

@@ -99,6 +99,7 @@ impl<U: SafeUser> Book<U> {
         ensures seated { OnOk result (AreSeated (W.opened wires.new) self.new.slots self.new.places.entries) }
         ensures awaited { OnOk result (AreAwaited self.new.slots self.new.places self.new.wake_times.pairs) }
         ensures opened { W.opened wires.new ≡ W.opened wires.old }
+        ensures listening { W.listening wires.new ≡ W.listening wires.old }
         ensures turn_count { W.turn_faults wires.new ≡ W.turn_faults wires.old }
         ensures sunk { S.faults sink.old ≤ S.faults sink.new }
     {
@@ -153,6 +154,7 @@ impl<U: SafeUser> Book<U> {
         ensures seated { OnOk result (AreSeated (W.opened wires.new) self.new.slots self.new.places.entries) }
         ensures awaited { OnOk result (AreAwaited self.new.slots self.new.places self.new.wake_times.pairs) }
         ensures opened { W.opened wires.new ≡ W.opened wires.old }
+        ensures listening { W.listening wires.new ≡ W.listening wires.old }
         ensures turn_count { W.turn_faults wires.new ≡ W.turn_faults wires.old }
         ensures sunk { S.faults sink.old ≤ S.faults sink.new }
     {
@@ -193,6 +195,7 @@ impl<U: SafeUser> Book<U> {
         ensures seated { OnOk result (AreSeated (W.opened wires.new) self.new.slots self.new.places.entries) }
         ensures awaited { OnOk result (AreAwaited self.new.slots self.new.places self.new.wake_times.pairs) }
         ensures opened { W.opened wires.new ≡ W.opened wires.old }
+        ensures listening { W.listening wires.new ≡ W.listening wires.old }
         ensures turn_count { W.turn_faults wires.new ≡ W.turn_faults wires.old }
         ensures sunk { S.faults sink.old ≤ S.faults sink.new }
     {

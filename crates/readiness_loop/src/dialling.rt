@@ -40,8 +40,8 @@ fn dial_users<U: SafeUser, W: Wires, C: Clock, R: Rng, S: Sink>(
     requires same { plan.now.rbc ≡ pair.now.rbc }
     requires dials { plan.now.dials ≡ true }
     ensures does { Dials (plan_of (pair_of pair.now.engine pair.now.rbc pair.now.kmac ∷ []) plan.now) (caller_of pair.now.engine pair.now.kmac)
-        (around (seen (S.held sink.old) (S.faults sink.old) (W.calls wires.old) (W.faults wires.old)) (W.turn_faults wires.old) (W.opened wires.old) (C.answers clock.old))
-        (around (seen (S.held sink.new) (S.faults sink.new) (W.calls wires.new) (W.faults wires.new)) (W.turn_faults wires.new) (W.opened wires.new) (C.answers clock.new))
+        (around (seen (S.held sink.old) (S.faults sink.old) (W.calls wires.old) (W.faults wires.old)) (W.turn_faults wires.old) (W.opened wires.old) (W.listening wires.old) (C.answers clock.old))
+        (around (seen (S.held sink.new) (S.faults sink.new) (W.calls wires.new) (W.faults wires.new)) (W.turn_faults wires.new) (W.opened wires.new) (W.listening wires.new) (C.answers clock.new))
         (map U.mind users.items) (R.stream randoms.old) address.now result }
     ensures sunk { S.faults sink.old ≤ S.faults sink.new }
 {
@@ -95,19 +95,22 @@ pub fn dial<W: Wires, C: Clock, R: Rng, S: Sink>(
     requires settings { AllAllowed plan.now.settings }
     requires engine { engine < 2 ^ 24 }
     requires rbc { rbc < 2 ^ 24 }
-    ensures served { IfOk result (λ served. HasDialled (outside (seen (S.held sink.old) (S.faults sink.old) (W.calls wires.old) (W.faults wires.old)) (C.answers clock.old))
-        (outside (seen (S.held sink.new) (S.faults sink.new) (W.calls wires.new) (W.faults wires.new)) (C.answers clock.new))
+    ensures served { IfOk result (λ served. HasDialled (outside (seen (S.held sink.old) (S.faults sink.old) (W.calls wires.old) (W.faults wires.old)) (W.listening wires.old) (C.answers clock.old))
+        (outside (seen (S.held sink.new) (S.faults sink.new) (W.calls wires.new) (W.faults wires.new)) (W.listening wires.new) (C.answers clock.new))
         (dialling kmac plan.now engine rbc (length users.items)) (record { engine = engine; kmac = kmac }) address.now (map mind users.items) (R.stream randoms.old) served.turns (halt_for served.why)) }
-    ensures wires { result ≡ Err fault.Wires → FailsToDial (outside (seen (S.held sink.old) (S.faults sink.old) (W.calls wires.old) (W.faults wires.old)) (C.answers clock.old))
-        (outside (seen (S.held sink.new) (S.faults sink.new) (W.calls wires.new) (W.faults wires.new)) (C.answers clock.new))
+    ensures wires { result ≡ Err fault.Wires → FailsToDial
+        (outside (seen (S.held sink.old) (S.faults sink.old) (W.calls wires.old) (W.faults wires.old)) (W.listening wires.old) (C.answers clock.old))
+        (outside (seen (S.held sink.new) (S.faults sink.new) (W.calls wires.new) (W.faults wires.new)) (W.listening wires.new) (C.answers clock.new))
         (dialling kmac plan.now engine rbc (length users.items)) (record { engine = engine; kmac = kmac }) address.now (map mind users.items) (R.stream randoms.old) }
     ensures rose { result ≡ Err fault.Wires → Rose (W.turn_faults wires.old) (W.turn_faults wires.new) }
-    ensures sink { result ≡ Err fault.Sink → BreaksOffDialling (outside (seen (S.held sink.old) (S.faults sink.old) (W.calls wires.old) (W.faults wires.old)) (C.answers clock.old))
-        (outside (seen (S.held sink.new) (S.faults sink.new) (W.calls wires.new) (W.faults wires.new)) (C.answers clock.new))
+    ensures sink { result ≡ Err fault.Sink → BreaksOffDialling
+        (outside (seen (S.held sink.old) (S.faults sink.old) (W.calls wires.old) (W.faults wires.old)) (W.listening wires.old) (C.answers clock.old))
+        (outside (seen (S.held sink.new) (S.faults sink.new) (W.calls wires.new) (W.faults wires.new)) (W.listening wires.new) (C.answers clock.new))
         (dialling kmac plan.now engine rbc (length users.items)) (record { engine = engine; kmac = kmac }) address.now (map mind users.items) (R.stream randoms.old) }
     ensures sunk { result ≡ Err fault.Sink → Rose (S.faults sink.old) (S.faults sink.new) }
-    ensures memory { (want : Want) → result ≡ Err (fault.NoMemory want) → BreaksOffDialling (outside (seen (S.held sink.old) (S.faults sink.old) (W.calls wires.old) (W.faults wires.old)) (C.answers clock.old))
-        (outside (seen (S.held sink.new) (S.faults sink.new) (W.calls wires.new) (W.faults wires.new)) (C.answers clock.new))
+    ensures memory { (want : Want) → result ≡ Err (fault.NoMemory want) → BreaksOffDialling
+        (outside (seen (S.held sink.old) (S.faults sink.old) (W.calls wires.old) (W.faults wires.old)) (W.listening wires.old) (C.answers clock.old))
+        (outside (seen (S.held sink.new) (S.faults sink.new) (W.calls wires.new) (W.faults wires.new)) (W.listening wires.new) (C.answers clock.new))
         (dialling kmac plan.now engine rbc (length users.items)) (record { engine = engine; kmac = kmac }) address.now (map mind users.items) (R.stream randoms.old) }
     ensures sink_count { S.faults sink.old ≤ S.faults sink.new }
 {

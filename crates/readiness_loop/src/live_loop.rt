@@ -5,6 +5,8 @@ ghost use Rattle.rand_core.specs.Stream.{next_u64};
 ghost use Rattle.safety_automaton.specs.Keys as keys;
 ghost use Rattle.er_settings.specs.Ranges.{AllAllowed};
 ghost use Rattle.link_trait.specs.Wires.{opened_by_turn};
+ghost use Rattle.er_trace.specs.Ranges.{IsInRange};
+ghost use Rattle.loop_model.specs.Grammar.{IsInGrammar};
 ghost use Rattle.loop_model.specs.Journals.{text};
 ghost use Rattle.loop_model.specs.Visits.{is_due};
 ghost use Rattle.loop_model.specs.Loops.{Loop, before, until, until as first, turned_away, accepted, happened, Halt, OnClosed};
@@ -61,6 +63,11 @@ fn has_come(at: Option<u64>, moment: u64) -> bool
         None => false,
     }
 }
+
+// A count has 64 bits, by its type: this call does nothing.
+fn see_count(count: u64)
+    ensures { count < 2 ^ 64 }
+{}
 
 // What follows a happening.
 fn next_behind(happening: Happening, has_closed: bool) -> Result<Next, LoopFault>
@@ -120,6 +127,7 @@ impl<U: SafeUser> LiveLoop<U> {
         ensures seated { OnOk result (AreSeated (W.opened wires.new) self.new.book.slots self.new.book.places.entries) }
         ensures awaited { OnOk result (AreAwaited self.new.book.slots self.new.book.places self.new.book.wake_times.pairs) }
         ensures opened { W.opened wires.new ≡ W.opened wires.old }
+        ensures listening { W.listening wires.new ≡ W.listening wires.old }
         ensures turn_count { W.turn_faults wires.new ≡ W.turn_faults wires.old }
         ensures users { self.new.users ≡ self.old.users }
         ensures moment { self.new.moment ≡ self.old.moment }
@@ -170,6 +178,8 @@ impl<U: SafeUser> LiveLoop<U> {
         wires: &mut W,
         sink: &mut S,
     ) -> Result<(), LoopFault>
+        requires moment { self.old.moment ≤ 1000000000000000 }
+        requires why { IsInRange why }
         ensures does { (l : Loop) → l.moment ≡ self.old.moment → Acts (seen (S.held sink.old) (S.faults sink.old) (W.calls wires.old) (W.faults wires.old))
             (seen (S.held sink.new) (S.faults sink.new) (W.calls wires.new) (W.faults wires.new))
             l (turned_away l conn.0 why) result }
@@ -178,6 +188,7 @@ impl<U: SafeUser> LiveLoop<U> {
         ensures moment { self.new.moment ≡ self.old.moment }
         ensures turns { self.new.turns ≡ self.old.turns }
         ensures opened { W.opened wires.new ≡ W.opened wires.old }
+        ensures listening { W.listening wires.new ≡ W.listening wires.old }
         ensures turn_count { W.turn_faults wires.new ≡ W.turn_faults wires.old }
         ensures sunk { S.faults sink.old ≤ S.faults sink.new }
     {
@@ -207,6 +218,7 @@ impl<U: SafeUser> LiveLoop<U> {
         requires number { 0 < conn.0 }
         ensures puts { Puts (S.held sink.old) (S.held sink.new) (S.faults sink.old) (S.faults sink.new)
             (text (answer_event (R.stream randoms.old) plan.now.rbc self.old.moment conn.0 ∷ [])) result }
+        ensures grammar { OnOk result (IsInGrammar (answer_event (R.stream randoms.old) plan.now.rbc self.old.moment conn.0)) }
         ensures sessions { OnOk result (sessions self.new.book.slots self.new.book.places ≡ sessions self.old.book.slots self.old.book.places
             ++ answered (R.stream randoms.old) plan.now.settings plan.now.rbc self.old.moment conn.0 (U.mind user) ∷ []) }
         ensures seated { OnOk result (AreSeated conn.0 self.new.book.slots self.new.book.places.entries) }
@@ -253,6 +265,7 @@ impl<U: SafeUser> LiveLoop<U> {
         ensures moment { self.new.moment ≡ self.old.moment }
         ensures turns { self.new.turns ≡ self.old.turns }
         ensures opened { W.opened wires.new ≡ W.opened wires.old }
+        ensures listening { W.listening wires.new ≡ W.listening wires.old }
         ensures turn_count { W.turn_faults wires.new ≡ W.turn_faults wires.old }
         ensures sunk { S.faults sink.old ≤ S.faults sink.new }
     {
@@ -261,7 +274,10 @@ impl<U: SafeUser> LiveLoop<U> {
         }
         match self.users.pop() {
             Some(user) => self.answer(alloc, conn, user, plan, randoms, sink),
-            None => self.turn_away(conn, Event::Unserved(plan.handed), wires, sink),
+            None => {
+                see_count(plan.handed);
+                self.turn_away(conn, Event::Unserved(plan.handed), wires, sink)
+            }
         }
     }
 
@@ -291,6 +307,7 @@ impl<U: SafeUser> LiveLoop<U> {
         ensures moment { self.new.moment ≡ self.old.moment }
         ensures turns { self.new.turns ≡ self.old.turns }
         ensures opened { W.opened wires.new ≡ W.opened wires.old }
+        ensures listening { W.listening wires.new ≡ W.listening wires.old }
         ensures turn_count { W.turn_faults wires.new ≡ W.turn_faults wires.old }
         ensures sunk { S.faults sink.old ≤ S.faults sink.new }
     {
@@ -356,8 +373,8 @@ impl<U: SafeUser> LiveLoop<U> {
         requires seated { AreSeated (W.opened wires.old) self.old.book.slots self.old.book.places.entries }
         requires awaited { AreAwaited self.old.book.slots self.old.book.places self.old.book.wake_times.pairs }
         requires until { until ≡ first (sessions self.old.book.slots self.old.book.places) }
-        ensures does { (asked : List ℕ) → Turned (plan_of (K.entries keys.now) plan.now) (around (seen (S.held sink.old) (S.faults sink.old) (W.calls wires.old) (W.faults wires.old)) (W.turn_faults wires.old) (W.opened wires.old) (C.answers clock.old))
-            (around (seen (S.held sink.new) (S.faults sink.new) (W.calls wires.new) (W.faults wires.new)) (W.turn_faults wires.new) (W.opened wires.new) (C.answers clock.new))
+        ensures does { (asked : List ℕ) → Turned (plan_of (K.entries keys.now) plan.now) (around (seen (S.held sink.old) (S.faults sink.old) (W.calls wires.old) (W.faults wires.old)) (W.turn_faults wires.old) (W.opened wires.old) (W.listening wires.old) (C.answers clock.old))
+            (around (seen (S.held sink.new) (S.faults sink.new) (W.calls wires.new) (W.faults wires.new)) (W.turn_faults wires.new) (W.opened wires.new) (W.listening wires.new) (C.answers clock.new))
             (course_of (loop_of self.old.book.slots self.old.book.places (map U.mind self.old.users.items) self.old.moment (R.stream randoms.old)) self.old.turns asked)
             (loop_of self.new.book.slots self.new.book.places (map U.mind self.new.users.items) self.new.moment (R.stream randoms.new)) self.new.turns result }
         ensures seated { OnOk result (AreSeated (W.opened wires.new) self.new.book.slots self.new.book.places.entries) }
@@ -392,8 +409,8 @@ impl<U: SafeUser> LiveLoop<U> {
         requires turns { self.old.turns < 2 ^ 64 - 1 }
         requires seated { AreSeated (W.opened wires.old) self.old.book.slots self.old.book.places.entries }
         requires awaited { AreAwaited self.old.book.slots self.old.book.places self.old.book.wake_times.pairs }
-        ensures does { (asked : List ℕ) → Turns (plan_of (K.entries keys.now) plan.now) (around (seen (S.held sink.old) (S.faults sink.old) (W.calls wires.old) (W.faults wires.old)) (W.turn_faults wires.old) (W.opened wires.old) (C.answers clock.old))
-            (around (seen (S.held sink.new) (S.faults sink.new) (W.calls wires.new) (W.faults wires.new)) (W.turn_faults wires.new) (W.opened wires.new) (C.answers clock.new))
+        ensures does { (asked : List ℕ) → Turns (plan_of (K.entries keys.now) plan.now) (around (seen (S.held sink.old) (S.faults sink.old) (W.calls wires.old) (W.faults wires.old)) (W.turn_faults wires.old) (W.opened wires.old) (W.listening wires.old) (C.answers clock.old))
+            (around (seen (S.held sink.new) (S.faults sink.new) (W.calls wires.new) (W.faults wires.new)) (W.turn_faults wires.new) (W.opened wires.new) (W.listening wires.new) (C.answers clock.new))
             (course_of (loop_of self.old.book.slots self.old.book.places (map U.mind self.old.users.items) self.old.moment (R.stream randoms.old)) self.old.turns asked)
             (loop_of self.new.book.slots self.new.book.places (map U.mind self.new.users.items) self.new.moment (R.stream randoms.new)) self.new.turns result }
         ensures seated { OnOk result (AreSeated (W.opened wires.new) self.new.book.slots self.new.book.places.entries) }
@@ -431,8 +448,8 @@ impl<U: SafeUser> LiveLoop<U> {
         requires turns { self.old.turns ≡ 0 }
         requires seated { AreSeated (W.opened wires.old) self.old.book.slots self.old.book.places.entries }
         requires awaited { AreAwaited self.old.book.slots self.old.book.places self.old.book.wake_times.pairs }
-        ensures does { (asked : List ℕ) → Runs (plan_of (K.entries keys.now) plan.now) (around (seen (S.held sink.old) (S.faults sink.old) (W.calls wires.old) (W.faults wires.old)) (W.turn_faults wires.old) (W.opened wires.old) (C.answers clock.old))
-            (around (seen (S.held sink.new) (S.faults sink.new) (W.calls wires.new) (W.faults wires.new)) (W.turn_faults wires.new) (W.opened wires.new) (C.answers clock.new))
+        ensures does { (asked : List ℕ) → Runs (plan_of (K.entries keys.now) plan.now) (around (seen (S.held sink.old) (S.faults sink.old) (W.calls wires.old) (W.faults wires.old)) (W.turn_faults wires.old) (W.opened wires.old) (W.listening wires.old) (C.answers clock.old))
+            (around (seen (S.held sink.new) (S.faults sink.new) (W.calls wires.new) (W.faults wires.new)) (W.turn_faults wires.new) (W.opened wires.new) (W.listening wires.new) (C.answers clock.new))
             (course_of (loop_of self.old.book.slots self.old.book.places (map U.mind self.old.users.items) self.old.moment (R.stream randoms.old)) 0 asked)
             (loop_of self.new.book.slots self.new.book.places (map U.mind self.new.users.items) self.new.moment (R.stream randoms.new)) self.new.turns result }
         ensures sunk { S.faults sink.old ≤ S.faults sink.new }

@@ -61,6 +61,7 @@ impl<U: SafeUser> LiveLoop<U> {
         ensures moment { self.new.moment ≡ self.old.moment }
         ensures turns { self.new.turns ≡ self.old.turns }
         ensures opened { W.opened wires.new ≡ W.opened wires.old }
+        ensures listening { W.listening wires.new ≡ W.listening wires.old }
         ensures turn_count { W.turn_faults wires.new ≡ W.turn_faults wires.old }
         ensures sunk { S.faults sink.old ≤ S.faults sink.new }
     {
@@ -122,8 +123,8 @@ impl<U: SafeUser> LiveLoop<U> {
         requires number { 0 < conn.0 }
         requires newest { conn.0 ≡ W.opened wires.old }
         ensures does { (asked : List ℕ) → Opens (plan_of (pair_of pair.now.engine pair.now.rbc pair.now.kmac ∷ []) plan.now) (caller_of pair.now.engine pair.now.kmac)
-            (around (seen (S.held sink.old) (S.faults sink.old) (W.calls wires.old) (W.faults wires.old)) (W.turn_faults wires.old) (W.opened wires.old) (C.answers clock.old))
-            (around (seen (S.held sink.new) (S.faults sink.new) (W.calls wires.new) (W.faults wires.new)) (W.turn_faults wires.new) (W.opened wires.new) (C.answers clock.new))
+            (around (seen (S.held sink.old) (S.faults sink.old) (W.calls wires.old) (W.faults wires.old)) (W.turn_faults wires.old) (W.opened wires.old) (W.listening wires.old) (C.answers clock.old))
+            (around (seen (S.held sink.new) (S.faults sink.new) (W.calls wires.new) (W.faults wires.new)) (W.turn_faults wires.new) (W.opened wires.new) (W.listening wires.new) (C.answers clock.new))
             (course_of (loop_of self.old.book.slots self.old.book.places (map U.mind self.old.users.items) self.old.moment (R.stream randoms.old)) self.old.turns asked) conn.0
             (loop_of self.new.book.slots self.new.book.places (map U.mind self.new.users.items) self.new.moment (R.stream randoms.new)) self.new.turns result }
         ensures seated { OnOk result (AreSeated (W.opened wires.new) self.new.book.slots self.new.book.places.entries) }

@@ -58,8 +58,8 @@ fn serve_users<U: SafeUser, K: KeyFinder, W: Wires, C: Clock, R: Rng, S: Sink>(
     requires allowed { AllAllowed plan.now.settings }
     requires rbc { plan.now.rbc < 2 ^ 24 }
     ensures does { Serves (plan_of (K.entries keys.now) plan.now)
-        (around (seen (S.held sink.old) (S.faults sink.old) (W.calls wires.old) (W.faults wires.old)) (W.turn_faults wires.old) (W.opened wires.old) (C.answers clock.old))
-        (around (seen (S.held sink.new) (S.faults sink.new) (W.calls wires.new) (W.faults wires.new)) (W.turn_faults wires.new) (W.opened wires.new) (C.answers clock.new))
+        (around (seen (S.held sink.old) (S.faults sink.old) (W.calls wires.old) (W.faults wires.old)) (W.turn_faults wires.old) (W.opened wires.old) (W.listening wires.old) (C.answers clock.old))
+        (around (seen (S.held sink.new) (S.faults sink.new) (W.calls wires.new) (W.faults wires.new)) (W.turn_faults wires.new) (W.opened wires.new) (W.listening wires.new) (C.answers clock.new))
         (map U.mind users.items) (R.stream randoms.old) address.now result }
     ensures sunk { S.faults sink.old ≤ S.faults sink.new }
 {
@@ -102,19 +102,22 @@ pub fn serve<W: Wires, C: Clock, R: Rng, S: Sink>(
 ) -> Result<Served, LoopFault>
     requires settings { AllAllowed plan.now.settings }
     requires rbc { rbc < 2 ^ 24 }
-    ensures served { IfOk result (λ served. HasServed (outside (seen (S.held sink.old) (S.faults sink.old) (W.calls wires.old) (W.faults wires.old)) (C.answers clock.old))
-        (outside (seen (S.held sink.new) (S.faults sink.new) (W.calls wires.new) (W.faults wires.new)) (C.answers clock.new))
+    ensures served { IfOk result (λ served. HasServed (outside (seen (S.held sink.old) (S.faults sink.old) (W.calls wires.old) (W.faults wires.old)) (W.listening wires.old) (C.answers clock.old))
+        (outside (seen (S.held sink.new) (S.faults sink.new) (W.calls wires.new) (W.faults wires.new)) (W.listening wires.new) (C.answers clock.new))
         (serving (keys.now) plan.now rbc (length users.items)) address.now (map mind users.items) (R.stream randoms.old) served.turns (halt_for served.why)) }
-    ensures wires { result ≡ Err fault.Wires → FailsToServe (outside (seen (S.held sink.old) (S.faults sink.old) (W.calls wires.old) (W.faults wires.old)) (C.answers clock.old))
-        (outside (seen (S.held sink.new) (S.faults sink.new) (W.calls wires.new) (W.faults wires.new)) (C.answers clock.new))
+    ensures wires { result ≡ Err fault.Wires → FailsToServe
+        (outside (seen (S.held sink.old) (S.faults sink.old) (W.calls wires.old) (W.faults wires.old)) (W.listening wires.old) (C.answers clock.old))
+        (outside (seen (S.held sink.new) (S.faults sink.new) (W.calls wires.new) (W.faults wires.new)) (W.listening wires.new) (C.answers clock.new))
         (serving (keys.now) plan.now rbc (length users.items)) address.now (map mind users.items) (R.stream randoms.old) }
     ensures rose { result ≡ Err fault.Wires → Rose (W.turn_faults wires.old) (W.turn_faults wires.new) }
-    ensures sink { result ≡ Err fault.Sink → BreaksOffServing (outside (seen (S.held sink.old) (S.faults sink.old) (W.calls wires.old) (W.faults wires.old)) (C.answers clock.old))
-        (outside (seen (S.held sink.new) (S.faults sink.new) (W.calls wires.new) (W.faults wires.new)) (C.answers clock.new))
+    ensures sink { result ≡ Err fault.Sink → BreaksOffServing
+        (outside (seen (S.held sink.old) (S.faults sink.old) (W.calls wires.old) (W.faults wires.old)) (W.listening wires.old) (C.answers clock.old))
+        (outside (seen (S.held sink.new) (S.faults sink.new) (W.calls wires.new) (W.faults wires.new)) (W.listening wires.new) (C.answers clock.new))
         (serving (keys.now) plan.now rbc (length users.items)) address.now (map mind users.items) (R.stream randoms.old) }
     ensures sunk { result ≡ Err fault.Sink → Rose (S.faults sink.old) (S.faults sink.new) }
-    ensures memory { (want : Want) → result ≡ Err (fault.NoMemory want) → BreaksOffServing (outside (seen (S.held sink.old) (S.faults sink.old) (W.calls wires.old) (W.faults wires.old)) (C.answers clock.old))
-        (outside (seen (S.held sink.new) (S.faults sink.new) (W.calls wires.new) (W.faults wires.new)) (C.answers clock.new))
+    ensures memory { (want : Want) → result ≡ Err (fault.NoMemory want) → BreaksOffServing
+        (outside (seen (S.held sink.old) (S.faults sink.old) (W.calls wires.old) (W.faults wires.old)) (W.listening wires.old) (C.answers clock.old))
+        (outside (seen (S.held sink.new) (S.faults sink.new) (W.calls wires.new) (W.faults wires.new)) (W.listening wires.new) (C.answers clock.new))
         (serving (keys.now) plan.now rbc (length users.items)) address.now (map mind users.items) (R.stream randoms.old) }
     ensures sink_count { S.faults sink.old ≤ S.faults sink.new }
 {

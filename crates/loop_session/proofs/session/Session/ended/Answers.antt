@@ -9,7 +9,7 @@ pub returns-clause-chooses : goal.returns-clause-chooses
 returns-clause-chooses g c = λ entries.
     c.follow.ensures.chooses entries c.args.self.now Ends
     (gave_of (rules entries c.args.when.setup) c.args.when.moment c.args.self.now _ Ends _ _ c.clear.new.self.items c.in_ok-came.came.fits
-    (sym c.self.view_is) refl refl c.in_ok-came.ensures.end c.clear.ensures.items c.in_ok-came.ensures.text c.in_ok-came.ensures.joins)
+    (sym c.self.view_is) refl refl c.in_ok-came.ensures.end c.clear.ensures.items c.in_ok-came.ensures.text c.in_ok-came.ensures.joins c.in_ok-came.ensures.grammar)
     (ap (λ (z : Session). z.mind) c.self.view_is)
     (told_as (rules entries c.args.when.setup) c.args.when.moment c.args.self.now _ Ends _ (sym c.self.view_is) c.in_ok-came.ensures.heard)
 

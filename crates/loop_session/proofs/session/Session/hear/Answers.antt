@@ -16,7 +16,7 @@ returns-in-Ok-clause-chooses g c =
     let entries = g.K.KeyFinder.entries c.args.keys.now in
     c.in-Ok.ensures.chooses entries c.args.self.now (Hears c.args.octets.now)
     (gave_of (rules entries c.args.when.setup) c.args.when.moment c.args.self.now _ (Hears c.args.octets.now) _ _ c.clear.new.self.items c.in_ok-given.given.1.fits
-    (sym c.self.view_is) refl refl c.in_ok-given.ensures.end c.clear.ensures.items c.in_ok-given.ensures.text c.in_ok-given.ensures.joins)
+    (sym c.self.view_is) refl refl c.in_ok-given.ensures.end c.clear.ensures.items c.in_ok-given.ensures.text c.in_ok-given.ensures.joins c.in_ok-given.ensures.grammar)
     (ap (λ (z : Session). z.mind) c.self.view_is)
     (told_as (rules entries c.args.when.setup) c.args.when.moment c.args.self.now _ (Hears c.args.octets.now) _ (sym c.self.view_is) c.in_ok-given.ensures.heard)
 
@@ -25,7 +25,7 @@ returns-in-Err-clause-chooses g c =
     let entries = g.K.KeyFinder.entries c.args.keys.now in
     c.in-Err.ensures.chooses entries c.args.self.now (Hears c.args.octets.now)
     (gave_of (rules entries c.args.when.setup) c.args.when.moment c.args.self.now _ (Hears c.args.octets.now) _ _ c.clear.new.self.items c.in_ok-given.given.1.fits
-    (sym c.self.view_is) refl refl c.in_ok-given.ensures.end c.clear.ensures.items c.in_ok-given.ensures.text c.in_ok-given.ensures.joins)
+    (sym c.self.view_is) refl refl c.in_ok-given.ensures.end c.clear.ensures.items c.in_ok-given.ensures.text c.in_ok-given.ensures.joins c.in_ok-given.ensures.grammar)
     (ap (λ (z : Session). z.mind) c.self.view_is)
     (told_as (rules entries c.args.when.setup) c.args.when.moment c.args.self.now _ (Hears c.args.octets.now) _ (sym c.self.view_is) c.in_ok-given.ensures.heard)
 

@@ -10,7 +10,7 @@ returns-clause-prints g c = λ r.
     r c.args.moment c.args.self.now _ c.tell.new.self (Sends c.args.text.now) c.tell.result (ap (λ (z : Session). z.mind) c.self.view_is)
     (c.tell.ensures.prints r c.args.self.now (Sends c.args.text.now)
     (gave_of r c.args.moment c.args.self.now _ (Sends c.args.text.now) _ _ c.clear.new.self.items c.in_ok-fits.fits
-    (sym c.self.view_is) refl refl c.in_ok-fits.ensures.end c.clear.ensures.items c.in_ok-fits.ensures.text c.in_ok-fits.ensures.joins))
+    (sym c.self.view_is) refl refl c.in_ok-fits.ensures.end c.clear.ensures.items c.in_ok-fits.ensures.text c.in_ok-fits.ensures.joins c.in_ok-fits.ensures.grammar))
 
 pub returns-in_err-fits-clause-prints : goal.returns-in_err-fits-clause-prints
 returns-in_err-fits-clause-prints g c = λ r.

@@ -8,7 +8,7 @@ pub returns-clause-prints : goal.returns-clause-prints
 returns-clause-prints g c = λ r.
     stall_prints (g.S.Sink.held c.args.sink.now) (g.S.Sink.held c.write_lines.new.sink) (g.S.Sink.faults c.args.sink.now) (g.S.Sink.faults c.write_lines.new.sink)
     r c.args.moment c.args.self.now _ c.give_stalled.new.end c.as_slice.result.now c.clear.new.self.items c.write_lines.result
-    (sym c.self.view_is) c.in_ok-give_stalled.ensures.end c.clear.ensures.items (c.as_slice.ensures.value ∙ c.in_ok-give_stalled.ensures.text) c.write_lines.ensures.puts
+    (sym c.self.view_is) c.in_ok-give_stalled.ensures.end c.clear.ensures.items (c.as_slice.ensures.value ∙ c.in_ok-give_stalled.ensures.text) c.in_ok-give_stalled.ensures.grammar c.write_lines.ensures.puts
 
 pub returns-in_err-give_stalled-clause-prints : goal.returns-in_err-give_stalled-clause-prints
 returns-in_err-give_stalled-clause-prints g c = λ r.

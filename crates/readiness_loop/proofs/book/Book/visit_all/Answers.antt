@@ -10,6 +10,7 @@ loop-number-init g c = record {
   awaited = c.requires.awaited;
   opened = refl;
   sunk = omega arith;
+  listening = refl;
   turn_count = refl;
 }
 
@@ -21,6 +22,7 @@ loop-number-preserved g c = record {
   awaited = c.in-Ok.ensures.awaited;
   sunk = omega (arith, c.loop-number.invariant.sunk, c.visit.ensures.sunk);
   opened = c.visit.ensures.opened ∙ c.loop-number.invariant.opened;
+  listening = c.visit.ensures.listening ∙ c.loop-number.invariant.listening;
   turn_count = c.visit.ensures.turn_count ∙ c.loop-number.invariant.turn_count;
 }
 

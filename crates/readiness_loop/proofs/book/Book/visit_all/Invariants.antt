@@ -18,5 +18,6 @@ invariant-loop-number g l = record {
   awaited : AreAwaited l.self.slots l.self.places l.self.wake_times.pairs;
   opened : g.W.Wires.opened l.wires ≡ g.W.Wires.opened l.fn.wires;
   sunk : g.S.Sink.faults l.fn.sink ≤ g.S.Sink.faults l.sink;
+  listening : g.W.Wires.listening l.wires ≡ g.W.Wires.listening l.fn.wires;
   turn_count : g.W.Wires.turn_faults l.wires ≡ g.W.Wires.turn_faults l.fn.wires;
 }

@@ -27,7 +27,7 @@ returns-in-Some-clause-does g c = λ entries.
     (plan_of entries c.args.plan.now) (loop_of c.args.self.now.book.slots c.args.self.now.book.places (map g.U.SafeUser.mind c.args.self.now.users.items) c.args.self.now.moment (g.R.Rng.stream c.args.randoms.now)) _ (map g.U.SafeUser.mind c.pop.new.self.items) (g.U.SafeUser.mind c.in-Some.user) c.args.conn.0 c.answer.result
     (few_sessions _ c.len.result c.args.self.now.book.slots c.args.self.now.book.places.entries c.requires.seated c.len.ensures c.if-len-ge-MOST_LIVE.false)
     (ap (map g.U.SafeUser.mind) c.in-Some.ensures.items ∙ map-append g.U.SafeUser.mind c.pop.new.self.items (c.in-Some.user ∷ []))
-    c.answer.ensures.puts
+    c.answer.ensures.grammar c.answer.ensures.puts
     (answered_state (plan_of entries c.args.plan.now) (loop_of c.args.self.now.book.slots c.args.self.now.book.places (map g.U.SafeUser.mind c.args.self.now.users.items) c.args.self.now.moment (g.R.Rng.stream c.args.randoms.now)) c.answer.new.self.book.slots c.answer.new.self.book.places
     (map g.U.SafeUser.mind c.pop.new.self.items) (map g.U.SafeUser.mind c.answer.new.self.users.items) c.answer.new.self.moment _ (g.U.SafeUser.mind c.in-Some.user) c.args.conn.0 c.answer.result
     c.answer.ensures.sessions c.answer.ensures.stream (ap (λ v. map g.U.SafeUser.mind v.items) c.answer.ensures.users) c.answer.ensures.moment)

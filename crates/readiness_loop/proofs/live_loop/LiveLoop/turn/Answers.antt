@@ -1,4 +1,4 @@
-use Rattle.std.proofs.Common.{map}
+use Rattle.std.proofs.Common.{map, ◌∙◌}
 use Rattle.readiness_loop.specs.Courses.{plan_of, loop_of}
 use Rattle.readiness_loop.proofs.Acceptings.{length_sessions}
 use Rattle.readiness_loop.proofs.Turning.{turn_goes, turn_stops}
@@ -10,10 +10,10 @@ returns-in-Ok-clause-does g c = λ asked.
     (g.S.Sink.held c.args.sink.now) (g.S.Sink.held c.react.new.sink) (g.S.Sink.faults c.args.sink.now) (g.S.Sink.faults c.react.new.sink)
     (g.W.Wires.calls c.args.wires.now) (g.W.Wires.calls c.turn-happening.new.self) (g.W.Wires.calls c.react.new.wires) (g.W.Wires.faults c.args.wires.now) (g.W.Wires.faults c.turn-happening.new.self) (g.W.Wires.faults c.react.new.wires)
     (g.W.Wires.turn_faults c.args.wires.now) (g.W.Wires.turn_faults c.turn-happening.new.self) (g.W.Wires.turn_faults c.react.new.wires)
-    (g.W.Wires.opened c.args.wires.now) (g.W.Wires.opened c.turn-happening.new.self) (g.W.Wires.opened c.react.new.wires) (g.C.Clock.answers c.args.clock.now) (g.C.Clock.answers c.now.new.self)
+    (g.W.Wires.opened c.args.wires.now) (g.W.Wires.opened c.turn-happening.new.self) (g.W.Wires.opened c.react.new.wires) (g.W.Wires.listening c.args.wires.now) (g.W.Wires.listening c.react.new.wires) (g.C.Clock.answers c.args.clock.now) (g.C.Clock.answers c.now.new.self)
     (loop_of c.args.self.now.book.slots c.args.self.now.book.places (map g.U.SafeUser.mind c.args.self.now.users.items) c.args.self.now.moment (g.R.Rng.stream c.args.randoms.now)) _ c.args.self.now.turns c.react.new.self.turns c.max-self.result asked c.args.until c.turn-happening.result c.now.result c.has_closed.result _ c.next_behind.result
     c.requires.until c.turn-happening.ensures.told c.turn-happening.ensures.count c.now.ensures.told c.max-self.ensures c.in-Ok.ensures.does
-    c.turn-happening.ensures.opened c.react.ensures.opened c.turn-happening.ensures.number c.turn-happening.ensures.turn_count c.react.ensures.turn_count c.turn-happening.ensures.turn_cause
+    c.turn-happening.ensures.opened c.react.ensures.opened c.turn-happening.ensures.number c.turn-happening.ensures.turn_count c.react.ensures.turn_count (c.react.ensures.listening ∙ c.turn-happening.ensures.listening) c.turn-happening.ensures.accepted c.turn-happening.ensures.turn_cause
     c.react.ensures.turns c.has_closed.ensures (length_sessions _ c.react.new.self.book.slots c.react.new.self.book.places.entries c.in-Ok.ensures.seated) c.next_behind.ensures
 
 pub returns-in-Err-clause-does : goal.returns-in-Err-clause-does
@@ -22,6 +22,6 @@ returns-in-Err-clause-does g c = λ asked.
     (g.S.Sink.held c.args.sink.now) (g.S.Sink.held c.react.new.sink) (g.S.Sink.faults c.args.sink.now) (g.S.Sink.faults c.react.new.sink)
     (g.W.Wires.calls c.args.wires.now) (g.W.Wires.calls c.turn-happening.new.self) (g.W.Wires.calls c.react.new.wires) (g.W.Wires.faults c.args.wires.now) (g.W.Wires.faults c.turn-happening.new.self) (g.W.Wires.faults c.react.new.wires)
     (g.W.Wires.turn_faults c.args.wires.now) (g.W.Wires.turn_faults c.react.new.wires)
-    (g.W.Wires.opened c.args.wires.now) (g.W.Wires.opened c.react.new.wires) (g.C.Clock.answers c.args.clock.now) (g.C.Clock.answers c.now.new.self)
+    (g.W.Wires.opened c.args.wires.now) (g.W.Wires.opened c.react.new.wires) (g.W.Wires.listening c.args.wires.now) (g.W.Wires.listening c.react.new.wires) (g.C.Clock.answers c.args.clock.now) (g.C.Clock.answers c.now.new.self)
     (loop_of c.args.self.now.book.slots c.args.self.now.book.places (map g.U.SafeUser.mind c.args.self.now.users.items) c.args.self.now.moment (g.R.Rng.stream c.args.randoms.now)) _ c.args.self.now.turns c.react.new.self.turns c.max-self.result asked c.args.until c.turn-happening.result c.now.result c.in-Err.fault
     c.requires.until c.turn-happening.ensures.told c.turn-happening.ensures.count c.max-self.ensures c.in-Err.ensures.does
