@@ -1,6 +1,6 @@
 -- The keys of a dial: one pair.
-use Rattle.std.proofs.Common.{◌≡◌, ℕ, ◌-◌, ◌^◌, max, Bool, true, false, [], ◌∷◌, Some, None, refl, sym, ap, subst, ◌∙◌, arith}
-use Rattle.std.specs.Prelude.{if◌then◌else◌, Option}
+use Rattle.std.proofs.Common.{◌≡◌, ℕ, max, Bool, true, false, [], ◌∷◌, Some, None, ◌∙◌, arith}
+use Rattle.std.specs.Prelude.{if◌then◌else◌}
 use Rattle.des_block.specs.declared.triple_key.TripleKey.{TripleKey}
 use Rattle.safety_automaton.specs.Keys.{key_at, is_of}
 use Rattle.end_model.specs.Steps.{Finds}

@@ -1,6 +1,6 @@
-use Rattle.std.proofs.Common.{subst}
+use Rattle.std.proofs.Common.{true, subst}
 use Rattle.safety_automaton.specs.Keys.{key_at}
-use Rattle.loop_model.specs.Loops.{beginning, serves, dials}
+use Rattle.loop_model.specs.Loops.{beginning, serves}
 use Rattle.loop_recordings.specs.Recordings.{FindsToo}
 use Rattle.readiness_loop.specs.Claims.{dialling}
 use Rattle.er_program.proofs.Recordings.{finds_too, at_beginning}
