@@ -2,15 +2,12 @@ ghost use Rattle.std.specs.Prelude.{◌≡◌, ◌≤◌, ◌-◌, true, false, 
 ghost use Rattle.er_end.specs.Inboxes.{empty, kept_more, kept_fewer, newest_of};
 
 use er_base::{NoMemory, Room};
-use message_queue::MessageQueue;
+use message_queue::{LONGEST, MessageQueue};
 use std::alloc::Global;
 use std::marker::Model;
 
 /// The greatest number of messages that wait.
 pub const SLOTS: usize = 15;
-
-// The greatest number of octets of a message.
-const MESSAGE: usize = 1_023;
 
 /// The accepted messages that wait for the user, in slots that are reserved once, and the one that was taken last.
 #[derive(Drop)]
@@ -28,7 +25,7 @@ impl Model for Inbox {
 
     ghost view = { λ i. record { waits = i.messages.waits; last = i.taken.items; fresh = i.fresh } };
 
-    ghost invariant = { λ i. (i.messages.slots ≡ 15) × (i.messages.size ≡ 1023) × (i.taken.capacity ≡ 1023) };
+    ghost invariant = { λ i. (i.messages.slots ≡ 15) × (i.taken.capacity ≡ 1032) };
 }
 
 impl Inbox {
@@ -36,8 +33,8 @@ impl Inbox {
     pub fn with_slots(alloc: Global) -> Result<Inbox, NoMemory>
         ensures { IfOk result (λ made. made ≡ empty) }
     {
-        let messages = MessageQueue::with_slots(alloc, SLOTS, MESSAGE)?;
-        let taken = Room::with_capacity(alloc, MESSAGE)?;
+        let messages = MessageQueue::with_slots(alloc, SLOTS)?;
+        let taken = Room::with_capacity(alloc, LONGEST)?;
         Ok(Inbox {
             messages,
             taken,

@@ -10,6 +10,7 @@ mod hearing;
 pub mod laws;
 mod ring;
 mod sending;
+mod slot;
 mod station;
 #[cfg(test)]
 mod tests;

@@ -3,30 +3,27 @@
 ghost use Rattle.std.specs.Prelude.{◌≡◌, ◌+◌, ◌<◌, ◌≤◌, [], ◌∷◌, ◌++◌, length, drop, slice_index_or, IfOk};
 ghost use Rattle.hdlc_balanced.specs.Rings.{place};
 
-use arrayvec::ArrayVec;
+use crate::slot::Slot;
 use er_base::NoMemory;
 use std::alloc::Global;
 use std::marker::Model;
-
-/// The greatest length of a payload.
-pub(crate) const LONGEST: usize = 1026;
 
 /// Payloads in a ring of slots that its maker reserves. A payload is written into its slot once and stays there until it
 /// is let go.
 #[derive(Drop)]
 pub(crate) struct Ring {
-    slots: Vec<ArrayVec<u8, LONGEST>>,
+    slots: Vec<Slot>,
     head: usize,
     count: usize,
 }
 
 impl Model for Ring {
-    ghost use Rattle.std.specs.Prelude.{◌<◌, ◌≤◌, map, vec_len};
+    ghost use Rattle.std.specs.Prelude.{◌<◌, ◌≤◌, vec_len};
     ghost use Rattle.hdlc_balanced.specs.Rings.{Slots, window};
 
     ghost Value = { Slots };
 
-    ghost view = { λ r. record { items = window r.head r.count (map (λ v. v.items) r.slots.items); slots = vec_len r.slots } };
+    ghost view = { λ r. record { items = window r.head r.count r.slots.items; slots = vec_len r.slots } };
 
     ghost invariant = { λ r. (r.head < vec_len r.slots) × (r.count ≤ vec_len r.slots) × (vec_len r.slots ≤ 1024) };
 }
@@ -40,7 +37,7 @@ impl Ring {
     {
         let mut all = Vec::with_capacity(alloc, slots)?;
         for i in 0..slots {
-            all.push(ArrayVec::new())?;
+            all.push(Slot::new())?;
         }
         Ok(Ring {
             slots: all,
@@ -64,9 +61,7 @@ impl Ring {
         ensures slots { self.new.slots ≡ self.old.slots }
     {
         let at = wrapped(self.slots.len(), self.head + self.count);
-        let slot = &mut self.slots[at];
-        slot.clear();
-        let _ = slot.try_extend_from_slice(payload);
+        self.slots[at].keep(payload);
         self.count += 1;
     }
 
@@ -77,7 +72,7 @@ impl Ring {
         ensures fits { length result.now ≤ 1026 }
     {
         let at = wrapped(self.slots.len(), self.head + i);
-        self.slots[at].as_slice()
+        self.slots[at].held()
     }
 
     /// Lets the first n payloads go. An empty ring begins at its first slot again, so that a station with little on its way touches few.

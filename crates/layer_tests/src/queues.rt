@@ -1,5 +1,5 @@
 use er_base::Room;
-use message_queue::MessageQueue;
+use message_queue::{LONGEST, MessageQueue};
 use std::test::Fail;
 
 fn holds(queue: &MessageQueue, first: &[u8], last: &[u8]) -> bool {
@@ -8,8 +8,8 @@ fn holds(queue: &MessageQueue, first: &[u8], last: &[u8]) -> bool {
 
 #[test]
 fn messages_leave_a_queue_in_their_order(rt: HostRuntime) -> Result<(), Fail> {
-    let mut queue = MessageQueue::with_slots(rt.alloc(), 2, 4)?;
-    let mut taken = Room::with_capacity(rt.alloc(), 4)?;
+    let mut queue = MessageQueue::with_slots(rt.alloc(), 2)?;
+    let mut taken = Room::with_capacity(rt.alloc(), LONGEST)?;
     assert!(rt; queue.len() == 0 && queue.first().is_none() && queue.last().is_none());
     queue.push(&[1, 2, 3, 4]);
     queue.push(&[5]);

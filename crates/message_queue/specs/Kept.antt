@@ -1,12 +1,14 @@
 -- Representation: how the slots of a queue are kept; no claim rests on it.
-use Rattle.std.specs.Prelude.{ℕ, ◌≡◌, List, [], ◌∷◌}
-use Rattle.er_base.specs.Stored.{Stored}
+use Rattle.std.specs.Prelude.{ℕ, ◌+◌, ◌-◌, ◌≤◌, ◌<◌, nat_lt, if◌then◌else◌, List, ◌++◌, take, drop}
 
--- each slot has room for so many octets
-abbrev pub HaveRoom : ℕ → List Stored → Type 0
-HaveRoom size [] = Unit {0}
-HaveRoom size (slot ∷ slots) = (slot.capacity ≡ size) × HaveRoom size slots
+-- the slot in a ring of n that lies i slots behind the head
+abbrev pub place : (n head i : ℕ) → ℕ
+place n head i = if nat_lt i (n - head) then head + i else i - (n - head)
 
--- what a slot holds
-abbrev pub held : Stored → List ℕ
-held slot = slot.items
+-- what `count` slots hold from the head on
+abbrev pub window : (head count : ℕ) → List (List ℕ) → List (List ℕ)
+window head count xs = take count (drop head xs ++ take head xs)
+
+-- of a ring of n slots the first `len` were made: all, or those of the messages at least
+abbrev pub IsReached : (head count len n : ℕ) → Type 0
+IsReached head count len n = len < n → head + count ≤ len

@@ -6,12 +6,10 @@ pub record Queue : Type 0 where
   pub waits : List (List ℕ)
   -- the most that may
   pub slots : ℕ
-  -- the most octets of one
-  pub size : ℕ
 
 -- none waits
-abbrev pub empty : (slots size : ℕ) → Queue
-empty slots size = record { waits = []; slots = slots; size = size }
+abbrev pub empty : (slots : ℕ) → Queue
+empty slots = record { waits = []; slots = slots }
 
 -- the oldest one, or none
 abbrev pub oldest : List (List ℕ) → List ℕ

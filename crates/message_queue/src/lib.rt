@@ -2,5 +2,7 @@
 #![tactic(auto)]
 
 mod queue;
+mod slot;
 
 pub use queue::MessageQueue;
+pub use slot::LONGEST;

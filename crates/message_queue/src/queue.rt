@@ -1,50 +1,48 @@
 //! The queue and its calls.
 
-ghost use Rattle.std.specs.Prelude.{◌≡◌, ◌≤◌, ◌<◌, ◌-◌, ◌∷◌, ◌++◌, [], length, drop, option_map, slice_get, vec_capacity, IfOk};
+ghost use Rattle.std.specs.Prelude.{◌≡◌, ◌+◌, ◌≤◌, ◌<◌, ◌-◌, ◌∷◌, ◌++◌, [], length, drop, option_map, slice_get, slice_index_or, IfOk};
 ghost use Rattle.message_queue.specs.Queues.{empty, oldest};
-ghost use Rattle.message_queue.specs.Kept.{HaveRoom};
+ghost use Rattle.message_queue.specs.Kept.{place};
 
+use crate::slot::Slot;
 use er_base::{NoMemory, Room};
 use std::alloc::Global;
 use std::marker::Model;
-use std::mem;
 
-/// Messages that wait, the oldest first, each of at most so many octets, in so many slots, which are reserved once: no later call takes
-/// memory. The slot that was left last is used next, and of a slot only the octets of its message are written, so a queue in which few
-/// messages wait touches little memory. The oldest one stands first in a vector: when it leaves, the handles of the others move up.
+/// Messages that wait, the oldest first, each of at most 1,032 octets, in a ring of so many slots, which are reserved once: no later call
+/// takes memory. Of a slot only the octets of its message are written, an empty queue begins at its first slot again, and a slot is touched
+/// for the first time when a message comes for it, so a queue in which few messages wait touches little memory.
 #[derive(Drop)]
 pub struct MessageQueue {
-    waiting: Vec<Room>,
-    free: Vec<Room>,
-    slots: usize,
-    size: usize,
+    slots: Vec<Slot>,
+    most: usize,
+    head: usize,
+    count: usize,
 }
 
 impl Model for MessageQueue {
-    ghost use Rattle.std.specs.Prelude.{◌≡◌, ◌+◌, ◌≤◌, length, map, vec_capacity};
+    ghost use Rattle.std.specs.Prelude.{◌≤◌, vec_len, vec_capacity};
     ghost use Rattle.message_queue.specs.Queues.{Queue};
-    ghost use Rattle.message_queue.specs.Kept.{HaveRoom, held};
+    ghost use Rattle.message_queue.specs.Kept.{window, IsReached};
 
     ghost Value = { Queue };
 
-    ghost view = { λ q. record { waits = map held q.waiting.items; slots = q.slots; size = q.size } };
+    ghost view = { λ q. record { waits = window q.head q.count q.slots.items; slots = q.most } };
 
-    ghost invariant = { λ q. (length q.waiting.items + length q.free.items ≡ q.slots) × (q.slots ≤ vec_capacity q.waiting)
-        × (q.slots ≤ vec_capacity q.free) × HaveRoom q.size q.waiting.items × HaveRoom q.size q.free.items };
+    ghost invariant = { λ q. (q.head ≤ q.most) × (q.count ≤ q.most) × (vec_len q.slots ≤ q.most) × (q.most ≤ vec_capacity q.slots)
+        × IsReached q.head q.count (vec_len q.slots) q.most };
 }
 
 impl MessageQueue {
-    /// No messages, and so many slots of so many octets.
-    pub fn with_slots(alloc: Global, slots: usize, size: usize) -> Result<MessageQueue, NoMemory>
-        ensures { IfOk result (λ q. q ≡ empty slots size) }
+    /// No messages, and so many slots.
+    pub fn with_slots(alloc: Global, slots: usize) -> Result<MessageQueue, NoMemory>
+        ensures { IfOk result (λ q. q ≡ empty slots) }
     {
-        let waiting = Vec::with_capacity(alloc, slots)?;
-        let free = free_slots(alloc, slots, size)?;
         Ok(MessageQueue {
-            waiting,
-            free,
-            slots,
-            size,
+            slots: Vec::with_capacity(alloc, slots)?,
+            most: slots,
+            head: 0,
+            count: 0,
         })
     }
 
@@ -53,72 +51,103 @@ impl MessageQueue {
         ensures value { result ≡ length self.now.waits }
         ensures most { result ≤ self.now.slots }
     {
-        self.waiting.len()
+        self.count
     }
 
     /// Adds a message behind the others.
     pub fn push(&mut self, message: &[u8])
         requires room { length self.old.waits < self.old.slots }
-        requires fits { length message.now ≤ self.old.size }
+        requires fits { length message.now ≤ 1032 }
         ensures { self.new ≡ record self.old { waits = self.old.waits ++ message.now ∷ [] } }
     {
-        let mut slot = self.free.pop().unwrap();
-        slot.clear();
-        slot.put(message);
-        self.waiting.push(slot).unwrap();
+        let at = place(self.most, self.head, self.count);
+        if at == self.slots.len() {
+            self.slots.push(Slot::new()).unwrap();
+        }
+        self.slots[at].keep(message);
+        self.count += 1;
+    }
+
+    // Lends message i, counted from the oldest on.
+    fn get(&self, i: usize) -> &[u8]
+        requires { i < length self.now.waits }
+        ensures value { result.now ≡ slice_index_or self.now.waits i [] }
+        ensures fits { length result.now ≤ 1032 }
+    {
+        self.slots[place(self.most, self.head, i)].held()
     }
 
     /// Lends the oldest message.
     pub fn first(&self) -> Option<&[u8]>
         ensures { option_map (λ m. m.now) result ≡ slice_get self.now.waits 0 }
     {
-        self.waiting.first().map(Room::held)
+        if self.count == 0 {
+            None
+        } else {
+            Some(self.get(0))
+        }
     }
 
     /// Lends the newest message.
     pub fn last(&self) -> Option<&[u8]>
         ensures { option_map (λ m. m.now) result ≡ slice_get self.now.waits (length self.now.waits - 1) }
     {
-        self.waiting.last().map(Room::held)
+        if self.count == 0 {
+            None
+        } else {
+            Some(self.get(self.count - 1))
+        }
     }
 
     /// The oldest message no longer waits, where one does.
     pub fn pop(&mut self)
         ensures { self.new ≡ record self.old { waits = drop 1 self.old.waits } }
     {
-        if !self.waiting.is_empty() {
-            let slot = self.waiting.remove(0);
-            self.free.push(slot).unwrap();
+        if self.count <= 1 {
+            self.clear();
+        } else {
+            self.go_on();
         }
     }
 
-    /// The oldest message no longer waits: it is in the room now, which had as much room as a slot. Where none waits, the room is empty.
+    // No message waits any more.
+    fn clear(&mut self)
+        ensures { self.new ≡ record self.old { waits = [] } }
+    {
+        self.head = 0;
+        self.count = 0;
+    }
+
+    // The oldest message no longer waits, and another does.
+    fn go_on(&mut self)
+        requires { 1 < length self.old.waits }
+        ensures { self.new ≡ record self.old { waits = drop 1 self.old.waits } }
+    {
+        self.head = place(self.most, self.head, 1);
+        self.count -= 1;
+    }
+
+    /// The oldest message no longer waits: it is in the room now, which has room for the longest. Where none waits, the room is empty.
     pub fn take(&mut self, taken: &mut Room)
-        requires { taken.old.capacity ≡ self.old.size }
+        requires { 1032 ≤ taken.old.capacity }
         ensures queue { self.new ≡ record self.old { waits = drop 1 self.old.waits } }
         ensures taken { taken.new.items ≡ oldest self.old.waits }
-        ensures capacity { taken.new.capacity ≡ self.old.size }
+        ensures capacity { taken.new.capacity ≡ taken.old.capacity }
     {
-        if self.waiting.is_empty() {
-            taken.clear();
-            return;
+        taken.clear();
+        if self.count > 0 {
+            taken.put(self.get(0));
         }
-        let mut slot = self.waiting.remove(0);
-        mem::swap(&mut slot, taken);
-        self.free.push(slot).unwrap();
+        self.pop();
     }
 }
 
-// So many slots of so many octets.
-fn free_slots(alloc: Global, slots: usize, size: usize) -> Result<Vec<Room>, NoMemory>
-    ensures count { IfOk result (λ free. length free.items ≡ slots) }
-    ensures capacity { IfOk result (λ free. slots ≤ vec_capacity free) }
-    ensures room { IfOk result (λ free. HaveRoom size free.items) }
+// The slot in a ring of so many that lies i slots behind the head.
+fn place(most: usize, head: usize, i: usize) -> usize
+    requires head { head ≤ most }
+    requires within { i ≤ most }
+    ensures { result ≡ place most head i }
 {
-    let mut free = Vec::with_capacity(alloc, slots)?;
-    for _ in 0..slots {
-        let slot = Room::with_capacity(alloc, size)?;
-        free.push(slot)?;
-    }
-    Ok(free)
+    let behind = most - head;
+    if i < behind { head + i } else { i - behind }
 }

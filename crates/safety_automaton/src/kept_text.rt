@@ -2,25 +2,27 @@
 
 ghost use Rattle.std.specs.Prelude.{◌≡◌, None, Some, option_map};
 
-use arrayvec::ArrayVec;
 use sapdu::{MOST_TEXT_OCTETS, SealedText};
 use std::marker::Model;
 
 /// The text that the last call sealed or verified, where it did. Of its room only the octets of a text are written, so a text that is put
-/// away, and a short one that is kept, cost no more than they have.
+/// away, and a short one that is kept, cost no more than they have; the number of its octets stands before them.
 #[derive(Drop)]
 pub struct KeptText {
-    octets: ArrayVec<u8, MOST_TEXT_OCTETS>,
+    len: usize,
+    octets: [u8; MOST_TEXT_OCTETS],
 }
 
 impl Model for KeptText {
-    ghost use Rattle.std.specs.Prelude.{ℕ, List, Option};
+    ghost use Rattle.std.specs.Prelude.{ℕ, List, Option, ◌≤◌, take};
     ghost use Rattle.safety_automaton.specs.Kept.{text_in};
 
     ghost Value = { Option (List ℕ) };
 
     // a text has an octet at least
-    ghost view = { λ t. text_in t.octets.items };
+    ghost view = { λ t. text_in (take t.len t.octets) };
+
+    ghost invariant = { λ t. t.len ≤ 1029 };
 }
 
 impl KeptText {
@@ -29,7 +31,8 @@ impl KeptText {
         ensures { result ≡ None }
     {
         KeptText {
-            octets: ArrayVec::new(),
+            len: 0,
+            octets: [0; MOST_TEXT_OCTETS],
         }
     }
 
@@ -37,15 +40,16 @@ impl KeptText {
     pub fn clear(&mut self)
         ensures { self.new ≡ None }
     {
-        self.octets.clear();
+        self.len = 0;
     }
 
     /// This text is kept in the place of the last one.
     pub fn keep(&mut self, text: &SealedText)
         ensures { self.new ≡ Some text.now }
     {
-        self.octets.clear();
-        self.octets.try_extend_from_slice(text.octets()).unwrap();
+        let text = text.octets();
+        self.len = text.len();
+        self.octets[..text.len()].copy_from_slice(text);
     }
 
     /// The same of a text, where there is one.
@@ -62,10 +66,10 @@ impl KeptText {
     pub fn octets(&self) -> Option<&[u8]>
         ensures { option_map (λ t. t.now) result ≡ self.now }
     {
-        if self.octets.is_empty() {
+        if self.len == 0 {
             None
         } else {
-            Some(self.octets.as_slice())
+            Some(&self.octets[..self.len])
         }
     }
 }

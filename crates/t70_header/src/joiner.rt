@@ -13,8 +13,8 @@ const LIMIT: usize = 1_024;
 /// it as the octets that wait for their last block.
 #[derive(Drop)]
 pub struct Joiner {
-    buffer: [u8; 1_024],
     len: usize,
+    buffer: [u8; 1_024],
 }
 
 impl Model for Joiner {
@@ -35,8 +35,8 @@ impl Joiner {
         ensures { result ≡ [] }
     {
         Joiner {
-            buffer: [0; 1_024],
             len: 0,
+            buffer: [0; 1_024],
         }
     }
 

@@ -8,9 +8,6 @@ use std::marker::Model;
 /// The greatest number of messages that wait.
 pub const SLOTS: usize = 16;
 
-// The greatest number of octets of a message.
-const MESSAGE: usize = 1_032;
-
 /// The messages that wait for their last segment to be given, in slots that are reserved once. Contracts
 /// see of each message what wasn't given yet.
 #[derive(Drop)]
@@ -27,7 +24,7 @@ impl Model for Outgoing {
 
     ghost view = { λ o. left_of o.given o.messages.waits };
 
-    ghost invariant = { λ o. IsWaiting o.given o.messages.waits × (o.messages.slots ≡ 16) × (o.messages.size ≡ 1032) };
+    ghost invariant = { λ o. IsWaiting o.given o.messages.waits × (o.messages.slots ≡ 16) };
 }
 
 impl Outgoing {
@@ -35,7 +32,7 @@ impl Outgoing {
     pub fn with_slots(alloc: Global) -> Result<Outgoing, NoMemory>
         ensures { IfOk result (λ made. made ≡ []) }
     {
-        let messages = MessageQueue::with_slots(alloc, SLOTS, MESSAGE)?;
+        let messages = MessageQueue::with_slots(alloc, SLOTS)?;
         Ok(Outgoing { messages, given: 0 })
     }
 

@@ -1,5 +1,4 @@
-use Rattle.std.proofs.Common.{◌≡◌, ◌+◌, ◌-◌, ℕ, List, map, length, drop, vec_len, ap, ◌∙◌, arith, rules}
-use Rattle.std.proofs.lemmas.List.{length-map}
+use Rattle.std.proofs.Common.{◌≡◌, ◌+◌, ◌-◌, ℕ, length, drop, vec_len, ap, ◌∙◌, arith, rules}
 use Rattle.hdlc_balanced.specs.Rings.{Slots, place, window}
 use Rattle.hdlc_balanced.proofs.Windowed.{length-window, window_drop}
 use Rattle.hdlc_balanced.proofs.ring.Ring.go_on.Goals as goal
@@ -7,8 +6,8 @@ use Rattle.hdlc_balanced.proofs.ring.Ring.go_on.Goals as goal
 pub returns-clause-items : goal.returns-clause-items
 returns-clause-items c =
     let q = c.self.inside in
-    let xs : List (List ℕ) = map (λ v. v.items) q.slots.items in
-    let length_xs : length xs ≡ vec_len q.slots = length-map q.slots.items _ ∙ search rules in
+    let xs = q.slots.items in
+    let length_xs : length xs ≡ vec_len q.slots = search rules in
     let is = c.self.view_is in
     let same_length = length-window (vec_len q.slots) q.head q.count xs c.self.invariant.0 c.self.invariant.1 length_xs in
     let held = ap (λ (s : Slots). length s.items) is in

@@ -1,33 +1,35 @@
--- The slot comes from those that are free.
-use Rattle.std.proofs.Common.{arith, ◌≡◌, ◌≤◌, ◌+◌, ◌∷◌, ◌++◌, [], length, subst, sym, length-append}
+use Rattle.std.proofs.Common.{rules, ◌≡◌, ◌+◌, ◌≤◌, ◌<◌, ◌∷◌, ◌++◌, [], length, set, ap, refl, ◌∙◌, arith, vec_len}
 use Rattle.message_queue.specs.Queues.{Queue}
-use Rattle.message_queue.specs.Kept.{HaveRoom}
-use Rattle.message_queue.proofs.Slots.{both_have, first_have, last_have}
+use Rattle.message_queue.specs.Kept.{place, window, IsReached}
+use Rattle.message_queue.proofs.Windows.{length-window, window_pushed, window_grown, next_within}
 use Rattle.message_queue.proofs.queue.MessageQueue.push.Goals as goal
+use Rattle.message_queue.proofs.queue.MessageQueue.push.Goals.{then-at-len, else-at-len}
 
-pub put-requires : goal.put-requires
-put-requires c =
-    let split : c.self.inside.free.items ≡ c.pop.new.self.items ++ c.unwrap-slot.result ∷ [] = rw c.unwrap-slot.ensures at c.pop.ensures.items in
-    let have : HaveRoom c.self.inside.size (c.unwrap-slot.result ∷ []) =
-    last_have c.self.inside.size c.pop.new.self.items (c.unwrap-slot.result ∷ []) (subst (λ xs. HaveRoom c.self.inside.size xs) split c.self.invariant.4) in
-    let fits : length c.args.message.now ≤ c.self.inside.size = subst (λ (q : Queue). length c.args.message.now ≤ q.size) (sym c.self.view_is) c.requires.fits in
-    rw c.clear.ensures.items (omega (arith, fits, have.0, c.clear.ensures.capacity))
-
-pub invariant_of-self : goal.invariant_of-self
-invariant_of-self c =
-    let split : c.self.inside.free.items ≡ c.pop.new.self.items ++ c.unwrap-slot.result ∷ [] = rw c.unwrap-slot.ensures at c.pop.ensures.items in
-    let have = subst (λ xs. HaveRoom c.self.inside.size xs) split c.self.invariant.4 in
-    let slot : HaveRoom c.self.inside.size (c.unwrap-slot.result ∷ []) = last_have c.self.inside.size c.pop.new.self.items (c.unwrap-slot.result ∷ []) have in
-    let pushed : c.push.new.self.items ≡ c.self.inside.waiting.items ++ c.put.new.self ∷ [] = rw c.unwrap.ensures at c.push.ensures.items in
-    let room : c.put.new.self.capacity ≡ c.self.inside.size = omega (arith, c.put.ensures.capacity, c.clear.ensures.capacity, slot.0) in
-    let count : length c.push.new.self.items + length c.pop.new.self.items ≡ c.self.inside.slots =
-    rw (pushed, length-append c.self.inside.waiting.items (c.put.new.self ∷ [])) (
-    let some : length c.self.inside.free.items ≡ length c.pop.new.self.items + 1 = rw (split, length-append c.pop.new.self.items (c.unwrap-slot.result ∷ [])) (omega arith) in
-    omega (arith, some, c.self.invariant.0)
-    ) in (
-      count,
-      omega (arith, c.push.ensures.capacity, c.self.invariant.1),
-      omega (arith, c.pop.ensures.capacity, c.self.invariant.2),
-      rw pushed (both_have c.self.inside.size c.self.inside.waiting.items (c.put.new.self ∷ []) c.self.invariant.3 (room, tt)),
-      first_have c.self.inside.size c.pop.new.self.items (c.unwrap-slot.result ∷ []) have,
-    )
+pub returns : goal.returns
+returns c =
+    let q = c.self.inside in
+    let xs = q.slots.items in
+    let length_xs : length xs ≡ vec_len q.slots = search rules in
+    let made : length xs ≤ q.most = omega (arith, length_xs, c.self.invariant.2) in
+    let reached : IsReached q.head q.count (length xs) q.most = λ fewer. omega (arith, length_xs, c.self.invariant.4 (omega (arith, length_xs, fewer))) in
+    let counted = length-window q.most q.head q.count xs c.self.invariant.0 c.self.invariant.1 made reached in
+    let room : q.count < q.most = omega (arith, counted, ap (λ (s : Queue). length s.waits) c.self.view_is, ap (λ (s : Queue). s.slots) c.self.view_is, c.requires.room) in
+    let at : c.place-at.result ≡ place q.most q.head q.count = c.place-at.ensures in
+    let behind = next_within q.most q.head q.count xs c.self.invariant.0 room made reached in
+    let waits : window c.if-at-len.self-inside.head (c.if-at-len.self-inside.count + 1) (set c.if-at-len.self-inside.slots.items c.place-at.result c.keep.new.self) ≡ window q.head q.count xs ++ c.args.message.now ∷ [] =
+    rw (c.keep.ensures, at) (elim c.if-at-len.branch [
+      | then-at-len w ↦
+          let next : place q.most q.head q.count ≡ length xs = omega (arith, at, length_xs, w.if-at-len.true, c.len.ensures) in
+          let items : w.push.new.self.items ≡ xs ++ [] ∷ [] = rw (w.unwrap.ensures, w.new.ensures) at w.push.ensures.items in
+          rw (w.self-inside-is, items) (window_grown q.most q.head q.count xs c.self.invariant.0 room made reached c.args.message.now next)
+      | else-at-len w ↦
+          let within : place q.most q.head q.count < length xs = omega (arith, at, length_xs, w.if-at-len.false, c.len.ensures, behind) in
+          rw w.self-inside-is (window_pushed q.most q.head q.count xs c.self.invariant.0 room made reached c.args.message.now within)
+    ]) in
+    let most_is : c.if-at-len.self-inside.most ≡ q.most = elim c.if-at-len.branch [
+      | then-at-len w ↦ rw w.self-inside-is refl
+      | else-at-len w ↦ rw w.self-inside-is refl
+    ] in
+    ap (λ ws. record { waits = ws; slots = c.if-at-len.self-inside.most }) waits
+    ∙ ap (λ m. record { waits = window q.head q.count xs ++ c.args.message.now ∷ []; slots = m }) most_is
+    ∙ ap (λ (s : Queue). record { waits = s.waits ++ c.args.message.now ∷ []; slots = s.slots }) c.self.view_is

@@ -12,5 +12,4 @@ invariant_of-self c =
       subst (λ (q : Queue). IsWaiting c.self.inside.given q.waits) (sym c.push.ensures)
           (waiting_push c.self.inside.given c.self.inside.messages.waits c.args.message.now c.self.invariant.0 room c.requires.least),
       ap (λ (q : Queue). q.slots) c.push.ensures ∙ c.self.invariant.1,
-      ap (λ (q : Queue). q.size) c.push.ensures ∙ c.self.invariant.2,
     )
