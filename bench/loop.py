@@ -10,7 +10,7 @@ import time
 bench, program, floor, work = sys.argv[1:]
 REPORTS = 1000
 CALLS = 256
-ROUNDS = 5
+ROUNDS = 9
 # How often `serve` writes to the line of one call (counted by strace), and how many octets, about; as much comes.
 EXCHANGES, PIECE = 5, 64
 KEYS = """version = 1
@@ -40,20 +40,31 @@ def played(trains, reports, times):
     return seconds, most, told
 
 
-def loop_alone(trains, reports, times):
-    """Seconds of the loop for all trains once, by runs with the record so often and runs with live trains only, in turns."""
-    runs = [(played(trains, reports, times), played(trains, reports, 0)) for _ in range(ROUNDS)]
-    for (_, _, whole), (_, _, live) in runs:
-        if any(whole[word] != live[word] * (times + 1) for word in (b"turns", b"written", b"journal")):
-            sys.exit(f"the record wasn't served as the live trains were: {whole}, {live}")
-    return (min(whole[0] for whole, _ in runs) - min(live[0] for _, live in runs)) / times
+def turn(trains, reports, times):
+    """A run with the record so often, and one with live trains only: seconds of both."""
+    (seconds, _, whole), (live_seconds, _, live) = played(trains, reports, times), played(trains, reports, 0)
+    if any(whole[word] != live[word] * (times + 1) for word in (b"turns", b"written", b"journal")):
+        sys.exit(f"the record wasn't served as the live trains were: {whole}, {live}")
+    return seconds, live_seconds
+
+
+def loop_alone(turns, times):
+    """Seconds of the loop for all trains once: the least of the runs with the record, less the least of those with live trains only."""
+    return (min(whole for whole, _ in turns) - min(live for _, live in turns)) / times
 
 
 def in_memory():
+    cases = ((1, 256), (16, 16), (256, 3))
+    set_ups, reported = {trains: [] for trains, _ in cases}, {trains: [] for trains, _ in cases}
+    # All cases in turns, so that what else the machine does is heard by each of them.
+    for _ in range(ROUNDS):
+        for trains, times in cases:
+            set_ups[trains].append(turn(trains, 0, 100 * times))
+            reported[trains].append(turn(trains, REPORTS, times))
     costs = {}
-    for trains, times in ((1, 256), (16, 16), (256, 3)):
-        set_up = loop_alone(trains, 0, 100 * times) / trains
-        cost = costs[trains] = loop_alone(trains, REPORTS, times) / trains / REPORTS - set_up / REPORTS
+    for trains, times in cases:
+        set_up = loop_alone(set_ups[trains], 100 * times) / trains
+        cost = costs[trains] = loop_alone(reported[trains], times) / trains / REPORTS - set_up / REPORTS
         print(
             f"in memory, {trains:3} trains of {REPORTS} reports: {1 / cost:8.0f} messages/s, {cost * 1e6:6.2f} us a message, "
             f"{set_up * 1e6:6.1f} us a connection with its set-up",
