@@ -1,9 +1,9 @@
 -- Representation: how the code keeps the messages that wait for the user; no claim rests on it.
-use Rattle.std.specs.Prelude.{ℕ, ◌-◌, nat_lt, Bool, true, false, if◌then◌else◌, List, [], ◌∷◌, ◌++◌, length, drop, slice_get, Option, None}
+use Rattle.std.specs.Prelude.{ℕ, ◌-◌, ◌<◌, ◌≤◌, nat_lt, Bool, true, false, if◌then◌else◌, List, [], ◌∷◌, ◌++◌, length, drop, slice_get, Option, None}
 
 pub record KInbox : Type 0 where
   pub waits : List (List ℕ)  -- the messages that wait, the oldest first
-  pub last : List ℕ  -- the message that was taken last
+  pub last : List ℕ  -- the message that was taken in this event
   pub fresh : Bool  -- whether the newest one came in this event
 
 abbrev pub most_waiting : ℕ
@@ -25,3 +25,17 @@ kept_fewer q = record q { waits = drop 1 q.waits; last = first_in q.waits }
 -- the message that came in this event
 abbrev pub newest_of : KInbox → Option (List ℕ)
 newest_of q = if q.fresh then slice_get q.waits (length q.waits - 1) else None
+
+-- ---- the code's queue, in which a message that was taken in this event still has its slot
+
+abbrev pub behind : Bool → List (List ℕ) → List (List ℕ)
+behind true ms = drop 1 ms
+behind false ms = ms
+
+abbrev pub taken_from : Bool → List (List ℕ) → List ℕ
+taken_from true ms = first_in ms
+taken_from false ms = []
+
+abbrev pub IsWithin : Bool → List (List ℕ) → Type 0
+IsWithin true ms = (0 < length ms) × (length ms ≤ 16)
+IsWithin false ms = length ms ≤ 15

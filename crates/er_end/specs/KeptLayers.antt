@@ -90,7 +90,7 @@ kept = record {
   expiry = λ l. l.station.timer;
   counts = λ l. l.station.counts;
   written = λ l. l.out;
-  opened = λ u. record u { inbox = record u.inbox { fresh = false } };
+  opened = λ u. record u { inbox = record u.inbox { last = []; fresh = false } };
   may_connect = λ u. u.transport.is_caller && is_new u.transport.stage;
   connects = λ u text. record u { transport = transport.kept_after_connect u.transport text };
   hears = λ u tpdu. record u { transport = upper_hears u.transport tpdu };

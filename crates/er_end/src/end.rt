@@ -17,7 +17,6 @@ ghost use Rattle.er_end.specs.Resting.{Rests};
 use crate::deeds::{Deeds, SendRefused, Taken};
 use crate::inbox::Inbox;
 use crate::layers::Layers;
-use crate::letter::Letter;
 use crate::line::Line;
 use des_block::TripleKey;
 use er_base::{Cause, NoMemory, Release, Room};
@@ -30,8 +29,8 @@ use std::marker::Model;
 use t70_header::Joiner;
 use x224_class2::Transport;
 
-// The greatest number of octets of an SaPDU.
-const SAPDU: usize = 1_032;
+// The greatest number of octets of an SaPDU; a block has at most 1,026.
+const SCRATCH: usize = 1_032;
 
 /// One end of a link. After a release it refuses each send, answers empty deeds to all other events, and still gives the messages that
 /// wait to be taken.
@@ -39,10 +38,10 @@ const SAPDU: usize = 1_032;
 /// A moment is in milliseconds, at most 10^15; one below the last counts as the last.
 #[derive(Drop)]
 pub struct End {
-    deframer: Deframer,
+    // where the safety side writes an SaPDU, and then its block is written
+    scratch: Room,
     layers: Layers,
-    answer: Room,
-    letter: Letter,
+    deframer: Deframer,
 }
 
 impl Model for End {
@@ -53,7 +52,7 @@ impl Model for End {
 
     ghost view = { λ e. record { deframer = e.deframer; core = e.layers } };
 
-    ghost invariant = { λ e. e.answer.capacity ≡ 1032 };
+    ghost invariant = { λ e. e.scratch.capacity ≡ 1032 };
 }
 
 impl End {
@@ -121,25 +120,23 @@ impl End {
             Transport::callee(alloc, settings)?
         };
         let inbox = Inbox::with_slots(alloc)?;
-        let answer = Room::with_capacity(alloc, SAPDU)?;
-        let letter = Letter::new(alloc)?;
+        let scratch = Room::with_capacity(alloc, SCRATCH)?;
         let layers = Layers {
-            line,
-            joiner: Joiner::new(),
-            transport,
-            inbox,
-            safe,
             limit: now + settings.setup,
             moment: now,
             connected: None,
             leaves: None,
             released: None,
+            line,
+            transport,
+            inbox,
+            joiner: Joiner::new(),
+            safe,
         };
         Ok(End {
-            deframer: Deframer::new(),
+            scratch,
             layers,
-            answer,
-            letter,
+            deframer: Deframer::new(),
         })
     }
 
@@ -160,7 +157,7 @@ impl End {
         ensures { self.new ≡ after_start now self.old }
     {
         self.layers.begin_at(now);
-        self.layers.start(&mut self.letter);
+        self.layers.start(&mut self.scratch);
     }
 
     /// Octets come from the line. They are used up to the first that closes a frame, all where none does: how many were used. A released
@@ -192,8 +189,7 @@ impl End {
         }
         let (used, found) = self.deframer.feed(piece);
         if let Some(found) = found {
-            self.layers
-                .receive(keys, &found, &mut self.answer, &mut self.letter);
+            self.layers.receive(keys, &found, &mut self.scratch);
         }
         used
     }
@@ -222,7 +218,7 @@ impl End {
         ensures { self.new ≡ after_send now user.now self.old }
     {
         self.layers.begin_at(now);
-        self.layers.send(user, &mut self.answer, &mut self.letter);
+        self.layers.send(user, &mut self.scratch);
     }
 
     /// The user takes the oldest message that waits. None exactly where none does.
@@ -252,7 +248,7 @@ impl End {
         ensures text { 0 < length (waiting_in self.old) → self.new.core.upper.inbox.last ≡ first_in (waiting_in self.old) }
     {
         self.layers.begin_at(now);
-        self.layers.take(&mut self.letter);
+        self.layers.take(&mut self.scratch);
     }
 
     /// The user releases with this sub-reason.
@@ -272,7 +268,7 @@ impl End {
         ensures { self.new ≡ after_release now sub self.old }
     {
         self.layers.begin_at(now);
-        self.layers.leave(sub, &mut self.answer, &mut self.letter);
+        self.layers.leave(sub, &mut self.scratch);
     }
 
     /// The moment has come: T1 may expire, then the time for the set-up.
@@ -292,7 +288,7 @@ impl End {
         ensures { self.new ≡ after_tick now self.old }
     {
         self.layers.begin_at(now);
-        self.layers.tick(&mut self.answer, &mut self.letter);
+        self.layers.tick(&mut self.scratch);
     }
 
     /// The line ended.

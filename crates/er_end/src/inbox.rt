@@ -1,51 +1,55 @@
 ghost use Rattle.std.specs.Prelude.{◌≡◌, ◌≤◌, ◌-◌, true, false, [], length, IfOk, if◌then◌else◌, slice_get, option_map};
 ghost use Rattle.er_end.specs.Inboxes.{empty, kept_more, kept_fewer, newest_of};
 
-use er_base::{NoMemory, Room};
-use message_queue::{LONGEST, MessageQueue};
+use er_base::NoMemory;
+use message_queue::MessageQueue;
 use std::alloc::Global;
 use std::marker::Model;
 
 /// The greatest number of messages that wait.
 pub const SLOTS: usize = 15;
 
-/// The accepted messages that wait for the user, in slots that are reserved once, and the one that was taken last.
+/// The accepted messages that wait for the user, in slots that are reserved once. The one that was taken in this event is lent from its
+/// slot, which is free again when the next event begins.
 #[derive(Drop)]
 pub struct Inbox {
     messages: MessageQueue,
-    taken: Room,
+    lent: bool,
     fresh: bool,
 }
 
 impl Model for Inbox {
-    ghost use Rattle.std.specs.Prelude.{◌≡◌, ◌≤◌, length};
-    ghost use Rattle.er_end.specs.Inboxes.{KInbox};
+    ghost use Rattle.std.specs.Prelude.{◌≡◌};
+    ghost use Rattle.er_end.specs.Inboxes.{KInbox, behind, taken_from, IsWithin};
 
     ghost Value = { KInbox };
 
-    ghost view = { λ i. record { waits = i.messages.waits; last = i.taken.items; fresh = i.fresh } };
+    ghost view = { λ i. record { waits = behind i.lent i.messages.waits; last = taken_from i.lent i.messages.waits; fresh = i.fresh } };
 
-    ghost invariant = { λ i. (i.messages.slots ≡ 15) × (i.taken.capacity ≡ 1032) };
+    ghost invariant = { λ i. (i.messages.slots ≡ 16) × IsWithin i.lent i.messages.waits };
 }
 
 impl Inbox {
-    /// No messages, and room for fifteen.
+    /// No messages, and room for fifteen behind one that is lent.
     pub fn with_slots(alloc: Global) -> Result<Inbox, NoMemory>
         ensures { IfOk result (λ made. made ≡ empty) }
     {
-        let messages = MessageQueue::with_slots(alloc, SLOTS)?;
-        let taken = Room::with_capacity(alloc, LONGEST)?;
+        let messages = MessageQueue::with_slots(alloc, SLOTS + 1)?;
         Ok(Inbox {
             messages,
-            taken,
+            lent: false,
             fresh: false,
         })
     }
 
-    /// An event begins: no message came in it yet.
+    /// An event begins: no message came in it yet, and none was taken.
     pub fn begin(&mut self)
-        ensures { self.new ≡ record self.old { fresh = false } }
+        ensures { self.new ≡ record self.old { last = []; fresh = false } }
     {
+        if self.lent {
+            self.messages.pop();
+            self.lent = false;
+        }
         self.fresh = false;
     }
 
@@ -54,7 +58,7 @@ impl Inbox {
         requires { length message.now ≤ 1023 }
         ensures { self.new ≡ kept_more self.old message.now }
     {
-        if self.messages.len() < SLOTS {
+        if self.len() < SLOTS {
             self.messages.push(message);
             self.fresh = true;
         }
@@ -64,7 +68,10 @@ impl Inbox {
     pub fn take(&mut self)
         ensures { self.new ≡ kept_fewer self.old }
     {
-        self.messages.take(&mut self.taken);
+        if self.lent {
+            self.messages.pop();
+        }
+        self.lent = self.messages.len() > 0;
     }
 
     /// How many messages wait, at most 15.
@@ -72,23 +79,30 @@ impl Inbox {
         ensures value { result ≡ length self.now.waits }
         ensures most { result ≤ 15 }
     {
-        self.messages.len()
+        if self.lent {
+            self.messages.len() - 1
+        } else {
+            self.messages.len()
+        }
     }
 
     /// Lends the message that came in this event.
     pub fn newest(&self) -> Option<&[u8]>
         ensures { option_map (λ m. m.now) result ≡ newest_of self.now }
     {
-        if !self.fresh {
+        if !self.fresh || self.len() == 0 {
             return None;
         }
         self.messages.last()
     }
 
-    /// Lends the message that was taken last.
+    /// Lends the message that was taken in this event; no octets where none was.
     pub fn taken(&self) -> &[u8]
         ensures { result.now ≡ self.now.last }
     {
-        self.taken.held()
+        if !self.lent {
+            return &[];
+        }
+        self.messages.first().unwrap_or(&[])
     }
 }

@@ -14,9 +14,10 @@ ghost use Rattle.er_end.specs.Coming.{Spent};
 mod events;
 mod rising;
 
+use crate::blocks::{next_block, write_block};
 use crate::inbox::Inbox;
-use crate::letter::Letter;
 use crate::line::Line;
+use arrayvec::ArrayVec;
 use er_base::{Cause, Release, Room};
 use safety_automaton::{Safe, SafeState};
 use std::marker::Model;
@@ -36,16 +37,16 @@ const REFERENCE: u16 = 1;
 /// The station, the blocks, the transport with the messages that wait for the user, the safety side, and what came of this event.
 #[derive(Drop)]
 pub struct Layers {
-    pub(crate) line: Line,
-    pub(crate) joiner: Joiner,
-    pub(crate) transport: Transport,
-    pub(crate) inbox: Inbox,
-    pub(crate) safe: Safe,
     pub(crate) limit: u64,
     pub(crate) moment: u64,
     pub(crate) connected: Option<u32>,
     pub(crate) leaves: Option<Release>,
     pub(crate) released: Option<Release>,
+    pub(crate) line: Line,
+    pub(crate) transport: Transport,
+    pub(crate) inbox: Inbox,
+    pub(crate) joiner: Joiner,
+    pub(crate) safe: Safe,
 }
 
 impl Model for Layers {
@@ -111,23 +112,27 @@ impl Layers {
     }
 
     // A TPDU of the end's own goes down, where the station may send.
-    fn give_if_may(&mut self, tpdu: &Tpdu, letter: &mut Letter)
+    fn give_if_may(&mut self, tpdu: &Tpdu, scratch: &mut Room)
         requires value { IsWritable (pdu_of tpdu.now) }
+        requires scratch { scratch.old.capacity ≡ 1032 }
         requires room { Spent 63 self.old.line }
         ensures core { (given : Given) → octets_given given ≡ written_octets (pdu_of tpdu.now) → self.new ≡ gives_if_may kept given self.old }
         ensures spent { Spent 63 self.new.line }
+        ensures capacity { scratch.new.capacity ≡ 1032 }
     {
         if self.line.may_send() {
-            letter.write(tpdu);
-            self.line.hand(self.moment, letter.block());
+            write_block(tpdu, scratch);
+            self.line.hand(self.moment, scratch.held());
         }
     }
 
-    fn give_dr(&mut self, reason: u8, user: &[u8], letter: &mut Letter)
+    fn give_dr(&mut self, reason: u8, user: &[u8], scratch: &mut Room)
         requires user { length user.now ≤ 64 }
+        requires scratch { scratch.old.capacity ≡ 1032 }
         requires room { Spent 63 self.old.line }
         ensures core { self.new ≡ gives_if_may kept (Dr reason user.now) self.old }
         ensures spent { Spent 63 self.new.line }
+        ensures capacity { scratch.new.capacity ≡ 1032 }
     {
         let (dst, src) = (REFERENCE, REFERENCE);
         self.give_if_may(
@@ -137,17 +142,19 @@ impl Layers {
                 reason,
                 user,
             },
-            letter,
+            scratch,
         );
     }
 
-    fn give_dc(&mut self, letter: &mut Letter)
+    fn give_dc(&mut self, scratch: &mut Room)
+        requires scratch { scratch.old.capacity ≡ 1032 }
         requires room { Spent 63 self.old.line }
         ensures core { self.new ≡ gives_if_may kept Dc self.old }
         ensures spent { Spent 63 self.new.line }
+        ensures capacity { scratch.new.capacity ≡ 1032 }
     {
         let (dst, src) = (REFERENCE, REFERENCE);
-        self.give_if_may(&Tpdu::Dc { dst, src }, letter);
+        self.give_if_may(&Tpdu::Dc { dst, src }, scratch);
     }
 
     fn shut(&mut self)
@@ -166,37 +173,56 @@ impl Layers {
     }
 
     /// This end leaves: a DR with this reason and user data, then the link is ended.
-    pub(crate) fn depart(&mut self, why: Release, reason: u8, user: &[u8], letter: &mut Letter)
+    pub(crate) fn depart(&mut self, why: Release, reason: u8, user: &[u8], scratch: &mut Room)
         requires user { length user.now ≤ 64 }
+        requires scratch { scratch.old.capacity ≡ 1032 }
         requires room { Spent 63 self.old.line }
-        ensures { self.new ≡ departs kept why reason user.now self.old }
+        ensures core { self.new ≡ departs kept why reason user.now self.old }
+        ensures capacity { scratch.new.capacity ≡ 1032 }
     {
-        self.give_dr(reason, user, letter);
+        self.give_dr(reason, user, scratch);
         self.shut();
         self.end(why);
     }
 
-    // The peer left by a DR.
-    fn cut_off(&mut self, why: Release, letter: &mut Letter)
+    /// This end leaves, and the DI that was written last is the user data of its DR.
+    pub(crate) fn depart_with_di(&mut self, why: Release, scratch: &mut Room)
+        requires di { length scratch.old.items ≤ 64 }
+        requires scratch { scratch.old.capacity ≡ 1032 }
         requires room { Spent 63 self.old.line }
-        ensures { self.new ≡ cut_off kept why self.old }
+        ensures core { self.new ≡ departs kept why normal_disconnect scratch.old.items self.old }
+        ensures capacity { scratch.new.capacity ≡ 1032 }
     {
-        self.give_dc(letter);
+        let mut di = ArrayVec::<u8, 64>::new();
+        di.try_extend_from_slice(scratch.held()).unwrap();
+        self.depart(why, NORMAL_DISCONNECT, di.as_slice(), scratch);
+    }
+
+    // The peer left by a DR.
+    fn cut_off(&mut self, why: Release, scratch: &mut Room)
+        requires scratch { scratch.old.capacity ≡ 1032 }
+        requires room { Spent 63 self.old.line }
+        ensures core { self.new ≡ cut_off kept why self.old }
+        ensures capacity { scratch.new.capacity ≡ 1032 }
+    {
+        self.give_dc(scratch);
         self.finish();
         self.end(why);
     }
 
-    // The safety side was released: by this end, whose DI is the answer, or by the peer.
-    fn part(&mut self, why: Release, answer: &Room, letter: &mut Letter)
-        requires answer { length answer.now.items ≤ 64 }
+    // The safety side was released: by this end, whose DI was written last, or by the peer.
+    fn part(&mut self, why: Release, scratch: &mut Room)
+        requires di { length scratch.old.items ≤ 64 }
+        requires scratch { scratch.old.capacity ≡ 1032 }
         requires room { Spent 63 self.old.line }
-        ensures { self.new ≡ parts kept why answer.now.items self.old }
+        ensures core { self.new ≡ parts kept why scratch.old.items self.old }
+        ensures capacity { scratch.new.capacity ≡ 1032 }
     {
         if why.by_peer {
             self.shut();
             self.end(why);
         } else {
-            self.depart(why, NORMAL_DISCONNECT, answer.held(), letter);
+            self.depart_with_di(why, scratch);
         }
     }
 
@@ -236,33 +262,37 @@ impl Layers {
     // ---- what goes down behind each event
 
     // The next TPDU goes down, while no payload waits; whether it did.
-    fn offer_one(&mut self, letter: &mut Letter) -> bool
-        requires { Spent 63 self.old.line }
+    fn offer_one(&mut self, scratch: &mut Room) -> bool
+        requires scratch { scratch.old.capacity ≡ 1032 }
+        requires room { Spent 63 self.old.line }
         ensures core { self.new ≡ if goes_on kept self.old then gives_next kept self.old else self.old }
         ensures more { result ≡ goes_on kept self.old }
         ensures spent { Spent 63 self.new.line }
         ensures inbox { self.new.upper.inbox ≡ self.old.upper.inbox }
+        ensures capacity { scratch.new.capacity ≡ 1032 }
     {
         if !self.line.is_free() {
             return false;
         }
-        if !letter.next_of(&mut self.transport) {
+        if !next_block(&mut self.transport, scratch) {
             return false;
         }
-        self.line.hand(self.moment, letter.block());
+        self.line.hand(self.moment, scratch.held());
         true
     }
 
     #[tactic(auto, using(crate::proofs::Offers::stops, crate::proofs::Offers::none_left, crate::proofs::Offers::one_more))]
-    fn offer(&mut self, letter: &mut Letter)
-        requires { Spent 63 self.old.line }
+    fn offer(&mut self, scratch: &mut Room)
+        requires scratch { scratch.old.capacity ≡ 1032 }
+        requires room { Spent 63 self.old.line }
         ensures core { self.new ≡ offers kept 33 self.old }
         ensures spent { Spent 63 self.new.line }
         ensures inbox { self.new.upper.inbox ≡ self.old.upper.inbox }
+        ensures capacity { scratch.new.capacity ≡ 1032 }
     {
         let mut left = MOST_OFFERS;
         while left > 0 {
-            if !self.offer_one(letter) {
+            if !self.offer_one(scratch) {
                 return;
             }
             left -= 1;
@@ -270,15 +300,17 @@ impl Layers {
     }
 
     /// What goes down behind an event that didn't release the end.
-    pub(crate) fn conclude(&mut self, letter: &mut Letter)
-        requires { self.old.released ≡ None → Spent 63 self.old.line }
+    pub(crate) fn conclude(&mut self, scratch: &mut Room)
+        requires scratch { scratch.old.capacity ≡ 1032 }
+        requires room { self.old.released ≡ None → Spent 63 self.old.line }
         ensures core { self.new ≡ concludes kept self.old }
         ensures inbox { self.new.upper.inbox ≡ self.old.upper.inbox }
+        ensures capacity { scratch.new.capacity ≡ 1032 }
     {
         if self.is_released() {
             return;
         }
-        self.offer(letter);
+        self.offer(scratch);
         self.finish();
     }
 

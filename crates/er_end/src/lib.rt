@@ -7,13 +7,13 @@
 //! model (`end_model`).
 #![tactic(auto)]
 
+mod blocks;
 mod came;
 mod deeds;
 mod end;
 mod inbox;
 pub mod laws;
 mod layers;
-mod letter;
 mod line;
 
 pub use deeds::{Deeds, SendRefused, Taken};

@@ -1,4 +1,3 @@
-pub mod Windowed
 pub mod Sends
 pub mod Follow
 pub mod Alikes

@@ -10,7 +10,6 @@ mod hearing;
 pub mod laws;
 mod ring;
 mod sending;
-mod slot;
 mod station;
 #[cfg(test)]
 mod tests;

@@ -1,5 +1,4 @@
-use er_base::Room;
-use message_queue::{LONGEST, MessageQueue};
+use message_queue::MessageQueue;
 use std::test::Fail;
 
 fn holds(queue: &MessageQueue, first: &[u8], last: &[u8]) -> bool {
@@ -9,19 +8,18 @@ fn holds(queue: &MessageQueue, first: &[u8], last: &[u8]) -> bool {
 #[test]
 fn messages_leave_a_queue_in_their_order(rt: HostRuntime) -> Result<(), Fail> {
     let mut queue = MessageQueue::with_slots(rt.alloc(), 2)?;
-    let mut taken = Room::with_capacity(rt.alloc(), LONGEST)?;
     assert!(rt; queue.len() == 0 && queue.first().is_none() && queue.last().is_none());
     queue.push(&[1, 2, 3, 4]);
     queue.push(&[5]);
     assert!(rt; queue.len() == 2 && holds(&queue, &[1, 2, 3, 4], &[5]));
-    queue.take(&mut taken);
-    assert!(rt; taken.held() == [1, 2, 3, 4].as_slice() && holds(&queue, &[5], &[5]));
-    queue.push(&[6, 7]);
-    assert!(rt; taken.held() == [1, 2, 3, 4].as_slice() && holds(&queue, &[5], &[6, 7]));
     queue.pop();
-    queue.take(&mut taken);
-    assert!(rt; taken.held() == [6, 7].as_slice() && queue.len() == 0);
-    queue.take(&mut taken);
-    assert!(rt; taken.held().is_empty());
+    assert!(rt; queue.len() == 1 && holds(&queue, &[5], &[5]));
+    queue.push(&[6, 7]);
+    assert!(rt; queue.len() == 2 && holds(&queue, &[5], &[6, 7]));
+    queue.pop();
+    assert!(rt; queue.len() == 1 && holds(&queue, &[6, 7], &[6, 7]));
+    queue.pop();
+    queue.pop();
+    assert!(rt; queue.len() == 0 && queue.first().is_none() && queue.last().is_none());
     Ok(())
 }

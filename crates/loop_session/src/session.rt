@@ -17,11 +17,11 @@ use std::marker::Model;
 #[derive(Drop)]
 pub struct Session<U: SafeUser> {
     pub(crate) number: u64,
-    pub(crate) end: End,
     pub(crate) user: Option<U>,
     pub(crate) output: BytesMut,
     pub(crate) broken: bool,
     pub(crate) closing: Option<u64>,
+    pub(crate) end: End,
 }
 
 impl<U: SafeUser> Model for Session<U> {
@@ -53,11 +53,11 @@ impl<U: SafeUser> Session<U> {
     {
         Session {
             number,
-            end,
             user: Some(user),
             output: BytesMut::new(alloc),
             broken: false,
             closing: None,
+            end,
         }
     }
 

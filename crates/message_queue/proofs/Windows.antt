@@ -152,31 +152,31 @@ module _ (n k c : ℕ) (xs : List (List ℕ)) (head : k ≤ n) (count : c < n) (
       ∙ ap (λ ws. ws ++ x ∷ []) (window_grow n k c xs head count made reached [] made_next)
 
 module _ (n k c : ℕ) (xs : List (List ℕ)) (head : k ≤ n) (count : c ≤ n) (made : length xs ≤ n) (reached : IsReached k c (length xs) n) where
-  -- the oldest message leaves, and another waits
-  pub reached_next : 1 < c → IsReached (place n k 1) (c - 1) (length xs) n
-  reached_next more fewer = elim (place_is n k 1) [
+  -- the m oldest messages leave, and another waits
+  pub reached_next : (m : ℕ) → m < c → IsReached (place n k m) (c - m) (length xs) n
+  reached_next m more fewer = elim (place_is n k m) [
     | inl before ↦ omega (arith, before, reached fewer, more)
     | inr past ↦ omega (arith, past, reached fewer, more)
   ]
 
-  pub head_next : 1 < c → place n k 1 ≤ n
-  head_next more = elim (place_is n k 1) [
+  pub head_next : (m : ℕ) → m < c → place n k m ≤ n
+  head_next m more = elim (place_is n k m) [
     | inl before ↦ omega (arith, before)
     | inr past ↦ omega (arith, past, more, count)
   ]
 
-  pub window_next : 1 < c → window (place n k 1) (c - 1) xs ≡ drop 1 (window k c xs)
-  window_next more =
-      let in_range : place n k 1 ≤ n = head_next more in
-      let next = reached_next more in
+  pub window_next : (m : ℕ) → m < c → window (place n k m) (c - m) xs ≡ drop m (window k c xs)
+  window_next m more =
+      let in_range : place n k m ≤ n = head_next m more in
+      let next = reached_next m more in
       let length_old = length-window n k c xs head count made reached in
-      let length_new = length-window n (place n k 1) (c - 1) xs in_range (omega arith) made next in
+      let length_new = length-window n (place n k m) (c - m) xs in_range (omega arith) made next in
       same_lists _ _ (simp length-drop (omega arith)) (λ i d below. grind (
         arith,
-        get_or-drop 1 (window k c xs) i d,
-        place_is n k 1,
-        place_is n k (1 + i),
-        place_is n (place n k 1) i,
-        get_or-window n k c xs head count made reached (1 + i) d,
-        get_or-window n (place n k 1) (c - 1) xs in_range (omega arith) made next i d,
+        get_or-drop m (window k c xs) i d,
+        place_is n k m,
+        place_is n k (m + i),
+        place_is n (place n k m) i,
+        get_or-window n k c xs head count made reached (m + i) d,
+        get_or-window n (place n k m) (c - m) xs in_range (omega arith) made next i d,
       ))

@@ -1,5 +1,5 @@
 -- Messages that wait, the oldest first.
-use Rattle.std.specs.Prelude.{ℕ, List, [], ◌∷◌}
+use Rattle.std.specs.Prelude.{ℕ, List, []}
 
 pub record Queue : Type 0 where
   -- those that wait
@@ -10,8 +10,3 @@ pub record Queue : Type 0 where
 -- none waits
 abbrev pub empty : (slots : ℕ) → Queue
 empty slots = record { waits = []; slots = slots }
-
--- the oldest one, or none
-abbrev pub oldest : List (List ℕ) → List ℕ
-oldest [] = []
-oldest (message ∷ messages) = message

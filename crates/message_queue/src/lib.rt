@@ -5,4 +5,3 @@ mod queue;
 mod slot;
 
 pub use queue::MessageQueue;
-pub use slot::LONGEST;

@@ -1,11 +1,11 @@
 //! The queue and its calls.
 
 ghost use Rattle.std.specs.Prelude.{◌≡◌, ◌+◌, ◌≤◌, ◌<◌, ◌-◌, ◌∷◌, ◌++◌, [], length, drop, option_map, slice_get, slice_index_or, IfOk};
-ghost use Rattle.message_queue.specs.Queues.{empty, oldest};
+ghost use Rattle.message_queue.specs.Queues.{empty};
 ghost use Rattle.message_queue.specs.Kept.{place};
 
 use crate::slot::Slot;
-use er_base::{NoMemory, Room};
+use er_base::NoMemory;
 use std::alloc::Global;
 use std::marker::Model;
 
@@ -68,8 +68,8 @@ impl MessageQueue {
         self.count += 1;
     }
 
-    // Lends message i, counted from the oldest on.
-    fn get(&self, i: usize) -> &[u8]
+    /// Lends message i, counted from the oldest on.
+    pub fn get(&self, i: usize) -> &[u8]
         requires { i < length self.now.waits }
         ensures value { result.now ≡ slice_index_or self.now.waits i [] }
         ensures fits { length result.now ≤ 1032 }
@@ -106,7 +106,19 @@ impl MessageQueue {
         if self.count <= 1 {
             self.clear();
         } else {
-            self.go_on();
+            self.go_on(1);
+        }
+    }
+
+    /// The n oldest messages no longer wait.
+    pub fn drop_first(&mut self, n: usize)
+        requires { n ≤ length self.old.waits }
+        ensures { self.new ≡ record self.old { waits = drop n self.old.waits } }
+    {
+        if n == self.count {
+            self.clear();
+        } else {
+            self.go_on(n);
         }
     }
 
@@ -118,27 +130,13 @@ impl MessageQueue {
         self.count = 0;
     }
 
-    // The oldest message no longer waits, and another does.
-    fn go_on(&mut self)
-        requires { 1 < length self.old.waits }
-        ensures { self.new ≡ record self.old { waits = drop 1 self.old.waits } }
+    // The n oldest messages no longer wait, and another does.
+    fn go_on(&mut self, n: usize)
+        requires { n < length self.old.waits }
+        ensures { self.new ≡ record self.old { waits = drop n self.old.waits } }
     {
-        self.head = place(self.most, self.head, 1);
-        self.count -= 1;
-    }
-
-    /// The oldest message no longer waits: it is in the room now, which has room for the longest. Where none waits, the room is empty.
-    pub fn take(&mut self, taken: &mut Room)
-        requires { 1032 ≤ taken.old.capacity }
-        ensures queue { self.new ≡ record self.old { waits = drop 1 self.old.waits } }
-        ensures taken { taken.new.items ≡ oldest self.old.waits }
-        ensures capacity { taken.new.capacity ≡ taken.old.capacity }
-    {
-        taken.clear();
-        if self.count > 0 {
-            taken.put(self.get(0));
-        }
-        self.pop();
+        self.head = place(self.most, self.head, n);
+        self.count -= n;
     }
 }
 

@@ -4,8 +4,8 @@ ghost use Rattle.std.specs.Prelude.{◌≡◌, ◌≤◌, [], length};
 
 use std::marker::Model;
 
-/// The greatest number of octets of a message.
-pub const LONGEST: usize = 1_032;
+// The greatest number of octets of a message.
+const LONGEST: usize = 1_032;
 
 /// A message, in room for the longest; the number of its octets stands before them. Contracts see the message.
 #[derive(Drop)]

@@ -40,9 +40,9 @@ impl Joiner {
         }
     }
 
-    /// Adds a block: lends the whole TPDU where it was the last block, and answers None exactly where
-    /// more blocks follow. After a whole TPDU and after a fault the joiner holds no octets.
-    pub fn add(&mut self, block: &[u8]) -> Result<Option<&[u8]>, BlockFault>
+    /// Adds a block: lends the whole TPDU where it was the last block, from the block itself where that is all of it, and answers None
+    /// exactly where more blocks follow. After a whole TPDU and after a fault the joiner holds no octets.
+    pub fn add<'a>(&'a mut self, block: &'a [u8]) -> Result<Option<&'a [u8]>, BlockFault>
         ensures* after { sem 𝓛 (Rests self.entry (step self.old block.now).0) }
         ensures gives { Gives result (step self.old block.now).1 }
     {
@@ -55,6 +55,9 @@ impl Joiner {
         if end > LIMIT {
             self.len = 0;
             return Err(BlockFault::Long(end));
+        }
+        if !more && self.len == 0 {
+            return Ok(Some(carried));
         }
         self.buffer[self.len..end].copy_from_slice(carried);
         if more {

@@ -432,15 +432,20 @@ impl Transport {
             self.stage = Stage::Over;
             return refused(Cause::MessageTooLong, PROTOCOL_ERROR);
         }
-        self.text.put(user);
         let number = self.received;
         self.received = (number + 1) % 128;
-        if last {
-            self.lasts.push(number);
-            self.is_whole = true;
-            return TransportDeed::Message(self.text.held());
+        if !last {
+            self.text.put(user);
+            return TransportDeed::Nothing;
         }
-        TransportDeed::Nothing
+        self.lasts.push(number);
+        // a message that came in one DT is lent as it came
+        if self.text.held().is_empty() {
+            return TransportDeed::Message(user);
+        }
+        self.text.put(user);
+        self.is_whole = true;
+        TransportDeed::Message(self.text.held())
     }
 
     // Whether a DT is the expected one, was granted, and has the agreed size.

@@ -11,7 +11,6 @@ ghost use Rattle.er_end.specs.Coming.{Spent, carrier_of, comes_to, CanCome, IsCa
 
 use crate::came::{Brought, Came};
 use crate::layers::Layers;
-use crate::letter::Letter;
 use er_base::{Cause, Release, Room};
 use hdlc_balanced::LinkDeed;
 use safety_automaton::{KeyFinder, SafeDeed, SafeState};
@@ -126,24 +125,26 @@ impl Layers {
     }
 
     // What goes down then.
-    fn act(&mut self, came: Came, answer: &Room, letter: &mut Letter)
-        requires answer { length answer.now.items ≤ 32 }
+    fn act(&mut self, came: Came, scratch: &mut Room)
+        requires answer { length scratch.old.items ≤ 32 }
+        requires scratch { scratch.old.capacity ≡ 1032 }
         requires called { CanCome came self.old }
         requires room { Spent 63 self.old.line }
         requires live { self.old.released ≡ None }
-        ensures core { self.new ≡ comes_to came answer.now.items self.old }
+        ensures core { self.new ≡ comes_to came scratch.old.items self.old }
         ensures spent { self.new.released ≡ None → Spent 63 self.new.line }
+        ensures capacity { scratch.new.capacity ≡ 1032 }
     {
         match came {
             Came::Nothing => {}
-            Came::Answers { by } => self.reply(by, answer),
+            Came::Answers { by } => self.reply(by, scratch),
             Came::Connects { by, peer } => {
-                self.reply(by, answer);
+                self.reply(by, scratch);
                 self.connected = Some(peer);
             }
-            Came::Parts { why } => self.part(why, answer, letter),
-            Came::CutsOff { why } => self.cut_off(why, letter),
-            Came::Departs { why, reason } => self.depart(why, reason, &[], letter),
+            Came::Parts { why } => self.part(why, scratch),
+            Came::CutsOff { why } => self.cut_off(why, scratch),
+            Came::Departs { why, reason } => self.depart(why, reason, &[], scratch),
         }
     }
 
@@ -168,24 +169,23 @@ impl Layers {
         &mut self,
         keys: &K,
         deed: &LinkDeed,
-        answer: &mut Room,
-        letter: &mut Letter,
+        scratch: &mut Room,
     )
-        requires answer { answer.old.capacity ≡ 1032 }
+        requires scratch { scratch.old.capacity ≡ 1032 }
         requires room { Spent 63 self.old.line }
         requires live { self.old.released ≡ None }
         ensures core { self.new ≡ link_comes kept (key_at (K.entries keys.now)) (deed_of deed.now) self.old }
-        ensures capacity { answer.new.capacity ≡ 1032 }
+        ensures capacity { scratch.new.capacity ≡ 1032 }
         ensures spent { self.new.released ≡ None → Spent 63 self.new.line }
     {
         match deed.payload {
             Some(payload) => {
-                let came = self.rise(keys, payload, answer);
-                self.act(came, answer, letter);
+                let came = self.rise(keys, payload, scratch);
+                self.act(came, scratch);
             }
             None => {
                 if deed.up {
-                    self.come_up(answer);
+                    self.come_up(scratch);
                 } else if let Some(why) = deed.released {
                     self.end(why);
                 }

@@ -7,6 +7,6 @@ use Rattle.er_end.proofs.layers.Layers.give_up.Goals as goal
 pub returns-clause-core : goal.returns-clause-core
 returns-clause-core c =
     let x : KCore = c.args.self.now in
-    c.depart.ensures
-    ∙ ap (λ (d : List ℕ). departs kept c.release-why.result normal_disconnect d x) (c.held.ensures ∙ c.write_di.ensures.di)
+    c.depart_with_di.ensures.core
+    ∙ ap (λ (d : List ℕ). departs kept c.release-why.result normal_disconnect d x) c.write_di.ensures.di
     ∙ ap (λ (w : Release). departs kept w normal_disconnect (di_of w x.safe.safety) x) c.release-why.ensures

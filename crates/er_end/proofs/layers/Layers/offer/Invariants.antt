@@ -9,6 +9,7 @@ invariant-loop-left l =
     (offers kept l.left l.self ≡ offers kept 33 l.fn.self)
     × Spent 63 l.self.line
     × (l.self.upper.inbox ≡ l.fn.self.upper.inbox)
+    × (l.scratch.capacity ≡ 1032)
 
 abbrev pub decreases-loop-left : goal.decreases-loop-left
 decreases-loop-left l = l.left

@@ -12,9 +12,10 @@ returns c =
     let made : length xs ≤ q.most = omega (arith, length_xs, c.self.invariant.2) in
     let reached : IsReached q.head q.count (length xs) q.most = λ fewer. omega (arith, length_xs, c.self.invariant.4 (omega (arith, length_xs, fewer))) in
     let counted = length-window q.most q.head q.count xs c.self.invariant.0 c.self.invariant.1 made reached in
-    let more : 1 < q.count = omega (arith, counted, ap (λ (s : Queue). length s.waits) c.self.view_is, c.requires) in
+    let n = c.args.n in
+    let more : n < q.count = omega (arith, counted, ap (λ (s : Queue). length s.waits) c.self.view_is, c.requires) in
     let waits =
-    ap (λ h. window h (q.count - 1) xs) c.place-self-inside.ensures
-    ∙ window_next q.most q.head q.count xs c.self.invariant.0 c.self.invariant.1 made reached more
-    ∙ ap (λ (s : Queue). drop 1 s.waits) c.self.view_is in
-    ap (λ ws. record { waits = ws; slots = q.most }) waits ∙ ap (λ (s : Queue). record { waits = drop 1 c.args.self.now.waits; slots = s.slots }) c.self.view_is
+    ap (λ h. window h (q.count - n) xs) c.place-self-inside.ensures
+    ∙ window_next q.most q.head q.count xs c.self.invariant.0 c.self.invariant.1 made reached n more
+    ∙ ap (λ (s : Queue). drop n s.waits) c.self.view_is in
+    ap (λ ws. record { waits = ws; slots = q.most }) waits ∙ ap (λ (s : Queue). record { waits = drop n c.args.self.now.waits; slots = s.slots }) c.self.view_is
