@@ -34,12 +34,7 @@ impl Layers {
     }
 
     /// What a deframer found comes.
-    pub(crate) fn receive<K: KeyFinder>(
-        &mut self,
-        keys: &K,
-        found: &Found,
-        scratch: &mut Room,
-    )
+    pub(crate) fn receive<K: KeyFinder>(&mut self, keys: &K, found: &Found, scratch: &mut Room)
         requires begun { self.old.line.out ≡ [] }
         requires scratch { scratch.old.capacity ≡ 1032 }
         ensures core { self.new ≡ received kept (key_at (K.entries keys.now)) (shown found.now) self.old }

@@ -165,12 +165,7 @@ impl Layers {
     }
 
     /// What the station told goes up.
-    pub(crate) fn link_comes<K: KeyFinder>(
-        &mut self,
-        keys: &K,
-        deed: &LinkDeed,
-        scratch: &mut Room,
-    )
+    pub(crate) fn link_comes<K: KeyFinder>(&mut self, keys: &K, deed: &LinkDeed, scratch: &mut Room)
         requires scratch { scratch.old.capacity ≡ 1032 }
         requires room { Spent 63 self.old.line }
         requires live { self.old.released ≡ None }
