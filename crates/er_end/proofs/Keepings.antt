@@ -1,5 +1,5 @@
 -- What an event leaves of what is kept.
-use Rattle.std.proofs.Common.{◌≡◌, inl, inr, ◌+◌, ◌-◌, ◌≤◌, ◌∙◌, ℕ, zero, suc, max, Bool, true, false, ◌&&◌, List, [], ◌∷◌, ◌++◌, length, drop, Option, Some, None, Ok, Err, refl, sym, ap, subst, arith, append-nil, length-append, eqb-true, true≢false}
+use Rattle.std.proofs.Common.{◌≡◌, inl, inr, ◌+◌, ◌-◌, ◌≤◌, ◌∙◌, ℕ, zero, suc, Bool, true, false, ◌&&◌, List, [], ◌∷◌, ◌++◌, length, drop, Option, Some, None, Ok, Err, refl, sym, ap, subst, arith, append-nil, length-append, eqb-true, true≢false}
 use Rattle.std.specs.Prelude.{nat_lt, if◌then◌else◌, ◌==◌, slice_get, is_some}
 use Rattle.std.specs.Option.{option_to_list}
 use Rattle.std.proofs.lemmas.Bool.{cases_Bool}
@@ -10,7 +10,6 @@ use Rattle.er_base.specs.declared.cause.Cause.TheVariants.{User, BlockRefused, S
 use Rattle.hdlc_frames.specs.Framing.{Verdict, frames_of}
 use Rattle.hdlc_frames.specs.Deframing as deframing
 use Rattle.hdlc_frames.specs.Deframing.{used_behind, has_verdicts}
-use Rattle.station_model.specs.Stations.{Deed as LinkDeed}
 use Rattle.t70_header.specs.Joining as joining
 use Rattle.x224_class2.specs.Refusals.{protocol_error}
 use Rattle.x224_class2.specs.Tpdus.{Given, Dr, Dc}
@@ -22,11 +21,11 @@ use Rattle.safety_automaton.specs.Reports.{Report, ToldAnswered, ToldConnected, 
 use Rattle.safety_automaton.specs.Safety.{ConnectRequest, Received, DataRequest, DisconnectRequest, sent_by, peer_flag, step}
 use Rattle.end_model.specs.Outcomes.{Outcome, ConnectedTo, Accepted, Taken, NothingToTake, Refused, WasReleased, Octets, SendRefusal}
 use Rattle.end_model.specs.Steps.{Finds, begins, begins_at, gives_if_may, departs, cut_off, parts, why_of, spoken, is_some_octets, says, accepts, Carrier, InCr, InCc, InDt, answers, acts, text_comes, does, block_at, is_ready, connects, comes_up, link_at, gives_next, goes_on, offers, most_offers, concludes, received, refusal_of, sent, sends_unless, used, left, normal_disconnect, is_spent, di_of, time_at, ticked, broken, started, outcomes_of, if_connected, if_accepted, if_released, if_octets, if_taken}
-use Rattle.end_model.specs.Ends.{Event, Start, Come, Send, Take, Leave, Tick, Ended, Fault, Stalled, if_refused}
-use Rattle.er_end.specs.Inboxes.{KInbox, kept_more, kept_fewer, newest_of}
+use Rattle.end_model.specs.Ends.{Start, Come, Send, Take, Leave, Tick, Ended, Fault, Stalled, if_refused}
+use Rattle.er_end.specs.Inboxes.{KInbox, kept_more, newest_of}
 use Rattle.er_end.specs.KeptLayers.{KCore, kept}
-use Rattle.er_end.specs.KeptEnds.{KEnd, found_comes, used_of, after_start, after_octets, refusal, after_send, after_take, after_release, after_tick, after_break, waiting_in, deadline_of, happens, tells}
-use Rattle.er_end.specs.Keeping.{accepted_in, left_by, WaitsMove, is_octets, OctetsBring, ReleaseStays, BreaksRelease, ReleasedWantNone, ReleasedTellNone, Uses}
+use Rattle.er_end.specs.KeptEnds.{found_comes, used_of, after_start, after_octets, refusal, after_send, after_take, after_release, after_tick, after_break, waiting_in, deadline_of}
+use Rattle.er_end.specs.Keeping.{accepted_in, WaitsMove, OctetsBring, ReleaseStays, BreaksRelease, ReleasedWantNone, ReleasedTellNone, Uses}
 
 -- ---- the inbox, call by call
 
