@@ -3,6 +3,7 @@
 import os
 import signal
 import socket
+import statistics
 import subprocess
 import sys
 import time
@@ -10,7 +11,7 @@ import time
 bench, program, floor, work = sys.argv[1:]
 REPORTS = 1000
 CALLS = 256
-ROUNDS = 9
+ROUNDS = 15
 # How often `serve` writes to the line of one call (counted by strace), and how many octets, about; as much comes.
 EXCHANGES, PIECE = 5, 64
 KEYS = """version = 1
@@ -29,50 +30,76 @@ def ended(child):
     return used.ru_utime + used.ru_stime, used.ru_maxrss
 
 
-def played(trains, reports, times):
-    """A run that serves live trains once, and their record so often: seconds, the most KiB, and what it told."""
-    child = subprocess.Popen([bench, str(trains), str(reports), str(times)], stdout=subprocess.PIPE)
-    words = child.stdout.read().split()
-    seconds, most = ended(child)
-    told = dict(zip(words[0::2], map(int, words[1::2])))
-    if told[b"echoed"] != trains * reports:
-        sys.exit(f"{trains} trains weren't served whole: {told}")
-    return seconds, most, told
+class Rounds:
+    """A run of so many trains that serves their record round by round, and stands still between the rounds that are asked for."""
+
+    def __init__(self, trains, reports, times):
+        self.echoes, self.times, self.count, self.seconds = trains * reports, times, 0, []
+        words = [bench, str(trains), str(reports), str(times), str(ROUNDS + 2)]
+        self.child = subprocess.Popen(words, stdout=subprocess.PIPE)
+        self.used, self.first = 0, None
+        self.go_on()
+        self.seconds = []  # the first round has the live trains in it
+
+    def go_on(self):
+        """One more round: its seconds of processor time are kept."""
+        self.child.send_signal(signal.SIGCONT)
+        words = self.child.stdout.readline().split()
+        self.child.send_signal(signal.SIGSTOP)
+        os.waitpid(self.child.pid, os.WUNTRACED)
+        with open(f"/proc/{self.child.pid}/schedstat") as text:
+            used = int(text.read().split()[0])
+        self.seconds.append((used - self.used) / 1e9)
+        self.used = used
+        self.count += 1
+        told = dict(zip(words[0::2], map(int, words[1::2])))
+        self.first = self.first or told
+        if told[b"echoed"] != self.echoes:
+            sys.exit(f"the trains weren't served whole: {told}")
+        passes, first = 1 + self.times * self.count, 1 + self.times
+        if any(told[word] * first != self.first[word] * passes for word in (b"turns", b"written", b"journal")):
+            sys.exit(f"the record wasn't served as the live trains were: {told}, {self.first}")
+
+    def end(self):
+        self.child.kill()
+        self.child.wait()
 
 
-def turn(trains, reports, times):
-    """A run with the record so often, and one with live trains only: seconds of both."""
-    (seconds, _, whole), (live_seconds, _, live) = played(trains, reports, times), played(trains, reports, 0)
-    if any(whole[word] != live[word] * (times + 1) for word in (b"turns", b"written", b"journal")):
-        sys.exit(f"the record wasn't served as the live trains were: {whole}, {live}")
-    return seconds, live_seconds
-
-
-def loop_alone(turns, times):
-    """Seconds of the loop for all trains once: the least of the runs with the record, less the least of those with live trains only."""
-    return (min(whole for whole, _ in turns) - min(live for _, live in turns)) / times
+def took(trains):
+    """The most KiB that a run takes in which each train has one report said back."""
+    child = subprocess.Popen([bench, str(trains), "1", "0"], stdout=subprocess.DEVNULL)
+    return ended(child)[1]
 
 
 def in_memory():
-    cases = ((1, 256), (16, 16), (256, 3))
-    set_ups, reported = {trains: [] for trains, _ in cases}, {trains: [] for trains, _ in cases}
+    cases = ((1, 256), (16, 16), (256, 1))
+    set_ups = {trains: Rounds(trains, 0, 100 * times) for trains, times in cases}
+    reported = {trains: Rounds(trains, REPORTS, times) for trains, times in cases}
     # All cases in turns, so that what else the machine does is heard by each of them.
     for _ in range(ROUNDS):
-        for trains, times in cases:
-            set_ups[trains].append(turn(trains, 0, 100 * times))
-            reported[trains].append(turn(trains, REPORTS, times))
-    costs = {}
+        for case in [*set_ups.values(), *reported.values()]:
+            case.go_on()
+    least = {}
+    each = {}
     for trains, times in cases:
-        set_up = loop_alone(set_ups[trains], 100 * times) / trains
-        cost = costs[trains] = loop_alone(reported[trains], times) / trains / REPORTS - set_up / REPORTS
+        set_up = min(set_ups[trains].seconds) / (100 * times) / trains
+        each[trains] = [seconds / times / trains / REPORTS - set_up / REPORTS for seconds in reported[trains].seconds]
+        cost = least[trains] = min(each[trains])
         print(
             f"in memory, {trains:3} trains of {REPORTS} reports: {1 / cost:8.0f} messages/s, {cost * 1e6:6.2f} us a message, "
             f"{set_up * 1e6:6.1f} us a connection with its set-up",
             flush=True,
         )
-    print(f"what a message costs with 256 trains: {costs[256] / costs[1]:.2f} of that with one, {costs[16] / costs[1]:.2f} with 16")
+        set_ups[trains].end()
+        reported[trains].end()
+    for trains in (16, 256):
+        in_turn = statistics.median(many / one for many, one in zip(each[trains], each[1]))
+        print(
+            f"what a message costs with {trains:3} trains: {least[trains] / least[1]:.2f} of that with one by the least of {ROUNDS} rounds, "
+            f"{in_turn:.2f} at the median of the rounds"
+        )
     # By how much 64 trains more raise the most that the program takes; both are above what python took as it made the child.
-    few, many = (min(played(trains, 1, 0)[1] for _ in range(3)) for trains in (192, 256))
+    few, many = (min(took(trains) for _ in range(3)) for trains in (192, 256))
     print(f"in memory, a connection that carried a message, with the end of its train: {(many - few) / 64:.0f} KiB", flush=True)
 
 

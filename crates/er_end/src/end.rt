@@ -113,6 +113,7 @@ impl End {
         requires moment { now ≤ 1000000000000000 }
         ensures { IfOk result (λ end. end ≡ kept_end_made calls settings.now safe.safety now) }
     {
+        let scratch = Room::with_capacity(alloc, SCRATCH)?;
         let line = Line::new(alloc, calls, settings)?;
         let transport = if calls {
             Transport::caller(alloc, settings)?
@@ -120,7 +121,6 @@ impl End {
             Transport::callee(alloc, settings)?
         };
         let inbox = Inbox::with_slots(alloc)?;
-        let scratch = Room::with_capacity(alloc, SCRATCH)?;
         let layers = Layers {
             limit: now + settings.setup,
             moment: now,

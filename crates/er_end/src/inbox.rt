@@ -13,9 +13,9 @@ pub const SLOTS: usize = 15;
 /// slot, which is free again when the next event begins.
 #[derive(Drop)]
 pub struct Inbox {
-    messages: MessageQueue,
     lent: bool,
     fresh: bool,
+    messages: MessageQueue,
 }
 
 impl Model for Inbox {

@@ -22,8 +22,8 @@ const OUT: usize = 200_208;
 /// A station, and the octets that it sent in this event.
 #[derive(Drop)]
 pub struct Line {
-    station: Station,
     out: Room,
+    station: Station,
 }
 
 impl Model for Line {

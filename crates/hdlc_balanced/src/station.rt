@@ -30,7 +30,6 @@ pub struct Station {
     pub(crate) n2: u8,
     pub(crate) t1: u64,
     pub(crate) phase: Phase,
-    pub(crate) ring: Ring,
     pub(crate) acked: u8,
     pub(crate) ahead: u8,
     pub(crate) got: u8,
@@ -42,6 +41,7 @@ pub struct Station {
     pub(crate) timer: Option<u64>,
     pub(crate) moment: u64,
     pub(crate) counts: Counts,
+    pub(crate) ring: Ring,
 }
 
 impl Model for Station {

@@ -1,9 +1,11 @@
 //! The readiness loop as a radio block centre of so many trains. Each train is connected and sends position reports of 24 octets, the next
 //! once the last was said back, as the loop's users say each of them back. The loop serves live trains once, and then the record of what
-//! they sent, so often as is wanted: what it does is the same each time, but the trains cost nothing. All is at one moment. Prints one line:
-//! the messages that the live trains heard back, the turns of the loop, the octets that it wrote to the wires, and those of its journal.
+//! they sent, so often as is wanted: what it does is the same each time, but the trains cost nothing. All is at one moment. Behind each
+//! round of the record it prints one line of all that was until then: the messages that the live trains heard back, the turns of the loop,
+//! the octets that it wrote to the wires, and those of its journal.
 //!
-//! Its arguments, each with a default: the number of trains (2; at most 256), the reports of each (4), and how often the record is served (1).
+//! Its arguments, each with a default: the number of trains (2; at most 256), the reports of each (4), how often the record is served in a
+//! round (1), and the number of rounds (1).
 #![tactic(auto)]
 
 mod outside;
@@ -66,8 +68,8 @@ fn serve_once(
     Ok(served.turns)
 }
 
-// Serves the live trains, and then their record so often: how many turns it took.
-fn serve_all(
+// Serves the record of the live trains so often: how many turns it took.
+fn serve_record(
     alloc: Global,
     keys: &KeyStore,
     trains: u64,
@@ -75,7 +77,7 @@ fn serve_all(
     wires: &mut TrainWires,
     sink: &mut LoopSink,
 ) -> Result<u64, LoopFault> {
-    let mut turns = serve_once(alloc, keys, trains, wires, sink)?;
+    let mut turns = 0_u64;
     for _ in 0..times {
         wires.rewind();
         let more = serve_once(alloc, keys, trains, wires, sink)?;
@@ -85,7 +87,7 @@ fn serve_all(
 }
 
 fn main(rt: HostRuntime) -> io::Result<()> {
-    let mut numbers = [2, 4, 1];
+    let mut numbers = [2, 4, 1, 1];
     let mut words = env::args(&rt)?;
     let _program = words.next();
     for number in numbers.iter_mut() {
@@ -93,7 +95,7 @@ fn main(rt: HostRuntime) -> io::Result<()> {
             *number = word.parse::<u64>().unwrap_or(0);
         }
     }
-    let [trains, reports, times] = numbers;
+    let [trains, reports, times, rounds] = numbers;
     let trains = trains.min(256);
     let Ok(keys) = KeyStore::from_bytes(rt.alloc(), KEY_FILE) else {
         return Err(io::Error::from(io::ErrorKind::OutOfMemory));
@@ -102,13 +104,20 @@ fn main(rt: HostRuntime) -> io::Result<()> {
         return Err(io::Error::from(io::ErrorKind::OutOfMemory));
     };
     let mut sink = LoopSink { octets: 0 };
-    let Ok(turns) = serve_all(rt.alloc(), &keys, trains, times, &mut wires, &mut sink) else {
+    let Ok(mut turns) = serve_once(rt.alloc(), &keys, trains, &mut wires, &mut sink) else {
         return Err(io::Error::from(io::ErrorKind::Other));
     };
-    println!(rt;
-        "echoed {} turns {turns} written {} journal {}",
-        wires.record.echoed(),
-        wires.written,
-        sink.octets
-    )
+    for _ in 0..rounds {
+        let Ok(more) = serve_record(rt.alloc(), &keys, trains, times, &mut wires, &mut sink) else {
+            return Err(io::Error::from(io::ErrorKind::Other));
+        };
+        turns = turns.saturating_add(more);
+        println!(rt;
+            "echoed {} turns {turns} written {} journal {}",
+            wires.record.echoed(),
+            wires.written,
+            sink.octets
+        )?;
+    }
+    Ok(())
 }

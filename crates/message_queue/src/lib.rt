@@ -2,6 +2,7 @@
 #![tactic(auto)]
 
 mod queue;
+mod ring;
 mod slot;
 
 pub use queue::MessageQueue;

@@ -2,47 +2,49 @@
 
 ghost use Rattle.std.specs.Prelude.{◌≡◌, ◌+◌, ◌≤◌, ◌<◌, ◌-◌, ◌∷◌, ◌++◌, [], length, drop, option_map, slice_get, slice_index_or, IfOk};
 ghost use Rattle.message_queue.specs.Queues.{empty};
-ghost use Rattle.message_queue.specs.Kept.{place};
 
+use crate::ring::Ring;
 use crate::slot::Slot;
 use er_base::NoMemory;
 use std::alloc::Global;
 use std::marker::Model;
 
-/// Messages that wait, the oldest first, each of at most 1,032 octets, in a ring of so many slots, which are reserved once: no later call
-/// takes memory. Of a slot only the octets of its message are written, an empty queue begins at its first slot again, and a slot is touched
-/// for the first time when a message comes for it, so a queue in which few messages wait touches little memory.
+/// Messages that wait, the oldest first, each of at most 1,032 octets, and so many at most. Memory for all is reserved once: no later call
+/// takes any. A message that comes while none waits stands in the queue itself, those that come behind it in a ring of slots: what holds
+/// one message at a time touches no other memory.
 #[derive(Drop)]
 pub struct MessageQueue {
-    slots: Vec<Slot>,
+    others: Ring,
     most: usize,
-    head: usize,
     count: usize,
+    has_front: bool,
+    front: Slot,
 }
 
 impl Model for MessageQueue {
-    ghost use Rattle.std.specs.Prelude.{◌≤◌, vec_len, vec_capacity};
+    ghost use Rattle.std.specs.Prelude.{◌≡◌, ◌≤◌, length};
     ghost use Rattle.message_queue.specs.Queues.{Queue};
-    ghost use Rattle.message_queue.specs.Kept.{window, IsReached};
+    ghost use Rattle.message_queue.specs.Kept.{with_front};
 
     ghost Value = { Queue };
 
-    ghost view = { λ q. record { waits = window q.head q.count q.slots.items; slots = q.most } };
+    ghost view = { λ q. record { waits = with_front q.has_front q.front q.others.waits; slots = q.most } };
 
-    ghost invariant = { λ q. (q.head ≤ q.most) × (q.count ≤ q.most) × (vec_len q.slots ≤ q.most) × (q.most ≤ vec_capacity q.slots)
-        × IsReached q.head q.count (vec_len q.slots) q.most };
+    ghost invariant = { λ q. (q.others.slots ≡ q.most) × (q.count ≡ length (with_front q.has_front q.front q.others.waits)) × (q.count ≤ q.most) };
 }
 
 impl MessageQueue {
-    /// No messages, and so many slots.
+    /// No messages, and room for so many.
     pub fn with_slots(alloc: Global, slots: usize) -> Result<MessageQueue, NoMemory>
         ensures { IfOk result (λ q. q ≡ empty slots) }
     {
+        let others = Ring::with_slots(alloc, slots)?;
         Ok(MessageQueue {
-            slots: Vec::with_capacity(alloc, slots)?,
+            others,
             most: slots,
-            head: 0,
             count: 0,
+            has_front: false,
+            front: Slot::new(),
         })
     }
 
@@ -60,21 +62,30 @@ impl MessageQueue {
         requires fits { length message.now ≤ 1032 }
         ensures { self.new ≡ record self.old { waits = self.old.waits ++ message.now ∷ [] } }
     {
-        let at = place(self.most, self.head, self.count);
-        if at == self.slots.len() {
-            self.slots.push(Slot::new()).unwrap();
+        if self.count == 0 {
+            self.front.keep(message);
+            self.has_front = true;
+        } else {
+            self.others.push(message);
         }
-        self.slots[at].keep(message);
         self.count += 1;
     }
 
     /// Lends message i, counted from the oldest on.
+    #[tactic(auto, using(crate::proofs::Fronts::at_front, crate::proofs::Fronts::past_front))]
     pub fn get(&self, i: usize) -> &[u8]
         requires { i < length self.now.waits }
         ensures value { result.now ≡ slice_index_or self.now.waits i [] }
         ensures fits { length result.now ≤ 1032 }
     {
-        self.slots[place(self.most, self.head, i)].held()
+        if !self.has_front {
+            return self.others.get(i);
+        }
+        if i == 0 {
+            self.front.held()
+        } else {
+            self.others.get(i - 1)
+        }
     }
 
     /// Lends the oldest message.
@@ -100,52 +111,27 @@ impl MessageQueue {
     }
 
     /// The oldest message no longer waits, where one does.
+    #[tactic(auto, using(crate::proofs::Fronts::none_leaves))]
     pub fn pop(&mut self)
         ensures { self.new ≡ record self.old { waits = drop 1 self.old.waits } }
     {
-        if self.count <= 1 {
-            self.clear();
-        } else {
-            self.go_on(1);
+        if self.count > 0 {
+            self.drop_first(1);
         }
     }
 
     /// The n oldest messages no longer wait.
+    #[tactic(auto, using(crate::proofs::Fronts::front_leaves, crate::proofs::Fronts::fewer))]
     pub fn drop_first(&mut self, n: usize)
         requires { n ≤ length self.old.waits }
         ensures { self.new ≡ record self.old { waits = drop n self.old.waits } }
     {
-        if n == self.count {
-            self.clear();
-        } else {
-            self.go_on(n);
+        if !self.has_front {
+            self.others.drop_first(n);
+        } else if n > 0 {
+            self.has_front = false;
+            self.others.drop_first(n - 1);
         }
-    }
-
-    // No message waits any more.
-    fn clear(&mut self)
-        ensures { self.new ≡ record self.old { waits = [] } }
-    {
-        self.head = 0;
-        self.count = 0;
-    }
-
-    // The n oldest messages no longer wait, and another does.
-    fn go_on(&mut self, n: usize)
-        requires { n < length self.old.waits }
-        ensures { self.new ≡ record self.old { waits = drop n self.old.waits } }
-    {
-        self.head = place(self.most, self.head, n);
         self.count -= n;
     }
-}
-
-// The slot in a ring of so many that lies i slots behind the head.
-fn place(most: usize, head: usize, i: usize) -> usize
-    requires head { head ≤ most }
-    requires within { i ≤ most }
-    ensures { result ≡ place most head i }
-{
-    let behind = most - head;
-    if i < behind { head + i } else { i - behind }
 }

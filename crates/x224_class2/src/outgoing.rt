@@ -12,8 +12,8 @@ pub const SLOTS: usize = 16;
 /// see of each message what wasn't given yet.
 #[derive(Drop)]
 pub struct Outgoing {
-    messages: MessageQueue,
     given: usize,
+    messages: MessageQueue,
 }
 
 impl Model for Outgoing {

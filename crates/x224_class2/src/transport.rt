@@ -37,14 +37,13 @@ const PROTOCOL_ERROR: u8 = 133;
 /// Contracts see what is kept of it, every number modulo 128; [`crate::laws::standing`] says that this
 /// stands for a side of the transport model, whose lists are whole and whose numbers are absolute. After
 /// a deed `Disconnected` or `Refused` the connection is over: no TPDU changes anything, and none is given.
-/// Only the two makers take memory: room for sixteen messages to be given and one that is received.
+/// Only the two makers take memory: room for sixteen messages to be given and one that comes in several DTs.
 #[derive(Drop)]
 pub struct Transport {
     is_caller: bool,
     credit: u8,
     stage: Stage,
     size: u16,
-    outgoing: Outgoing,
     given: u8,
     acked: u8,
     edge: u8,
@@ -54,6 +53,7 @@ pub struct Transport {
     text: Room,
     is_whole: bool,
     due: Option<ArrayVec<u8, 32>>,
+    outgoing: Outgoing,
 }
 
 impl Model for Transport {

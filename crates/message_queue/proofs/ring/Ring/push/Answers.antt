@@ -2,8 +2,8 @@ use Rattle.std.proofs.Common.{rules, ◌≡◌, ◌+◌, ◌≤◌, ◌<◌, ◌
 use Rattle.message_queue.specs.Queues.{Queue}
 use Rattle.message_queue.specs.Kept.{place, window, IsReached}
 use Rattle.message_queue.proofs.Windows.{length-window, window_pushed, window_grown, next_within}
-use Rattle.message_queue.proofs.queue.MessageQueue.push.Goals as goal
-use Rattle.message_queue.proofs.queue.MessageQueue.push.Goals.{then-at-len, else-at-len}
+use Rattle.message_queue.proofs.ring.Ring.push.Goals as goal
+use Rattle.message_queue.proofs.ring.Ring.push.Goals.{then-at-len, else-at-len}
 
 pub returns : goal.returns
 returns c =

@@ -2,7 +2,7 @@ use Rattle.std.proofs.Common.{rules, ◌≡◌, ◌<◌, ◌≤◌, ◌-◌, len
 use Rattle.message_queue.specs.Queues.{Queue}
 use Rattle.message_queue.specs.Kept.{window, IsReached}
 use Rattle.message_queue.proofs.Windows.{window_next, length-window}
-use Rattle.message_queue.proofs.queue.MessageQueue.go_on.Goals as goal
+use Rattle.message_queue.proofs.ring.Ring.go_on.Goals as goal
 
 pub returns : goal.returns
 returns c =
