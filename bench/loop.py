@@ -24,10 +24,10 @@ kmac = "0123456789abcdef23456789abcdef01456789abcdef0123"
 
 
 def ended(child):
-    """Seconds of processor time of a child that ends, and the most KiB that it took."""
+    """Seconds of processor time of a child that ends."""
     _, status, used = os.wait4(child.pid, 0)
     child.returncode = os.waitstatus_to_exitcode(status)
-    return used.ru_utime + used.ru_stime, used.ru_maxrss
+    return used.ru_utime + used.ru_stime
 
 
 class Rounds:
@@ -65,10 +65,20 @@ class Rounds:
         self.child.wait()
 
 
+def memory(child):
+    """What the system tells of the memory of a child, in KiB."""
+    with open(f"/proc/{child.pid}/status") as text:
+        sizes = dict(line.split(":", 1) for line in text)
+    return {word: int(sizes[word].split()[0]) for word in ("VmHWM", "VmRSS", "VmData")}
+
+
 def took(trains):
-    """The most KiB that a run takes in which each train has one report said back."""
-    child = subprocess.Popen([bench, str(trains), "1", "0"], stdout=subprocess.DEVNULL)
-    return ended(child)[1]
+    """The most KiB that a run took until each train had one report said back."""
+    with subprocess.Popen([bench, str(trains), "1", "0", str(2**60)], stdout=subprocess.PIPE) as child:
+        child.stdout.readline()
+        most = memory(child)["VmHWM"]
+        child.kill()
+    return most
 
 
 def in_memory():
@@ -98,7 +108,7 @@ def in_memory():
             f"what a message costs with {trains:3} trains: {least[trains] / least[1]:.2f} of that with one by the least of {ROUNDS} rounds, "
             f"{in_turn:.2f} at the median of the rounds"
         )
-    # By how much 64 trains more raise the most that the program takes; both are above what python took as it made the child.
+    # By how much 64 trains more raise the most that the program takes.
     few, many = (min(took(trains) for _ in range(3)) for trains in (192, 256))
     print(f"in memory, a connection that carried a message, with the end of its train: {(many - few) / 64:.0f} KiB", flush=True)
 
@@ -122,7 +132,7 @@ def begun(words, recording):
 
 def stopped(server):
     server.send_signal(signal.SIGTERM)
-    return ended(server)[0]
+    return ended(server)
 
 
 def called(address, keys, at_once):
@@ -156,23 +166,17 @@ def floor_served(at_once, recording):
     return stopped(server)
 
 
-def resident(server):
-    with open(f"/proc/{server.pid}/status") as text:
-        sizes = dict(line.split(":", 1) for line in text)
-    return int(sizes["VmRSS"].split()[0]), int(sizes["VmData"].split()[0])
-
-
 def memory_of_accepted(keys, recording):
     port = free_port()
     server = begun([program, "serve", keys, f"127.0.0.1:{port}", "9", "1000000000"], recording)
-    before = resident(server)
+    before = memory(server)
     peers = [socket.create_connection(("127.0.0.1", port)) for _ in range(CALLS)]
     time.sleep(0.5)
-    behind = resident(server)
+    behind = memory(server)
     stopped(server)
     for peer in peers:
         peer.close()
-    return [(b - a) / CALLS for a, b in zip(before, behind)]
+    return [(behind[word] - before[word]) / CALLS for word in ("VmRSS", "VmData")]
 
 
 def best_of(rounds, measure, *words):

@@ -89,6 +89,24 @@ fn begun(
     Ok(script)
 }
 
+// What two trains do in three rounds.
+fn three_rounds(alloc: Global, keys: &KeyStore) -> Result<Script, NoMemory> {
+    let mut trains = two_trains(alloc)?;
+    begun(alloc, keys, 3, &mut trains)
+}
+
+// What two trains do, of which the first takes nothing any more and leaves behind its third report, and the second is cut off.
+fn one_leaves(alloc: Global, keys: &KeyStore) -> Result<Script, NoMemory> {
+    let mut trains = two_trains(alloc)?;
+    let mut script = begun(alloc, keys, 5, &mut trains)?;
+    script.stop_taking(1)?;
+    trains.0.leave(7);
+    script.speak(alloc, keys, 1, &mut trains.0)?;
+    script.speak(alloc, keys, 2, &mut trains.1)?;
+    script.shut(2)?;
+    Ok(script)
+}
+
 // Three users are handed in: the first connection gets the last of them, and the first of them stays without one until the loop is over.
 // The first train leaves behind its third report, which was on its way by then. Its wire has no room any more, so its connection
 // stays open to the end; its user is let go as it is released.
@@ -112,13 +130,7 @@ a let go
 fn a_user_hears_each_thing_once_and_is_let_go(rt: HostRuntime) -> Result<(), Fail> {
     let alloc = rt.alloc();
     let keys = keys(alloc)?;
-    let mut trains = two_trains(alloc)?;
-    let mut script = begun(alloc, &keys, 5, &mut trains)?;
-    script.stop_taking(1)?;
-    trains.0.leave(7);
-    script.speak(alloc, &keys, 1, &mut trains.0)?;
-    script.speak(alloc, &keys, 2, &mut trains.1)?;
-    script.shut(2)?;
+    let script = one_leaves(alloc, &keys)?;
     let heard = Rc::new(alloc, RefCell::new(Heard::new()))?;
     let mut users: Vec<Box<dyn SafeUser>> = Vec::new(alloc);
     for name in *b"abc" {
@@ -135,8 +147,7 @@ fn a_user_hears_each_thing_once_and_is_let_go(rt: HostRuntime) -> Result<(), Fai
 fn the_first_connection_gets_the_user_that_was_handed_in_last(rt: HostRuntime) -> Result<(), Fail> {
     let alloc = rt.alloc();
     let keys = keys(alloc)?;
-    let mut trains = two_trains(alloc)?;
-    let script = begun(alloc, &keys, 3, &mut trains)?;
+    let script = three_rounds(alloc, &keys)?;
     let mut first = Vec::new(alloc);
     first.push(Vec::from_slice(alloc, b"A")?)?;
     let mut last = Vec::new(alloc);
