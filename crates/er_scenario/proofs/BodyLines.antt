@@ -7,7 +7,6 @@ use Rattle.er_base.specs.declared.text_fault.TextFault.{TextFault}
 use Rattle.er_base.specs.declared.text_fault.TextFault.TheVariants.{At}
 use Rattle.er_base.specs.Lines.{Row}
 use Rattle.er_base.specs.Rows.{Refuses}
-use Rattle.er_scenario.specs.declared.grammar.Grammar.{Grammar}
 use Rattle.er_scenario.specs.declared.level.Level.{Level}
 use Rattle.er_scenario.specs.declared.numbered.Numbered.{Numbered}
 use Rattle.er_scenario.specs.declared.choices.Choices.{Choices}
@@ -28,11 +27,11 @@ behind_none (Err fault) = refl
 behind_none (Ok body) = refl
 
 -- one line more, which chooses
-pub one_choice : (grammar : Grammar) (level : Level) (late : Bool) (choices new : Choices) (row : Row) (rows : List Row)
-    → line_says grammar level late choices row.words ≡ Ok (Chooses new)
-    → body_of grammar level late choices (row ∷ rows) ≡ body_of grammar level late new rows
+pub one_choice : (level : Level) (late : Bool) (choices new : Choices) (row : Row) (rows : List Row)
+    → line_says level late choices row.words ≡ Ok (Chooses new)
+    → body_of level late choices (row ∷ rows) ≡ body_of level late new rows
 unfolding body_of
-one_choice grammar level late choices new row rows e = rw e refl
+one_choice level late choices new row rows e = rw e refl
 
 step_more : (front : List Numbered) (step : Numbered) (rest : Result Body TextFault)
     → behind front (with_step step rest) ≡ behind (front ++ step ∷ []) rest
@@ -40,41 +39,41 @@ step_more front step (Err fault) = refl
 step_more front step (Ok body) = rw (append_assoc front (step ∷ []) body.steps) refl
 
 -- one line more, which is a step
-pub one_step : (grammar : Grammar) (level : Level) (late : Bool) (choices : Choices) (front : List Numbered) (step : Step) (row : Row) (rows : List Row)
-    → line_says grammar level late choices row.words ≡ Ok (Does step)
-    → behind front (body_of grammar level late choices (row ∷ rows))
-    ≡ behind (front ++ record { line = row.number; step = step } ∷ []) (body_of grammar level true choices rows)
+pub one_step : (level : Level) (late : Bool) (choices : Choices) (front : List Numbered) (step : Step) (row : Row) (rows : List Row)
+    → line_says level late choices row.words ≡ Ok (Does step)
+    → behind front (body_of level late choices (row ∷ rows))
+    ≡ behind (front ++ record { line = row.number; step = step } ∷ []) (body_of level true choices rows)
 unfolding body_of
-one_step grammar level late choices front step row rows e =
-    rw e (step_more front (record { line = row.number; step = step }) (body_of grammar level true choices rows))
+one_step level late choices front step row rows e =
+    rw e (step_more front (record { line = row.number; step = step }) (body_of level true choices rows))
 
 -- a line that is refused
-pub one_refused : (grammar : Grammar) (level : Level) (late : Bool) (choices : Choices) (front : List Numbered) (why : Why) (row : Row) (rows : List Row)
-    → line_says grammar level late choices row.words ≡ Err why
-    → behind front (body_of grammar level late choices (row ∷ rows)) ≡ Err (At row.number why)
+pub one_refused : (level : Level) (late : Bool) (choices : Choices) (front : List Numbered) (why : Why) (row : Row) (rows : List Row)
+    → line_says level late choices row.words ≡ Err why
+    → behind front (body_of level late choices (row ∷ rows)) ≡ Err (At row.number why)
 unfolding body_of
-one_refused grammar level late choices front why row rows e = rw e refl
+one_refused level late choices front why row rows e = rw e refl
 
 -- and what is answered then
-pub refused_answers : (grammar : Grammar) (level : Level) (late : Bool) (choices : Choices) (front : List Numbered) (fault : LineFault) (row : Row) (rows : List Row)
-    (read : Result Body TextFault) → Refuses fault (line_says grammar level late choices row.words)
-    → behind front (body_of grammar level late choices (row ∷ rows)) ≡ read
+pub refused_answers : (level : Level) (late : Bool) (choices : Choices) (front : List Numbered) (fault : LineFault) (row : Row) (rows : List Row)
+    (read : Result Body TextFault) → Refuses fault (line_says level late choices row.words)
+    → behind front (body_of level late choices (row ∷ rows)) ≡ read
     → Answers (Err (fault_at row.number fault)) (scenario_from level read)
-refused_answers grammar level late choices front (line.Refused why) row rows read refused all =
-    ap (scenario_from level) (sym all ∙ one_refused grammar level late choices front why row rows refused)
-refused_answers grammar level late choices front (line.NoMemory want) row rows read refused all = tt
+refused_answers level late choices front (line.Refused why) row rows read refused all =
+    ap (scenario_from level) (sym all ∙ one_refused level late choices front why row rows refused)
+refused_answers level late choices front (line.NoMemory want) row rows read refused all = tt
 
 -- no line is left
-pub none_left : (grammar : Grammar) (level : Level) (late : Bool) (choices : Choices) (front : List Numbered) (read : Result Body TextFault)
-    → behind front (body_of grammar level late choices []) ≡ read
+pub none_left : (level : Level) (late : Bool) (choices : Choices) (front : List Numbered) (read : Result Body TextFault)
+    → behind front (body_of level late choices []) ≡ read
     → scenario_from level read ≡ Ok (record { level = level; settings = choices.settings; show = choices.show; steps = front })
 unfolding body_of
-none_left grammar level late choices front read all =
+none_left level late choices front read all =
     ap (scenario_from level) (sym all)
     ∙ ap (λ (steps : List Numbered). Ok (record { level = level; settings = choices.settings; show = choices.show; steps = steps })) (append-nil front)
 
 -- one step more that can be read
-pub readable_more : (grammar : Grammar) (level : Level) (front : List Numbered) (step : Numbered) → AreReadable grammar level front
-    → IsReadable grammar level step.step → AreReadable grammar level (front ++ step ∷ [])
-readable_more grammar level [] step h k = (k, tt)
-readable_more grammar level (first ∷ front) step h k = (h.0, readable_more grammar level front step h.1 k)
+pub readable_more : (level : Level) (front : List Numbered) (step : Numbered) → AreReadable level front
+    → IsReadable level step.step → AreReadable level (front ++ step ∷ [])
+readable_more level [] step h k = (k, tt)
+readable_more level (first ∷ front) step h k = (h.0, readable_more level front step h.1 k)

@@ -13,7 +13,6 @@ use Rattle.er_settings.specs.Ranges.{IsModulo, AllAllowed}
 use Rattle.er_scenario.specs.declared.choices.ChoiceName.{ChoiceName}
 use Rattle.er_scenario.specs.declared.choices.ChoiceName.TheVariants.{Modulo, Setting, Show}
 use Rattle.er_scenario.specs.declared.choices.Choices.{Choices}
-use Rattle.er_scenario.specs.declared.grammar.Grammar.{Grammar}
 use Rattle.er_scenario.specs.declared.level.Level.{Level}
 use Rattle.er_scenario.specs.declared.said.Said.TheVariants.{Chooses}
 use Rattle.er_scenario.specs.Choices.{choice_named, may_choose, with_choice, chosen_by, default_choices}
@@ -39,37 +38,37 @@ show_chosen : (laws : Laws) (choices : Choices) → chosen_by choices (codes "sh
 show_chosen laws choices =
     ap (chosen_by choices (codes "show")) (sym one_written) ∙ chosen laws choices (codes "show") Show 1 refl refl (omega arith)
 
-said_set : (grammar : Grammar) (level : Level) (choices new : Choices) (word value : List ℕ) → chosen_by choices word value ≡ Ok new
-    → line_says grammar level false choices (codes "set" ∷ word ∷ value ∷ []) ≡ Ok (Chooses new)
+said_set : (level : Level) (choices new : Choices) (word value : List ℕ) → chosen_by choices word value ≡ Ok new
+    → line_says level false choices (codes "set" ∷ word ∷ value ∷ []) ≡ Ok (Chooses new)
 unfolding line_says
-said_set grammar level choices new word value e = rw e refl
+said_set level choices new word value e = rw e refl
 
 -- how many lines stand before what follows a `set` line that may be left out
 abbrev pub behind_set : ℕ → ℕ → ℕ → ℕ
 behind_set before default value = if value == default then before else before + 1
 
-pub set_read : (grammar : Grammar) (level : Level) (choices new : Choices) (before : ℕ) (word : List ℕ) (default value : ℕ) (more : List (List (List ℕ)))
+pub set_read : (level : Level) (choices new : Choices) (before : ℕ) (word : List ℕ) (default value : ℕ) (more : List (List (List ℕ)))
     → chosen_by choices word (decimal value) ≡ Ok new → (value ≡ default → new ≡ choices)
-    → body_of grammar level false choices (rows_from before (set_lines word default value ++ more))
-    ≡ body_of grammar level false new (rows_from (behind_set before default value) more)
+    → body_of level false choices (rows_from before (set_lines word default value ++ more))
+    ≡ body_of level false new (rows_from (behind_set before default value) more)
 unfolding body_of
-set_read grammar level choices new before word default value more chosen same =
+set_read level choices new before word default value more chosen same =
     elim (cases_Bool (value == default)) [
-      | inl t ↦ rw t (ap (λ (c : Choices). body_of grammar level false c (rows_from before more)) (sym (same (eqb-true _ _ t))))
-      | inr f ↦ rw (f, said_set grammar level choices new word (decimal value) chosen) refl
+      | inl t ↦ rw t (ap (λ (c : Choices). body_of level false c (rows_from before more)) (sym (same (eqb-true _ _ t))))
+      | inr f ↦ rw (f, said_set level choices new word (decimal value) chosen) refl
     ]
 
 -- how many stand before what follows the line that shows frames
 abbrev pub behind_show : ℕ → Bool → ℕ
 behind_show before show = if show then before + 1 else before
 
-pub show_read : (laws : Laws) (grammar : Grammar) (level : Level) (settings : Settings) (before : ℕ) (show : Bool) (more : List (List (List ℕ)))
-    → body_of grammar level false (record { settings = settings; show = false }) (rows_from before (show_lines show ++ more))
-    ≡ body_of grammar level false (record { settings = settings; show = show }) (rows_from (behind_show before show) more)
+pub show_read : (laws : Laws) (level : Level) (settings : Settings) (before : ℕ) (show : Bool) (more : List (List (List ℕ)))
+    → body_of level false (record { settings = settings; show = false }) (rows_from before (show_lines show ++ more))
+    ≡ body_of level false (record { settings = settings; show = show }) (rows_from (behind_show before show) more)
 unfolding body_of
-show_read laws grammar level settings before true more =
-    rw (said_set grammar level (record { settings = settings; show = false }) (record { settings = settings; show = true }) (codes "show") (codes "1") (show_chosen laws (record { settings = settings; show = false }))) refl
-show_read laws grammar level settings before false more = refl
+show_read laws level settings before true more =
+    rw (said_set level (record { settings = settings; show = false }) (record { settings = settings; show = true }) (codes "show") (codes "1") (show_chosen laws (record { settings = settings; show = false }))) refl
+show_read laws level settings before false more = refl
 
 -- settings as they are chosen, in the order of their names
 abbrev made : (modulo window credit size t1 n2 setup : ℕ) → Choices
@@ -129,10 +128,10 @@ regrouped : (m w c z t n u v more : List (List (List ℕ)))
 regrouped m w c z t n u v more = simp append_assoc
 
 -- the lines that choose, before any others
-pub choices_read : (laws : Laws) (grammar : Grammar) (level : Level) (s : Settings) (show : Bool) (more : List (List (List ℕ))) → AllAllowed s → AreSmall s
-    → body_of grammar level false default_choices (rows_from 1 (choice_lines s show ++ more))
-    ≡ body_of grammar level false (record { settings = s; show = show }) (rows_from (before_steps s show) more)
-choices_read laws g level s show more h b =
+pub choices_read : (laws : Laws) (level : Level) (s : Settings) (show : Bool) (more : List (List (List ℕ))) → AllAllowed s → AreSmall s
+    → body_of level false default_choices (rows_from 1 (choice_lines s show ++ more))
+    ≡ body_of level false (record { settings = s; show = show }) (rows_from (before_steps s show) more)
+choices_read laws level s show more h b =
     let n1 : ℕ = behind_set 1 8 s.modulo in
     let n2 : ℕ = behind_set n1 7 s.window in
     let n3 : ℕ = behind_set n2 15 s.credit in
@@ -156,22 +155,22 @@ choices_read laws g level s show more h b =
     let n = set_lines (setting_word N2) 5 s.n2 in
     let u = set_lines (setting_word Setup) 40000 s.setup in
     let v = show_lines show in
-    ap (λ (lines : List (List (List ℕ))). body_of g level false c0 (rows_from 1 lines)) (regrouped m w c z t n u v more)
-    ∙ set_read g level c0 c1 1 (codes "modulo") 8 s.modulo (w ++ (c ++ (z ++ (t ++ (n ++ (u ++ (v ++ more)))))))
+    ap (λ (lines : List (List (List ℕ))). body_of level false c0 (rows_from 1 lines)) (regrouped m w c z t n u v more)
+    ∙ set_read level c0 c1 1 (codes "modulo") 8 s.modulo (w ++ (c ++ (z ++ (t ++ (n ++ (u ++ (v ++ more)))))))
     (chosen laws c0 (codes "modulo") Modulo s.modulo refl (modulo_may s.modulo h.modulo) b.modulo) (λ e. ap (λ (x : ℕ). made x 7 15 128 1000 5 40000) e)
-    ∙ set_read g level c1 c2 n1 (setting_word Window) 7 s.window (c ++ (z ++ (t ++ (n ++ (u ++ (v ++ more))))))
+    ∙ set_read level c1 c2 n1 (setting_word Window) 7 s.window (c ++ (z ++ (t ++ (n ++ (u ++ (v ++ more))))))
     (chosen laws c1 (setting_word Window) (Setting Window) s.window refl h.window b.window) (λ e. ap (λ (x : ℕ). made s.modulo x 15 128 1000 5 40000) e)
-    ∙ set_read g level c2 c3 n2 (setting_word Credit) 15 s.credit (z ++ (t ++ (n ++ (u ++ (v ++ more)))))
+    ∙ set_read level c2 c3 n2 (setting_word Credit) 15 s.credit (z ++ (t ++ (n ++ (u ++ (v ++ more)))))
     (chosen laws c2 (setting_word Credit) (Setting Credit) s.credit refl h.credit b.credit) (λ e. ap (λ (x : ℕ). made s.modulo s.window x 128 1000 5 40000) e)
-    ∙ set_read g level c3 c4 n3 (setting_word Size) 128 s.size (t ++ (n ++ (u ++ (v ++ more))))
+    ∙ set_read level c3 c4 n3 (setting_word Size) 128 s.size (t ++ (n ++ (u ++ (v ++ more))))
     (chosen laws c3 (setting_word Size) (Setting Size) s.size refl h.size b.size) (λ e. ap (λ (x : ℕ). made s.modulo s.window s.credit x 1000 5 40000) e)
-    ∙ set_read g level c4 c5 n4 (setting_word T1) 1000 s.t1 (n ++ (u ++ (v ++ more)))
+    ∙ set_read level c4 c5 n4 (setting_word T1) 1000 s.t1 (n ++ (u ++ (v ++ more)))
     (chosen laws c4 (setting_word T1) (Setting T1) s.t1 refl h.t1 b.t1) (λ e. ap (λ (x : ℕ). made s.modulo s.window s.credit s.size x 5 40000) e)
-    ∙ set_read g level c5 c6 n5 (setting_word N2) 5 s.n2 (u ++ (v ++ more))
+    ∙ set_read level c5 c6 n5 (setting_word N2) 5 s.n2 (u ++ (v ++ more))
     (chosen laws c5 (setting_word N2) (Setting N2) s.n2 refl h.n2 b.n2) (λ e. ap (λ (x : ℕ). made s.modulo s.window s.credit s.size s.t1 x 40000) e)
-    ∙ set_read g level c6 c7 n6 (setting_word Setup) 40000 s.setup (v ++ more)
+    ∙ set_read level c6 c7 n6 (setting_word Setup) 40000 s.setup (v ++ more)
     (chosen laws c6 (setting_word Setup) (Setting Setup) s.setup refl h.setup b.setup) (λ e. ap (λ (x : ℕ). made s.modulo s.window s.credit s.size s.t1 s.n2 x) e)
-    ∙ show_read laws g level s n7 show more
+    ∙ show_read laws level s n7 show more
 
 set_line : (laws : Laws) (word : List ℕ) (default value : ℕ) → IsSolid word → value < 2 ^ 64 → AreLines (set_lines word default value)
 set_line laws word default value solid fits =

@@ -10,8 +10,6 @@ use Rattle.er_base.specs.declared.text_fault.TextFault.TheVariants.{At}
 use Rattle.er_base.specs.Arguments.{◌>>=◌}
 use Rattle.er_base.specs.LineFaults.{Table, Values, line_read}
 use Rattle.er_base.specs.Lines.{Row, rows_of, lines_of}
-use Rattle.er_scenario.specs.declared.grammar.Grammar.{Grammar}
-use Rattle.er_scenario.specs.declared.grammar.Grammar.TheVariants.{Running}
 use Rattle.er_scenario.specs.declared.level.Level.{Level}
 use Rattle.er_scenario.specs.declared.step_name.StepName.{StepName}
 use Rattle.er_scenario.specs.declared.numbered.Numbered.{Numbered}
@@ -28,8 +26,8 @@ pub data Line : Type 0 where
   StepLine : StepName → Line
 
 -- the line that a first word begins, where it begins one
-abbrev pub line_named : Grammar → List ℕ → Option Line
-line_named grammar word = if bytes_eq word (codes "set") then Some SetLine else option_map StepLine (step_named grammar word)
+abbrev pub line_named : List ℕ → Option Line
+line_named word = if bytes_eq word (codes "set") then Some SetLine else option_map StepLine (step_named word)
 
 -- the kinds of its arguments: NAME and VALUE of a `set` are looked at behind all else
 abbrev pub line_kinds : Line → List Kind
@@ -47,10 +45,10 @@ line_is_late late SetLine = late
 line_is_late late (StepLine name) = false
 
 -- the table of a file's lines, at its level, where a line of another word than `set` stands before or doesn't
-abbrev pub table : Grammar → Level → Bool → Table Line Kind Meaning
-table grammar level late =
+abbrev pub table : Level → Bool → Table Line Kind Meaning
+table level late =
     record {
-      line_named = line_named grammar;
+      line_named = line_named;
       kinds_of = line_kinds;
       read = argument_of;
       is_of_level = line_has_level level;
@@ -63,10 +61,10 @@ line_means choices SetLine (name, (value, end)) = chosen_by choices name value >
 line_means choices (StepLine name) values = Ok (Does (step_made name values))
 
 -- what a line says, or its first fault
-unfoldable pub line_says : Grammar → Level → Bool → Choices → List (List ℕ) → Result Said Why
-line_says grammar level late choices [] = Err Word
-line_says grammar level late choices (name ∷ words) =
-    line_read (table grammar level late) name words >>= λ read. line_means choices read.0 read.1
+unfoldable pub line_says : Level → Bool → Choices → List (List ℕ) → Result Said Why
+line_says level late choices [] = Err Word
+line_says level late choices (name ∷ words) =
+    line_read (table level late) name words >>= λ read. line_means choices read.0 read.1
 
 -- what the lines behind the header say: the choices in the end, and the steps
 pub record Body : Type 0 where
@@ -85,11 +83,11 @@ before_rest number (Ok (Chooses choices)) chosen done = chosen choices
 before_rest number (Ok (Does step)) chosen done = with_step (record { line = number; step = step }) done
 
 -- all lines behind the header, where lines before them chose and a step stands before them or doesn't
-unfoldable pub body_of : Grammar → Level → Bool → Choices → List Row → Result Body TextFault
-body_of grammar level late choices [] = Ok (record { choices = choices; steps = [] })
-body_of grammar level late choices (row ∷ rows) =
-    before_rest row.number (line_says grammar level late choices row.words) (λ new. body_of grammar level late new rows)
-    (body_of grammar level true choices rows)
+unfoldable pub body_of : Level → Bool → Choices → List Row → Result Body TextFault
+body_of level late choices [] = Ok (record { choices = choices; steps = [] })
+body_of level late choices (row ∷ rows) =
+    before_rest row.number (line_says level late choices row.words) (λ new. body_of level late new rows)
+    (body_of level true choices rows)
 
 -- a scenario of a level
 abbrev pub scenario_from : Level → Result Body TextFault → Result Scenario TextFault
@@ -98,29 +96,25 @@ scenario_from level (Ok body) =
     Ok (record { level = level; settings = body.choices.settings; show = body.choices.show; steps = body.steps })
 
 -- the level of the header `drill 1 LEVEL`
-abbrev pub level_of : Grammar → List (List ℕ) → Option Level
-level_of grammar [] = None
-level_of grammar (drill ∷ []) = None
-level_of grammar (drill ∷ version ∷ []) = None
-level_of grammar (drill ∷ version ∷ level ∷ []) =
-    if bytes_eq drill (codes "drill") && bytes_eq version (codes "1") then level_named grammar level else None
-level_of grammar (drill ∷ version ∷ level ∷ word ∷ words) = None
+abbrev pub level_of : List (List ℕ) → Option Level
+level_of [] = None
+level_of (drill ∷ []) = None
+level_of (drill ∷ version ∷ []) = None
+level_of (drill ∷ version ∷ level ∷ []) =
+    if bytes_eq drill (codes "drill") && bytes_eq version (codes "1") then level_named level else None
+level_of (drill ∷ version ∷ level ∷ word ∷ words) = None
 
 -- the header, then the lines behind it
-abbrev pub behind_header : Grammar → ℕ → Option Level → List Row → Result Scenario TextFault
-behind_header grammar number None rows = Err (At number Header)
-behind_header grammar number (Some level) rows = scenario_from level (body_of grammar level false default_choices rows)
+abbrev pub behind_header : ℕ → Option Level → List Row → Result Scenario TextFault
+behind_header number None rows = Err (At number Header)
+behind_header number (Some level) rows = scenario_from level (body_of level false default_choices rows)
 
 -- the first line that isn't skipped is the header; a file without such a line is faulty at line 1
-abbrev pub scenario_in : Grammar → List Row → Result Scenario TextFault
-scenario_in grammar [] = Err (At 1 Header)
-scenario_in grammar (header ∷ rows) = behind_header grammar header.number (level_of grammar header.words) rows
+abbrev pub scenario_in : List Row → Result Scenario TextFault
+scenario_in [] = Err (At 1 Header)
+scenario_in (header ∷ rows) = behind_header header.number (level_of header.words) rows
 
 -- what a file says, or its first fault; a file has at most 16,777,216 octets, and a longer one is faulty as a whole
-unfoldable pub file_says : Grammar → List ℕ → Result Scenario TextFault
-file_says grammar text =
-    if nat_lt 16777216 (length text) then Err (At 0 Long) else scenario_in grammar (rows_of 0 (lines_of text))
-
--- the same by what the program can run so far
-abbrev pub scenario_of : List ℕ → Result Scenario TextFault
-scenario_of text = file_says Running text
+unfoldable pub scenario_of : List ℕ → Result Scenario TextFault
+scenario_of text =
+    if nat_lt 16777216 (length text) then Err (At 0 Long) else scenario_in (rows_of 0 (lines_of text))

@@ -1,18 +1,17 @@
 -- What the definitions of the drill file imply.
 use Rattle.std.specs.Prelude.{◌≡◌, ◌≤◌, length, Ok}
-use Rattle.er_scenario.specs.declared.grammar.Grammar.{Grammar}
 use Rattle.er_scenario.specs.declared.scenario.Scenario.{Scenario}
-use Rattle.er_scenario.specs.Files.{file_says}
-use Rattle.er_scenario.specs.Texts.{IsInGrammar, IsSameButLines, text_printed}
+use Rattle.er_scenario.specs.Files.{scenario_of}
+use Rattle.er_scenario.specs.Texts.{CanBeRead, IsSameButLines, text_printed}
 
 -- the text of a scenario is read as the same scenario, line numbers aside
-pub record IsReadAgain (grammar : Grammar) (scenario : Scenario) : Type 0 where
+pub record IsReadAgain (scenario : Scenario) : Type 0 where
   pub again : Scenario
-  pub read : file_says grammar (text_printed scenario) ≡ Ok again
+  pub read : scenario_of (text_printed scenario) ≡ Ok again
   pub same : IsSameButLines again scenario
 
 -- that holds wherever the text isn't too long
 abbrev pub PrintedIsRead : Type 0
 PrintedIsRead =
-    (grammar : Grammar) (scenario : Scenario) → IsInGrammar grammar scenario → length (text_printed scenario) ≤ 16777216
-    → IsReadAgain grammar scenario
+    (scenario : Scenario) → CanBeRead scenario → length (text_printed scenario) ≤ 16777216
+    → IsReadAgain scenario

@@ -1,5 +1,4 @@
 pub mod StepRanges
-pub mod Running
 pub mod Table
 pub mod Choices
 pub mod Files

@@ -12,7 +12,6 @@ use Rattle.er_scenario.specs.declared.step.Step.{Step}
 use Rattle.er_scenario.specs.declared.step_name.StepName.{StepName}
 use Rattle.er_scenario.specs.declared.said.Said.{Said}
 use Rattle.er_scenario.specs.declared.said.Said.TheVariants.{Chooses, Does}
-use Rattle.er_scenario.specs.declared.grammar.Grammar.{Grammar}
 use Rattle.er_scenario.specs.declared.level.Level.{Level}
 use Rattle.er_scenario.specs.StepRanges.{IsInRange}
 use Rattle.er_scenario.specs.Texts.{IsReadable, name_of}
@@ -28,9 +27,9 @@ fault_at number (line.Refused why) = text.At number why
 fault_at number (line.NoMemory want) = text.NoMemory want
 
 -- what a line says is in its range, and a step is one of the level whose line is read
-abbrev pub IsWellSaid : Grammar → Level → Said → Type 0
-IsWellSaid grammar level (Chooses choices) = AllAllowed choices.settings
-IsWellSaid grammar level (Does step) = IsReadable grammar level step
+abbrev pub IsWellSaid : Level → Said → Type 0
+IsWellSaid level (Chooses choices) = AllAllowed choices.settings
+IsWellSaid level (Does step) = IsReadable level step
 
 -- a step that a line of this name says
 pub record IsStepOf (name : StepName) (step : Step) : Type 0 where

@@ -10,14 +10,12 @@ use Rattle.er_base.specs.Arguments.{◌>>=◌, number_argument, side_argument, t
 use Rattle.er_base.specs.LineFaults.{Values}
 use Rattle.er_base.specs.Octets.{number_in}
 use Rattle.des_block.specs.declared.triple_key.TripleKey.{TripleKey}
-use Rattle.er_scenario.specs.declared.grammar.Grammar.{Grammar}
 use Rattle.er_scenario.specs.declared.level.Level.{Level}
 use Rattle.er_scenario.specs.declared.level.Level.TheVariants as level
 use Rattle.er_scenario.specs.declared.step.Step.{Step}
 use Rattle.er_scenario.specs.declared.step.Step.TheVariants as step
 use Rattle.er_scenario.specs.declared.step_name.StepName.{StepName}
 use Rattle.er_scenario.specs.declared.step_name.StepName.TheVariants.{Fixed, Link, Wire, Send, Pass, Lose, Repeat, Alter, Put, Copy, Take, Release, Tick, Drain}
-use Rattle.er_scenario.specs.Running.{levels_in, steps_in}
 
 -- LEVEL
 abbrev pub level_word : Level → List ℕ
@@ -25,9 +23,13 @@ level_word level.Safe = codes "safe"
 level_word level.Link = codes "link"
 level_word level.Full = codes "full"
 
+-- all levels
+abbrev pub all_levels : List Level
+all_levels = level.Safe ∷ level.Link ∷ level.Full ∷ []
+
 -- the level that a word names, where it names one
-abbrev pub level_named : Grammar → List ℕ → Option Level
-level_named grammar word = find (λ level. bytes_eq word (level_word level)) (levels_in grammar)
+abbrev pub level_named : List ℕ → Option Level
+level_named word = find (λ level. bytes_eq word (level_word level)) all_levels
 
 -- the first word of a step's line
 abbrev pub step_word : StepName → List ℕ
@@ -46,9 +48,13 @@ step_word Release = codes "release"
 step_word Tick = codes "tick"
 step_word Drain = codes "drain"
 
+-- all lines that are steps
+abbrev pub all_steps : List StepName
+all_steps = Fixed ∷ Link ∷ Wire ∷ Send ∷ Pass ∷ Lose ∷ Repeat ∷ Alter ∷ Put ∷ Copy ∷ Take ∷ Release ∷ Tick ∷ Drain ∷ []
+
 -- the step that a first word names, where it names one
-abbrev pub step_named : Grammar → List ℕ → Option StepName
-step_named grammar word = find (λ name. bytes_eq word (step_word name)) (steps_in grammar)
+abbrev pub step_named : List ℕ → Option StepName
+step_named word = find (λ name. bytes_eq word (step_word name)) all_steps
 
 -- the kinds of arguments: a decimal number from a least to a greatest one, an end, HEX of at most 4,096 octets, KEY, KEY or `-`,
 -- NUM16, one octet other than 00, and a word that is looked at later

@@ -11,8 +11,6 @@ use Rattle.er_settings.specs.declared.settings.Settings.{Settings}
 use Rattle.er_settings.specs.declared.setting_name.SettingName.TheVariants.{Window, Credit, Size, T1, N2, Setup}
 use Rattle.er_settings.specs.Names.{setting_word}
 use Rattle.er_settings.specs.Ranges.{AllAllowed, usual_settings}
-use Rattle.er_scenario.specs.declared.grammar.Grammar.{Grammar}
-use Rattle.er_scenario.specs.declared.grammar.Grammar.TheVariants.{Running}
 use Rattle.er_scenario.specs.declared.level.Level.{Level}
 use Rattle.er_scenario.specs.declared.step.Step.{Step}
 use Rattle.er_scenario.specs.declared.step.Step.TheVariants.{Fixed, Link, Wire, Send, Pass, Lose, Repeat, Alter, Put, Copy, Take, Release, Tick, Drain}
@@ -21,7 +19,7 @@ use Rattle.er_scenario.specs.declared.step_name.StepName.TheVariants as name
 use Rattle.er_scenario.specs.declared.numbered.Numbered.{Numbered}
 use Rattle.er_scenario.specs.declared.scenario.Scenario.{Scenario}
 use Rattle.er_scenario.specs.StepRanges.{IsInRange}
-use Rattle.er_scenario.specs.Table.{level_word, level_named, step_word, step_named, levels_of, has_level}
+use Rattle.er_scenario.specs.Table.{level_word, step_word, levels_of, has_level}
 
 -- KEY
 unfoldable pub key_word : TripleKey → List ℕ
@@ -108,30 +106,20 @@ words_printed scenario =
 unfoldable pub text_printed : Scenario → List ℕ
 text_printed scenario = lines_text (words_printed scenario)
 
--- the level's word is read as the level
-abbrev pub IsLevelRead : Grammar → Level → Type 0
-IsLevelRead grammar level = level_named grammar (level_word level) ≡ Some level
-
--- a step whose numbers are in their ranges, whose line is one of the level, and whose first word is read as that line's
-pub record IsReadable (grammar : Grammar) (level : Level) (step : Step) : Type 0 where
+-- a step whose numbers are in their ranges, and whose line is one of the level
+pub record IsReadable (level : Level) (step : Step) : Type 0 where
   pub range : IsInRange step
   pub of_level : has_level (levels_of (name_of step)) level ≡ true
-  pub named : step_named grammar (step_word (name_of step)) ≡ Some (name_of step)
 
 -- and so are all steps
-abbrev pub AreReadable : Grammar → Level → List Numbered → Type 0
-AreReadable grammar level [] = Unit {0}
-AreReadable grammar level (numbered ∷ steps) = IsReadable grammar level numbered.step × AreReadable grammar level steps
-
--- a scenario that can be read by a grammar, line numbers aside
-pub record IsInGrammar (grammar : Grammar) (scenario : Scenario) : Type 0 where
-  pub level : IsLevelRead grammar scenario.level
-  pub settings : AllAllowed scenario.settings
-  pub steps : AreReadable grammar scenario.level scenario.steps
+abbrev pub AreReadable : Level → List Numbered → Type 0
+AreReadable level [] = Unit {0}
+AreReadable level (numbered ∷ steps) = IsReadable level numbered.step × AreReadable level steps
 
 -- a scenario that `read` can answer, line numbers aside
-abbrev pub CanBeRead : Scenario → Type 0
-CanBeRead scenario = IsInGrammar Running scenario
+pub record CanBeRead (scenario : Scenario) : Type 0 where
+  pub settings : AllAllowed scenario.settings
+  pub steps : AreReadable scenario.level scenario.steps
 
 -- two scenarios that differ in line numbers alone
 pub record IsSameButLines (left right : Scenario) : Type 0 where

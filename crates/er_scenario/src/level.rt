@@ -1,8 +1,6 @@
 ghost use Rattle.std.specs.Prelude.{◌≡◌};
 ghost use Rattle.er_scenario.specs.Table.{level_word, level_named};
 
-use crate::grammar::Grammar;
-
 /// How much of the stack a drill runs.
 #[derive(Clone, Copy, Debug, PartialEq, Eq)]
 pub enum Level {
@@ -13,6 +11,8 @@ pub enum Level {
     /// The whole stack: what waits between two ends are frames, from flag to flag.
     Full,
 }
+
+const ALL_LEVELS: [Level; 3] = [Level::Safe, Level::Link, Level::Full];
 
 impl Level {
     /// The word of this level in a header.
@@ -26,12 +26,11 @@ impl Level {
         }
     }
 
-    // The level that a word of a header names, or None where it names none that is read.
-    pub(crate) fn named(grammar: Grammar, word: &[u8]) -> Option<Level>
-        ensures { result ≡ level_named grammar word.now }
+    // The level that a word of a header names, or None where it names none.
+    pub(crate) fn named(word: &[u8]) -> Option<Level>
+        ensures { result ≡ level_named word.now }
     {
-        grammar
-            .levels()
+        ALL_LEVELS
             .iter()
             .copied()
             .find(|level| word == level.word())

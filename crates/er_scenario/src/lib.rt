@@ -6,7 +6,6 @@
 
 mod arguments;
 mod choices;
-mod grammar;
 mod header;
 pub mod laws;
 mod level;

@@ -6,7 +6,6 @@ ghost use Rattle.er_base.specs.Hexadecimal.{hex_of};
 ghost use Rattle.er_base.specs.LineTexts.{line_text, lines_text};
 ghost use Rattle.er_base.specs.Printing.{word_printed, Begins};
 ghost use Rattle.er_base.specs.Sides.{side_word};
-ghost use Rattle.er_scenario.specs.declared.grammar.Grammar.TheVariants.{Running};
 ghost use Rattle.er_scenario.specs.declared.step.Step.TheVariants as step;
 ghost use Rattle.er_scenario.specs.Table.{step_word};
 ghost use Rattle.er_scenario.specs.Texts.{key_word, optional_key_word, step_words, set_lines, show_lines, choice_lines, step_lines, text_printed, CanBeRead};
@@ -312,7 +311,7 @@ pub fn print(alloc: Global, scenario: &Scenario, out: &mut Vec<u8>) -> Result<()
     requires { CanBeRead scenario.now }
     ensures ok { OnOk result (out.new.items ≡ out.old.items ++ text_printed scenario.now) }
     ensures err { OnErr result (out.new.items ≡ out.old.items) }
-    ensures read_back { length (text_printed scenario.now) ≤ 16777216 → IsReadAgain Running scenario.now }
+    ensures read_back { length (text_printed scenario.now) ≤ 16777216 → IsReadAgain scenario.now }
 {
     crate::laws::printed_is_read();
     let before = out.len();

@@ -6,12 +6,11 @@ ghost use Rattle.er_base.specs.Rows.{Gives};
 ghost use Rattle.er_settings.specs.Ranges.{AllAllowed};
 ghost use Rattle.er_scenario.specs.Answers.{Answers};
 ghost use Rattle.er_scenario.specs.Choices.{default_choices};
-ghost use Rattle.er_scenario.specs.Files.{line_says, body_of, scenario_from, file_says, scenario_of};
+ghost use Rattle.er_scenario.specs.Files.{line_says, body_of, scenario_from, scenario_of};
 ghost use Rattle.er_scenario.specs.Readings.{IsWellSaid, fault_at};
-ghost use Rattle.er_scenario.specs.Texts.{AreReadable, IsInGrammar, CanBeRead};
+ghost use Rattle.er_scenario.specs.Texts.{AreReadable, CanBeRead};
 
 use crate::choices::{Choices, choose, defaults};
-use crate::grammar::Grammar;
 use crate::header::header_level;
 use crate::level::Level;
 use crate::numbered::Numbered;
@@ -39,15 +38,14 @@ fn at(line: usize, fault: LineFault) -> TextFault
 #[tactic(auto, unfolding(crate::specs::Files::line_says))]
 fn read_line(
     alloc: Global,
-    grammar: Grammar,
     level: Level,
     is_late: bool,
     choices: &Choices,
     words: &[&[u8]],
 ) -> Result<Said, LineFault>
     requires { AllAllowed choices.now.settings }
-    ensures said { Gives result (line_says grammar level is_late choices.now (map (λ w. w.now) words.now)) }
-    ensures range { IfOk result (λ said. IsWellSaid grammar level said) }
+    ensures said { Gives result (line_says level is_late choices.now (map (λ w. w.now) words.now)) }
+    ensures range { IfOk result (λ said. IsWellSaid level said) }
 {
     let Some((first, arguments)) = words.split_first() else {
         return Err(LineFault::Refused(Why::Word));
@@ -61,7 +59,7 @@ fn read_line(
         }
         return Ok(Said::Chooses(choose(choices, name, value)?));
     }
-    let Some(name) = StepName::named(grammar, first) else {
+    let Some(name) = StepName::named(first) else {
         return Err(LineFault::Refused(Why::Word));
     };
     if arguments.len() != name.arguments() {
@@ -74,17 +72,11 @@ fn read_line(
 }
 
 // The scenario of the lines behind the header, whose number is `header`.
-fn read_body(
-    alloc: Global,
-    grammar: Grammar,
-    level: Level,
-    header: usize,
-    text: &[u8],
-) -> Result<Scenario, TextFault>
+fn read_body(alloc: Global, level: Level, header: usize, text: &[u8]) -> Result<Scenario, TextFault>
     requires { header + length text.now ≤ 16777216 }
     ensures exact { Answers result
-        (scenario_from level (body_of grammar level false default_choices (rows_of header (lines_of text.now)))) }
-    ensures range { IfOk result (λ scenario. AllAllowed scenario.settings × AreReadable grammar scenario.level scenario.steps) }
+        (scenario_from level (body_of level false default_choices (rows_of header (lines_of text.now)))) }
+    ensures range { IfOk result (λ scenario. AllAllowed scenario.settings × AreReadable scenario.level scenario.steps) }
 {
     let mut choices = defaults();
     let mut steps = Vec::new(alloc);
@@ -94,14 +86,7 @@ fn read_body(
     while let Some((row, behind)) = next_row(number, rest) {
         number = row.number;
         rest = behind;
-        match read_line(
-            alloc,
-            grammar,
-            level,
-            is_late,
-            &choices,
-            row.words.as_slice(),
-        ) {
+        match read_line(alloc, level, is_late, &choices, row.words.as_slice()) {
             Ok(Said::Chooses(chosen)) => choices = chosen,
             Ok(Said::Does(step)) => {
                 steps.push(Numbered { line: number, step })?;
@@ -118,11 +103,15 @@ fn read_body(
     })
 }
 
-// The scenario of a text by a grammar.
-#[tactic(auto, unfolding(crate::specs::Files::file_says))]
-pub fn read_by(alloc: Global, grammar: Grammar, bytes: &[u8]) -> Result<Scenario, TextFault>
-    ensures exact { Answers result (file_says grammar bytes.now) }
-    ensures range { IfOk result (λ scenario. IsInGrammar grammar scenario) }
+/// Reads a drill file: the header `drill 1 LEVEL`, `set` lines, then steps.
+///
+/// Comments and blank lines are skipped, words are parted by spaces, and a last line without LF is read too. A refused
+/// file is refused by the first faulty line and the first fault of that line; a file of more than 16,777,216 octets is
+/// `Long` at line 0, and one without a line that isn't skipped is `Header` at line 1.
+#[tactic(auto, unfolding(crate::specs::Files::scenario_of))]
+pub fn read(alloc: Global, bytes: &[u8]) -> Result<Scenario, TextFault>
+    ensures exact { Answers result (scenario_of bytes.now) }
+    ensures range { IfOk result (λ scenario. CanBeRead scenario) }
 {
     if bytes.len() > MOST_OCTETS {
         return Err(TextFault::At {
@@ -136,24 +125,11 @@ pub fn read_by(alloc: Global, grammar: Grammar, bytes: &[u8]) -> Result<Scenario
             why: Why::Header,
         });
     };
-    let Some(level) = header_level(grammar, header.words.as_slice()) else {
+    let Some(level) = header_level(header.words.as_slice()) else {
         return Err(TextFault::At {
             line: header.number,
             why: Why::Header,
         });
     };
-    read_body(alloc, grammar, level, header.number, rest)
-}
-
-/// Reads a drill file: the header `drill 1 LEVEL`, `set` lines, then steps.
-///
-/// Comments and blank lines are skipped, words are parted by spaces, and a last line without LF is read too. A refused
-/// file is refused by the first faulty line and the first fault of that line; a file of more than 16,777,216 octets is
-/// `Long` at line 0, and one without a line that isn't skipped is `Header` at line 1. Lines and levels that the program
-/// can't run yet are refused as if the table of lines hadn't them.
-pub fn read(alloc: Global, bytes: &[u8]) -> Result<Scenario, TextFault>
-    ensures exact { Answers result (scenario_of bytes.now) }
-    ensures range { IfOk result (λ scenario. CanBeRead scenario) }
-{
-    read_by(alloc, Grammar::Running, bytes)
+    read_body(alloc, level, header.number, rest)
 }

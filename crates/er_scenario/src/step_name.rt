@@ -1,7 +1,6 @@
 ghost use Rattle.std.specs.Prelude.{◌≡◌, length};
 ghost use Rattle.er_scenario.specs.Table.{step_word, step_named, kinds_of, levels_of, has_level};
 
-use crate::grammar::Grammar;
 use crate::level::Level;
 
 /// The lines of a drill file that are steps.
@@ -37,6 +36,23 @@ pub enum StepName {
     Drain,
 }
 
+const ALL_STEPS: [StepName; 14] = [
+    StepName::Fixed,
+    StepName::Link,
+    StepName::Wire,
+    StepName::Send,
+    StepName::Pass,
+    StepName::Lose,
+    StepName::Repeat,
+    StepName::Alter,
+    StepName::Put,
+    StepName::Copy,
+    StepName::Take,
+    StepName::Release,
+    StepName::Tick,
+    StepName::Drain,
+];
+
 impl StepName {
     /// The first word of the line.
     pub fn word(self) -> &'static [u8]
@@ -60,15 +76,11 @@ impl StepName {
         }
     }
 
-    /// The line that a first word begins, or None where it begins none that is read.
-    pub fn named(grammar: Grammar, word: &[u8]) -> Option<StepName>
-        ensures { result ≡ step_named grammar word.now }
+    /// The line that a first word begins, or None where it begins none.
+    pub fn named(word: &[u8]) -> Option<StepName>
+        ensures { result ≡ step_named word.now }
     {
-        grammar
-            .steps()
-            .iter()
-            .copied()
-            .find(|name| word == name.word())
+        ALL_STEPS.iter().copied().find(|name| word == name.word())
     }
 
     /// How many words stand behind the first one.

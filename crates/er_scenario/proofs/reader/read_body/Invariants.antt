@@ -10,10 +10,10 @@ use Rattle.er_scenario.proofs.reader.read_body.Given as goal
 
 abbrev pub invariant-loop-row : goal.invariant-loop-row
 invariant-loop-row l = record {
-  said : behind l.steps.items (body_of l.grammar l.level l.is_late l.choices (rows_of l.number (lines_of l.rest)))
-      ≡ body_of l.grammar l.level false default_choices (rows_of l.header (lines_of l.text));
+  said : behind l.steps.items (body_of l.level l.is_late l.choices (rows_of l.number (lines_of l.rest)))
+      ≡ body_of l.level false default_choices (rows_of l.header (lines_of l.text));
   allowed : AllAllowed l.choices.settings;
-  readable : AreReadable l.grammar l.level l.steps.items;
+  readable : AreReadable l.level l.steps.items;
   room : l.number + length l.rest ≤ 16777216;
 }
 
