@@ -1,4 +1,4 @@
--- Representation: how the code keeps what a station of the model keeps; no claim rests on it. The code has the numbers modulo the modulo,
+-- Contract: how a clause speaks of what the code keeps of a station of the model. The code has the numbers modulo the modulo,
 -- how far V(S) is ahead of V(A), whether an I frame was taken at all, and of the payloads those from V(A) on.
 use Rattle.std.specs.Prelude.{◌≡◌, ℕ, ◌+◌, ◌-◌, ◌*◌, ◌%◌, ◌<◌, ◌≤◌, nat_lt, Bool, false, List, ◌++◌, length, drop, Option}
 use Rattle.std.specs.List.{flat_map}

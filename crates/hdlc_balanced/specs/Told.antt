@@ -1,4 +1,4 @@
--- Representation: what a call of the code tells, as the deed of the model.
+-- Contract: how a clause speaks of what a call of the code tells: as the deed of the model.
 use Rattle.std.specs.Prelude.{ℕ, true, false, List, Option, Some, None, option_map}
 use Rattle.er_base.specs.declared.release.Release.{Release}
 use Rattle.station_model.specs.Stations.{Deed, no_deed}

@@ -130,8 +130,9 @@ impl Station {
         })
     }
 
-    /// A calling station that was just made sends the set-up frame, and T1 starts (`now` in milliseconds). Any other one
-    /// sends nothing.
+    /// A calling station that was just made sends the set-up frame, and T1 starts (`now` in milliseconds). Any other one, a
+    /// called one or one that was started before, sends nothing and only sees the moment; one that was released does nothing at
+    /// all. The call doesn't tell which it was.
     pub fn start(&mut self, now: u64, out: &mut Room)
         requires moment { now ≤ 1000000000000000 }
         requires room { HasRoom out.old 2064 }
@@ -166,7 +167,8 @@ impl Station {
     }
 
     /// A payload of up to 1,026 octets is handed down, to be sent as soon as it may. Full, exactly where 16 payloads wait to
-    /// be sent for the first time; then nothing changes.
+    /// be sent for the first time; then nothing changes. A station that was released keeps none and sends none, and answers Ok all
+    /// the same where fewer than 16 wait: whoever calls remembers the release that it was told, and that it closed the station.
     pub fn hand(&mut self, now: u64, payload: &[u8], out: &mut Room) -> Result<(), Full>
         requires moment { now ≤ 1000000000000000 }
         requires fits { length payload.now ≤ 1026 }
@@ -239,7 +241,8 @@ impl Station {
         release
     }
 
-    /// The layer above ends the link: DISC where it was being set up or is up, and the station is Down.
+    /// The layer above ends the link: DISC where it was being set up or is up, and the station is Down. It tells no release:
+    /// that is the caller's own.
     pub fn close(&mut self, out: &mut Room)
         requires { HasRoom out.old 2064 }
         ensures follows { Follows self.old out.old self.new out.new closes }

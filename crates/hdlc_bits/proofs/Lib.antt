@@ -1,4 +1,3 @@
-pub mod KnownAnswers
 pub mod RunLaws
 pub mod KeptLaws
 pub mod DeframingLaws

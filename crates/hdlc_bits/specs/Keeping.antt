@@ -1,4 +1,4 @@
--- Representation: what a deframer keeps of a line, bit by bit; no claim rests on it.
+-- Contract: how clauses speak of what a deframer keeps of a line, bit by bit.
 use Rattle.std.specs.Prelude.{◌≡◌, ℕ, ◌+◌, min, Bool, true, false, ◌==◌, List, [], ◌∷◌, ◌++◌, take, replicate, Option, None, Some, if◌then◌else◌}
 use Rattle.hdlc_bits.specs.Framing.{Verdict, is_flag, is_bound, has_zero, zero_if, verdict_at_end}
 

@@ -10,3 +10,4 @@ pub mod Advancing
 pub mod SegmentViews
 pub mod Rooms
 pub mod Laws
+pub mod KnownAnswers

@@ -1,5 +1,4 @@
 pub mod DivisionLaws
 pub mod TableLaws
-pub mod KnownAnswers
 pub mod SlicingLaws
 pub mod ContentLaws

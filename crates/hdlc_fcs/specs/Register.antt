@@ -1,5 +1,5 @@
--- The check sequence of ISO/IEC 13239 as a register of 16 bits that octets are shifted through: help for
--- the code. That it gives the remainder of the division is proved, not assumed.
+-- Representation: the check sequence of ISO/IEC 13239 as a register of 16 bits that octets are shifted through, as the code has it. That it
+-- gives the remainder of the division is proved, not assumed.
 use Rattle.std.specs.Prelude.{ℕ, zero, suc, ◌*◌, ◌/◌, ◌%◌, List, [], ◌∷◌, bit_xor}
 
 -- the register after one bit: the generator, lowest bit first, goes in where the bit shifted out is 1

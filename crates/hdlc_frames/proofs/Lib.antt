@@ -1,4 +1,3 @@
-pub mod KnownAnswers
 pub mod StreamLaws
 pub mod PieceLaws
 pub mod DeframingLaws

@@ -1,4 +1,4 @@
--- The control of a body read, as a function: help for callers. That it is the tables of controls is a public
+-- The control of a body (ISO/IEC 13239) as a function of the body. That it is the tables of controls is a public
 -- law of this crate.
 use Rattle.std.specs.Prelude.{ℕ, ◌/◌, Bool, not, ◌==◌, List, [], ◌∷◌, Option, None, Some, option_map, bit_and, if◌then◌else◌}
 use Rattle.hdlc_frames.specs.declared.controls.Control.{Control}

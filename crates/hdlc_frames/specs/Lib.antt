@@ -10,3 +10,4 @@ pub mod Laws
 pub mod FirstClose
 pub mod Controls
 pub mod ControlOctets
+pub mod KnownAnswers

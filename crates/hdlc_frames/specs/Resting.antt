@@ -1,4 +1,4 @@
--- Representation: what a deframer keeps once the frame that it lent is let go, as a statement on the loan.
+-- Contract: how the clause of `feed` speaks of what a deframer keeps once the frame that it lent is let go, as a statement on the loan.
 use Rattle.std.specs.Prelude.{◌≡◌, ⊤}
 use Rattle.std.specs.Borrow.{MutBor, Fml, follows_so}
 use mathlib.Core.Option.{none}

@@ -3,5 +3,11 @@ pub mod Stations
 pub mod Sending
 pub mod Receiving
 pub mod Calls
+pub mod Events
+pub mod Lines
 pub mod Laws
 pub mod Reports
+pub mod Timing
+pub mod Causes
+pub mod LastFrames
+pub mod KnownAnswers

@@ -1,21 +1,23 @@
 -- A loss-free line: its deliveries are counted, and few frames wait.
-use Rattle.std.proofs.Common.{if◌then◌else◌, ◌≡◌, ℕ, zero, suc, ◌+◌, ◌*◌, ◌≤◌, inl, inr, max, Bool, true, false, not, ◌&&◌, ◌||◌, List, [], ◌∷◌, length, Option, Some, None, refl, sym, ◌∙◌, ap, subst, arith}
+use Rattle.std.proofs.Common.{if◌then◌else◌, ◌≡◌, ℕ, zero, suc, ◌+◌, ◌*◌, ◌≤◌, inl, inr, max, Bool, true, false, not, ◌&&◌, ◌||◌, List, [], ◌∷◌, length, map, Option, Some, None, refl, sym, ◌∙◌, ap, subst, arith}
 use Rattle.std.proofs.lemmas.List.{length-map}
 use Rattle.std.specs.Prelude.{nat_lt, ◌==◌}
-use Rattle.std.proofs.lemmas.Bool.{cond_both}
+use Rattle.std.proofs.lemmas.Bool.{cond_both, or_cases, ltb-true}
 use Rattle.er_base.specs.declared.side.Side.{Side}
 use Rattle.er_base.specs.declared.side.Side.TheVariants.{E, R}
 use Rattle.station_model.specs.Frames.{Frame, Info, Rr, Rej, SetUp, Disc, Dm, Ua, modulo}
 use Rattle.station_model.specs.Stations.{Station, is_down}
+use Rattle.station_model.specs.Events.{quits, is_late}
+use Rattle.station_model.specs.Lines.{altered, next_of}
 use Rattle.station_pair.specs.Links.{Came, Link, station_of, line_of, with_line, did, opened}
-use Rattle.station_pair.specs.Steps.{LinkStep, Send, Pass, Lose, Repeat, Alter, Put, UserRelease, Drain, Tick, refusal_at, send_unless, pass, lose, repeat, altered, alter, quits, release, is_late, tick_at, tick, next_of, is_overfull, Draining, pass_next, drained, step, happens, run}
-use Rattle.station_pair.specs.Laws.{after, passed_of, deliveries_of, deliveries, DeliveriesBound, FewWait}
+use Rattle.station_pair.specs.Steps.{LinkStep, Send, Pass, Lose, Repeat, Alter, Put, UserRelease, Drain, Tick, refusal_at, send_unless, pass, lose, repeat, alter, release, tick_at, tick, is_overfull, Draining, pass_next, drained, step, happens, run}
+use Rattle.station_pair.specs.Laws.{after, passed_of, deliveries_of, deliveries, DrainEmpties, DeliveriesBound, FewWait}
 use Rattle.station_pair.specs.Invariant.{Way, Climbs, Pair, infos, numbers}
 use Rattle.station_pair.specs.Flowing.{Consecutive, AllData, Rises, Shape}
 use Rattle.station_pair.proofs.Ways.{way_bounds}
 use Rattle.station_pair.proofs.Runs.{Frames, refused_long}
 use Rattle.station_pair.proofs.Delivers.{Flows, Passed, e_sends, r_sends, e_ticks, r_ticks, e_pass, r_pass, e_sends_n, r_sends_n, e_ticks_n, r_ticks_n}
-use Rattle.station_pair.proofs.Delivered.{none_next, full_next, delivers, both_false, bound_flows, sent_free, passed_free, drained_free, opened_flows, opened_none, after_flows}
+use Rattle.station_pair.proofs.Delivered.{none_next, full_next, drained_empties, delivers, both_false, bound_flows, sent_free, passed_free, drained_free, opened_flows, opened_none, after_flows}
 
 -- ---- few frames wait
 
@@ -83,14 +85,46 @@ few_at k n lx x ly y p shape =
           (omega (arith, fx), omega (arith, fy))
     ]
 
-pub few_wait : Frames → FewWait
-few_wait laws s steps free =
-    let l : Link = after s steps in
-    let g = after_flows laws s steps free in
+few_frames : (l : Link) → Flows l → (length l.from_e ≤ 254) × (length l.from_r ≤ 254)
+few_frames l g =
     let few = few_at g.k g.n g.fe l.e g.fr l.r g.stands.pair g.shape in
     let e : length l.from_e ≡ length g.fe = ap length g.stands.lined_x ∙ length-map g.fe _ in
     let r : length l.from_r ≡ length g.fr = ap length g.stands.lined_y ∙ length-map g.fr _ in
     (omega (arith, few.0), omega (arith, few.1))
+
+pub few_wait : Frames → FewWait
+few_wait laws s steps free = few_frames (after s steps) (after_flows laws s steps free)
+
+-- ---- a drain
+
+not_overfull : (l : Link) → (length l.from_e ≤ 254) × (length l.from_r ≤ 254) → is_overfull l ≡ true → ⊥
+not_overfull l few full =
+    elim (or_cases (nat_lt 4096 (length l.from_e)) (nat_lt 4096 (length l.from_r)) full) [
+      | inl e ↦ let many = ltb-true 4096 (length l.from_e) e in omega (arith, few.0)
+      | inr r ↦ let many = ltb-true 4096 (length l.from_r) r in omega (arith, few.1)
+    ]
+
+no_length : (l : List Frame) → length l ≡ 0 → l ≡ []
+no_length [] h = refl
+no_length (f ∷ fs) h = absurd (let u : ⊥ = omega arith in u)
+
+pub drain_empties : Frames → DrainEmpties
+drain_empties laws s steps most free enough =
+    let l : Link = after s steps in
+    let d : Draining = drained most (record { link = l; passes = 0 }) in
+    let g = after_flows laws s steps free in
+    let h = drained_empties laws most (record { link = l; passes = 0 }) g in
+    let b = bound_flows d.link h.flows in
+    let be : length d.link.e.handed ≡ length l.e.handed = ap length h.handed_e in
+    let br : length d.link.r.handed ≡ length l.r.handed = ap length h.handed_r in
+    elim h.ends [
+      | inl none ↦ none
+      | inr (inl full) ↦ absurd (not_overfull d.link (few_frames d.link h.flows) full)
+      | inr (inr more) ↦
+          let ze : length h.flows.fe ≡ 0 = omega arith in
+          let zr : length h.flows.fr ≡ 0 = omega arith in
+          (h.flows.stands.lined_x ∙ ap (map _) (no_length h.flows.fe ze), h.flows.stands.lined_y ∙ ap (map _) (no_length h.flows.fr zr))
+    ]
 
 -- ---- deliveries are counted
 

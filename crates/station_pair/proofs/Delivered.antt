@@ -1,5 +1,5 @@
 -- A loss-free line over a list of steps: the laws of delivery.
-use Rattle.std.proofs.Common.{if◌then◌else◌, ◌≡◌, ℕ, zero, suc, ◌+◌, ◌-◌, ◌*◌, ◌<◌, ◌≤◌, ◌⊎◌, inl, inr, max, Bool, true, false, not, ◌&&◌, ◌||◌, List, [], ◌∷◌, length, map, take, Option, Some, None, refl, sym, ◌∙◌, ap, subst, arith, lt-ltb, true≢false, take_all}
+use Rattle.std.proofs.Common.{if◌then◌else◌, ◌≡◌, ℕ, zero, suc, ◌+◌, ◌-◌, ◌*◌, ◌<◌, ◌≤◌, ◌⊎◌, inl, inr, max, Bool, true, false, not, ◌&&◌, ◌||◌, List, [], ◌∷◌, length, take, Option, Some, None, refl, sym, ◌∙◌, ap, subst, arith, lt-ltb, true≢false, take_all}
 use Rattle.std.specs.Prelude.{nat_lt, ◌==◌}
 use Rattle.std.proofs.lemmas.Bool.{cond_both}
 use Rattle.er_base.specs.declared.side.Side.{Side}
@@ -11,9 +11,11 @@ use Rattle.station_model.specs.Frames.{Frame, SetUp, Ua, modulo}
 use Rattle.station_model.specs.Stations.{Station, is_up, is_down}
 use Rattle.station_model.specs.Sending.{can_send}
 use Rattle.station_model.specs.Calls.{receives, finishes}
-use Rattle.station_pair.specs.Links.{Came, Link, station_of, line_of, with_line, did, news, hears_each, opened}
-use Rattle.station_pair.specs.Steps.{LinkStep, Send, Pass, Lose, Repeat, Alter, Put, UserRelease, Drain, Tick, refusal_at, send_unless, pass, lose, repeat, altered, alter, quits, release, is_late, tick_at, tick, next_of, is_overfull, Draining, pass_next, drained, step, happens, run}
-use Rattle.station_pair.specs.Laws.{Opening, after, IsEmpty, bound, Delivery, DeliveryBound, DrainEmpties}
+use Rattle.station_model.specs.Events.{news, quits, is_late}
+use Rattle.station_model.specs.Lines.{altered, next_of}
+use Rattle.station_pair.specs.Links.{Came, Link, station_of, line_of, with_line, did, hears_each, opened}
+use Rattle.station_pair.specs.Steps.{LinkStep, Send, Pass, Lose, Repeat, Alter, Put, UserRelease, Drain, Tick, refusal_at, send_unless, pass, lose, repeat, alter, release, tick_at, tick, is_overfull, Draining, pass_next, drained, step, happens, run}
+use Rattle.station_pair.specs.Laws.{Opening, after, IsEmpty, bound, Delivery, DeliveryBound}
 use Rattle.station_pair.specs.Invariant.{Pair, infos, numbers}
 use Rattle.station_pair.specs.Flowing.{Rests, Shape}
 use Rattle.station_pair.proofs.Ways.{way_bounds}
@@ -306,24 +308,3 @@ delivery laws s steps free empty =
     emptied_at g.k g.n l.e l.r
     (subst (λ (t : List Frame). Pair g.k t l.e [] l.r) ne (subst (λ (t : List Frame). Pair g.k g.fe l.e t l.r) nr g.stands.pair))
     (subst (λ (t : List Frame). Shape g.n t l.e [] l.r) ne (subst (λ (t : List Frame). Shape g.n g.fe l.e t l.r) nr g.shape))
-
-pub drain_empties : Frames → DrainEmpties
-drain_empties laws s steps most free enough not_full =
-    let l : Link = after s steps in
-    let d : Draining = drained most (record { link = l; passes = 0 }) in
-    let g = after_flows laws s steps free in
-    let h = drained_empties laws most (record { link = l; passes = 0 }) g in
-    let b = bound_flows d.link h.flows in
-    let be : length d.link.e.handed ≡ length l.e.handed = ap length h.handed_e in
-    let br : length d.link.r.handed ≡ length l.r.handed = ap length h.handed_r in
-    elim h.ends [
-      | inl none ↦ none
-      | inr (inl full) ↦ absurd (true≢false (sym full ∙ not_full))
-      | inr (inr more) ↦
-          let ze : length h.flows.fe ≡ 0 = omega arith in
-          let zr : length h.flows.fr ≡ 0 = omega arith in
-          (h.flows.stands.lined_x ∙ ap (map _) (no_length h.flows.fe ze), h.flows.stands.lined_y ∙ ap (map _) (no_length h.flows.fr zr))
-    ] where
-      no_length : (l : List Frame) → length l ≡ 0 → l ≡ []
-      no_length [] h = refl
-      no_length (f ∷ fs) h = absurd (let u : ⊥ = omega arith in u)

@@ -12,8 +12,9 @@ use Rattle.station_model.specs.Stations.{Station, is_up, is_down, sees}
 use Rattle.station_model.specs.Sending.{can_send, waiting, sends_next, sends_up_to, sends_waiting, settles, expires_if_due}
 use Rattle.station_model.specs.Receiving.{row, row_idle, agrees, comes_up}
 use Rattle.station_model.specs.Calls.{hands, finishes, ticks}
+use Rattle.station_model.specs.Events.{is_late}
 use Rattle.station_pair.specs.Links.{Link, did, hears_each, reads}
-use Rattle.station_pair.specs.Steps.{counted, pass, is_late, tick_at}
+use Rattle.station_pair.specs.Steps.{counted, pass, tick_at}
 use Rattle.station_pair.specs.Invariant.{Pair, Both}
 use Rattle.station_pair.specs.Flowing.{one_if, Still, AtRest, Fresh, Shape}
 use Rattle.station_pair.proofs.Events.{finishes_keeps, hands_keeps, ticks_keeps}

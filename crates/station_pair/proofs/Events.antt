@@ -14,9 +14,9 @@ use Rattle.station_model.specs.Stations.{Station, is_down, sees, puts}
 use Rattle.station_model.specs.Sending.{gives_up, starts_timer, sends_again, sends_waiting, settles, counts_expiry, expires_at, expires, expires_if_due, is_due}
 use Rattle.station_model.specs.Receiving.{hears}
 use Rattle.station_model.specs.Calls.{receives, hands, finishes, ticks, closes_at, closes}
-use Rattle.station_pair.specs.Laws.{IsLosingLineReason}
+use Rattle.station_model.specs.Events.{quits}
+use Rattle.station_pair.specs.Laws.{IsLosingLineRelease}
 use Rattle.station_pair.specs.Invariant.{Climbs, least_mark, greatest_mark, Half, Pair, Both, infos, numbers, marks, info_of, number_of, mark_of}
-use Rattle.station_pair.specs.Steps.{quits}
 use Rattle.station_pair.proofs.Ways.{climbs_push}
 use Rattle.station_pair.proofs.Keeps.{puts_quiet, sends_again_keeps, sends_waiting_keeps, settles_keeps, hand_keeps, down_keeps, more, same}
 use Rattle.station_pair.proofs.Rows.{row_keeps, first_gone, may_come}
@@ -80,7 +80,7 @@ set_up_sent k w x l y none calling b =
       b.4,
     )
 
-gives_up_keeps : (k : ℕ) (w : List Frame) (x : Station) (l : List Frame) (y : Station) (r : Option Release) → IsLosingLineReason r
+gives_up_keeps : (k : ℕ) (w : List Frame) (x : Station) (l : List Frame) (y : Station) (r : Option Release) → IsLosingLineRelease r
     → Both k w x l y → Both k w (record (puts Disc x) { phase = Down; released = r }) l y
 gives_up_keeps k w x l y r lawful b = down_keeps k w (puts Disc x) l y r lawful (puts_quiet k w x l y Disc refl refl refl b)
 
@@ -115,7 +115,7 @@ closes_at_keeps k w Up x l y b = puts_quiet k w x l y Disc refl refl refl b
 closes_at_keeps k w Down x l y b = b
 
 -- a call of close, after which the layer above may note why
-pub closes_keeps : (k : ℕ) (w : List Frame) (x : Station) (l : List Frame) (y : Station) (r : Option Release) → IsLosingLineReason r
+pub closes_keeps : (k : ℕ) (w : List Frame) (x : Station) (l : List Frame) (y : Station) (r : Option Release) → IsLosingLineRelease r
     → Both k w x l y → Both k w (record (closes x) { released = r }) l y
 closes_keeps k w x l y r lawful b =
     cond_both (is_down x.phase) x (record (closes_at x.phase x) { phase = Down; timer = None }) (λ t. Both k w (record t { released = r }) l y)

@@ -11,7 +11,7 @@ use Rattle.station_model.specs.Stations.{Station, is_down, sees, puts}
 use Rattle.station_model.specs.Sending.{info_at, can_send, waiting, sends_next, sends_up_to, sends_waiting, settles, expires, expires_if_due}
 use Rattle.station_model.specs.Receiving.{acknowledges, acknowledging, accepts, rejects, takes, marks_busy, row, hears}
 use Rattle.station_model.specs.Calls.{hands, finishes, ticks}
-use Rattle.station_pair.specs.Steps.{is_late}
+use Rattle.station_model.specs.Events.{is_late}
 use Rattle.station_pair.specs.Invariant.{Pair, infos, numbers, marks, info_of, number_of}
 use Rattle.station_pair.specs.Flowing.{Consecutive, Ends, IsData, AllData, one_if, Flow, Rises, Still, Rests, AtRest}
 use Rattle.station_pair.proofs.Keeps.{more}

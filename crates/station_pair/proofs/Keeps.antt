@@ -10,7 +10,7 @@ use Rattle.station_model.specs.declared.phase.Phase.TheVariants.{Idle, Setting, 
 use Rattle.station_model.specs.Frames.{Frame, Rr}
 use Rattle.station_model.specs.Stations.{Station, is_up, puts}
 use Rattle.station_model.specs.Sending.{info_at, can_send, sends_next, sends_up_to, sends_waiting, waiting, frames_again, sends_again, settles}
-use Rattle.station_pair.specs.Laws.{IsLosingLineReason}
+use Rattle.station_pair.specs.Laws.{IsLosingLineRelease}
 use Rattle.station_pair.specs.Invariant.{Climbs, Early, least_mark, greatest_mark, Half, Pair, Both, infos, numbers, marks, info_of, number_of, mark_of}
 use Rattle.station_pair.proofs.Ways.{climbs_le, climbs_high, climbs_push, way_again, way_send, way_shows, way_hand, way_bounds, short_push}
 
@@ -172,6 +172,6 @@ hand_keeps k w x l y p short b = (
 )
 
 -- a release keeps what was sent and taken
-pub down_keeps : (k : ℕ) (w : List Frame) (x : Station) (l : List Frame) (y : Station) (r : Option Release) → IsLosingLineReason r
+pub down_keeps : (k : ℕ) (w : List Frame) (x : Station) (l : List Frame) (y : Station) (r : Option Release) → IsLosingLineRelease r
     → Both k w x l y → Both k w (record x { phase = Down; released = r }) l y
 down_keeps k w x l y r lawful b = ((b.0.0, b.0.1, tt, b.0.3, b.0.4, lawful), b.1, b.2, b.3, b.4)

@@ -1,4 +1,3 @@
-pub mod KnownAnswers
 pub mod Ways
 pub mod Hearing
 pub mod Streams

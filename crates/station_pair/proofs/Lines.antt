@@ -6,7 +6,7 @@ use Rattle.hdlc_frames.specs.Laws.{ControlReadsBack, FlagParts, FrameAlone}
 use Rattle.station_model.specs.Frames.{Frame, Info, Rr, Rej, SetUp, Disc, Dm, Ua, information, sent_address, sent_body, sent_octets}
 use Rattle.station_model.specs.Stations.{Station, settled}
 use Rattle.station_model.specs.Calls.{receives, finishes}
-use Rattle.station_pair.specs.Links.{said_octets, news}
+use Rattle.station_model.specs.Events.{said_octets, news}
 use Rattle.station_pair.specs.Invariant.{Pair, Both}
 use Rattle.station_pair.proofs.Ways.{short_at}
 use Rattle.station_pair.proofs.Hearing.{body_fits}

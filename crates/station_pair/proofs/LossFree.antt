@@ -9,7 +9,7 @@ use Rattle.station_model.specs.Stations.{Station, is_up, is_down, sees, settled}
 use Rattle.station_model.specs.Sending.{can_send, waiting, sends_next, sends_up_to, sends_waiting, settles, expires_if_due}
 use Rattle.station_model.specs.Receiving.{acknowledges, accepts, marks_busy, agrees, comes_up, row, hears}
 use Rattle.station_model.specs.Calls.{receives, hands, finishes, ticks}
-use Rattle.station_pair.specs.Steps.{is_late}
+use Rattle.station_model.specs.Events.{is_late}
 use Rattle.station_pair.specs.Invariant.{Pair, Both}
 use Rattle.station_pair.specs.Flowing.{one_if, Still, AtRest, Fresh, Asked, Agreed, Shape, Flushed, Midway, Ended}
 use Rattle.station_pair.specs.Keeping.{found}

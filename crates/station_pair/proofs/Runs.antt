@@ -11,8 +11,10 @@ use Rattle.station_model.specs.Frames.{Frame, SetUp, modulo}
 use Rattle.station_model.specs.Stations.{Station, is_down}
 use Rattle.station_model.specs.Sending.{waiting}
 use Rattle.station_model.specs.Calls.{receives, hands, finishes, ticks}
-use Rattle.station_pair.specs.Links.{Came, RefusedLength, RefusedFull, Link, station_of, line_of, with_line, did, news, hears_each, reads, opened}
-use Rattle.station_pair.specs.Steps.{LinkStep, Send, Pass, Lose, Repeat, Alter, Put, UserRelease, Drain, Tick, refusal_at, send_unless, send, pass, lose, repeat, altered, alter, quits, release, is_late, tick_at, tick, next_of, is_overfull, Draining, pass_next, drained, step, happens, run}
+use Rattle.station_model.specs.Events.{news, quits, is_late}
+use Rattle.station_model.specs.Lines.{altered, next_of}
+use Rattle.station_pair.specs.Links.{Came, RefusedLength, RefusedFull, Link, station_of, line_of, with_line, did, hears_each, reads, opened}
+use Rattle.station_pair.specs.Steps.{LinkStep, Send, Pass, Lose, Repeat, Alter, Put, UserRelease, Drain, Tick, refusal_at, send_unless, send, pass, lose, repeat, alter, release, tick_at, tick, is_overfull, Draining, pass_next, drained, step, happens, run}
 use Rattle.station_pair.specs.Laws.{Opening, after, Prefix, LosingLineReasons}
 use Rattle.station_pair.specs.Invariant.{Pair, Both}
 use Rattle.station_pair.proofs.Events.{finishes_keeps, hands_keeps, ticks_keeps, quits_keeps}

@@ -5,7 +5,7 @@ use Rattle.std.proofs.Math.Seq.{drop-append_seam}
 use Rattle.hdlc_frames.specs.Framing.{flag, Frame, cut, between_flags, all_but_last, frames_of}
 use Rattle.hdlc_frames.specs.Spelling.{spelling, escaped, content_of}
 use Rattle.hdlc_frames.specs.Laws.{FlagParts, FrameAlone}
-use Rattle.station_pair.specs.Links.{news}
+use Rattle.station_model.specs.Events.{news}
 
 -- nothing stands behind the newest flag
 abbrev pub AtFlag : List ℕ → Type 0

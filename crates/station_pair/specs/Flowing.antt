@@ -1,4 +1,4 @@
--- What flows between two stations while their line loses nothing, and repeats nothing: help for the proofs, no claim rests on it.
+-- Lemmas: what flows between two stations while their line loses nothing, and repeats nothing; no claim rests on it.
 use Rattle.std.specs.Prelude.{◌≡◌, ◌⊎◌, ℕ, ◌+◌, ◌<◌, ◌≤◌, Bool, true, false, not, List, [], ◌∷◌, ◌++◌, length}
 use Rattle.station_model.specs.declared.phase.Phase.TheVariants.{Idle, Setting, Up}
 use Rattle.station_model.specs.Frames.{Frame, Info, Rr, Rej, SetUp, Disc, Dm, Ua}

@@ -1,11 +1,11 @@
--- The invariant of a losing line: help for the proofs, no claim rests on it. It speaks of the frames that wait with their absolute numbers.
+-- Lemmas: the invariant of a losing line, which no claim rests on. It speaks of the frames that wait with their absolute numbers.
 use Rattle.std.specs.Prelude.{◌≡◌, ℕ, ◌+◌, ◌≤◌, min, max, Bool, true, false, not, List, [], ◌∷◌, ◌++◌, length, take, slice_index_or}
 use Rattle.std.specs.List.{flat_map}
 use Rattle.station_model.specs.declared.phase.Phase.{Phase}
 use Rattle.station_model.specs.declared.phase.Phase.TheVariants.{Idle, Setting, Up, Down}
 use Rattle.station_model.specs.Frames.{Frame, Info, Rr, Rej, SetUp, Disc, Dm, Ua, modulo}
 use Rattle.station_model.specs.Stations.{Station}
-use Rattle.station_pair.specs.Laws.{IsLosingLineReason}
+use Rattle.station_pair.specs.Laws.{IsLosingLineRelease}
 
 -- ---- what waits
 
@@ -101,7 +101,7 @@ Half k waits from shows x y =
     × Early x.phase x.calling x.sent
     × (x.window ≤ k)
     × AllShort x.handed
-    × IsLosingLineReason x.released
+    × IsLosingLineRelease x.released
 
 -- two stations and what waits between them: lx from x, ly from y
 abbrev pub Pair : ℕ → List Frame → Station → List Frame → Station → Type 0

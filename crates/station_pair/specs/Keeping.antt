@@ -1,5 +1,5 @@
--- Representation: what two stations and the frames between them keep at each call, whatever layers stand above them; help for the proofs
--- of the crates of such layers. Everywhere x acts and y doesn't, w waited from x before the call, and l waits from y.
+-- Lemmas: what two stations and the frames between them keep at each call, whatever layers stand above them, for the proofs of the crates of
+-- such layers. Everywhere x acts and y doesn't, w waited from x before the call, and l waits from y.
 use Rattle.std.specs.Prelude.{◌≡◌, ◌⊎◌, ℕ, ◌-◌, ◌<◌, ◌≤◌, Bool, true, false, List, [], ◌∷◌, ◌++◌, length, drop, None}
 use Rattle.hdlc_frames.specs.Framing.{flag, Verdict, Frame as Frame_found, frames_of}
 use Rattle.station_model.specs.Frames.{Frame, modulo, sent_address, sent_body, sent_octets}

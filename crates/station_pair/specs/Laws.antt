@@ -1,11 +1,12 @@
 -- What holds of two stations over two lines, over every list of steps, at modulo 8 and at modulo 128. A list of steps stands for each
 -- moment of a longer run.
-use Rattle.std.specs.Prelude.{◌≡◌, ◌⊎◌, ℕ, ◌+◌, ◌*◌, ◌<◌, ◌≤◌, Bool, true, false, List, [], ◌∷◌, length, take, Option, Some, None}
+use Rattle.std.specs.Prelude.{◌≡◌, ℕ, ◌+◌, ◌<◌, ◌≤◌, Bool, true, List, [], ◌∷◌, length, Option, Some, None}
 use Rattle.er_base.specs.declared.release.Release.{Release}
 use Rattle.station_model.specs.declared.phase.Phase.TheVariants.{Up}
 use Rattle.station_model.specs.Frames.{modulo}
+use Rattle.station_model.specs.Lines.{IsPrefix, IsLosingLineReason, station_bound}
 use Rattle.station_pair.specs.Links.{Link, line_of, opened}
-use Rattle.station_pair.specs.Steps.{LinkStep, Send, Pass, Lose, Repeat, Alter, Put, UserRelease, Drain, Tick, drained, happens, run, is_overfull}
+use Rattle.station_pair.specs.Steps.{LinkStep, Send, Pass, Lose, Repeat, Alter, Put, UserRelease, Drain, Tick, drained, happens, run}
 
 -- how a link is opened: the settings of both stations, with a window from 1 to one below the modulo, and the moment
 pub record Opening : Type 0 where
@@ -21,9 +22,6 @@ pub record Opening : Type 0 where
 abbrev pub after : Opening → List LinkStep → Link
 after s steps = run (opened s.extended s.window s.n2 s.t1 s.moment) steps
 
-abbrev pub IsPrefix : List (List ℕ) → List (List ℕ) → Type 0
-IsPrefix xs ys = xs ≡ take (length xs) ys
-
 -- ---- an order-keeping line: it may lose and repeat
 
 -- what an end took is a prefix of what was handed down at the other
@@ -32,17 +30,15 @@ Prefix =
     (s : Opening) (steps : List LinkStep) → (after s steps).order_kept ≡ true
     → IsPrefix (after s steps).r.taken (after s steps).e.handed × IsPrefix (after s steps).e.taken (after s steps).r.handed
 
--- 0.x, the own user; 1.1, the set-up was never answered; 1.2, no progress; 1.4, the peer's DISC, DM or FRMR
-abbrev pub IsLosingLineReason : Option Release → Type 0
-IsLosingLineReason None = Unit {0}
-IsLosingLineReason (Some release) =
-    (release.by_peer ≡ false)
-    × ((release.reason ≡ 0) ⊎ ((release.reason ≡ 1) × ((release.sub ≡ 1) ⊎ (release.sub ≡ 2) ⊎ (release.sub ≡ 4))))
+-- where an end was released, it was for such a reason
+abbrev pub IsLosingLineRelease : Option Release → Type 0
+IsLosingLineRelease None = Unit {0}
+IsLosingLineRelease (Some release) = IsLosingLineReason release
 
 abbrev pub LosingLineReasons : Type 0
 LosingLineReasons =
     (s : Opening) (steps : List LinkStep) → (after s steps).order_kept ≡ true
-    → IsLosingLineReason (after s steps).e.released × IsLosingLineReason (after s steps).r.released
+    → IsLosingLineRelease (after s steps).e.released × IsLosingLineRelease (after s steps).r.released
 
 -- ---- deliveries
 
@@ -75,7 +71,7 @@ IsEmpty l = (l.from_e ≡ []) × (l.from_r ≡ [])
 
 -- the greatest number of deliveries
 abbrev pub bound : Link → ℕ
-bound l = 2 + 2 * (length l.e.handed + length l.r.handed)
+bound l = station_bound (length l.e.handed) (length l.r.handed)
 
 -- once it is empty, both stations are up, the called one took all payloads, and the calling one did where it handed down any itself
 abbrev pub Delivery : Type 0
@@ -102,9 +98,8 @@ FewWait =
     (s : Opening) (steps : List LinkStep) → (after s steps).loss_free ≡ true
     → (length (after s steps).from_e ≤ 254) × (length (after s steps).from_r ≤ 254)
 
--- a drain of as many passes leaves no frame waiting, unless too many wait in one direction
+-- a drain of as many passes leaves no frame waiting
 abbrev pub DrainEmpties : Type 0
 DrainEmpties =
     (s : Opening) (steps : List LinkStep) (most : ℕ) → (after s steps).loss_free ≡ true → bound (after s steps) ≤ most
-    → is_overfull (drained most (record { link = after s steps; passes = 0 })).link ≡ false
     → IsEmpty (drained most (record { link = after s steps; passes = 0 })).link

@@ -5,3 +5,4 @@ pub mod Invariant
 pub mod Flowing
 pub mod Keeping
 pub mod LossFree
+pub mod KnownAnswers

@@ -1,13 +1,13 @@
 -- Two stations over two lines (ISO/IEC 13239, asynchronous balanced mode): e is the calling station, r the called one. Each line is the
 -- list of the frames that wait on it, as octets. An end reads all octets that it is given as one stream (this profile).
-use Rattle.std.specs.Prelude.{ℕ, Bool, true, false, List, [], ◌∷◌, ◌++◌, length, drop, map, Option, Some, None}
+use Rattle.std.specs.Prelude.{ℕ, Bool, true, false, List, [], ◌∷◌, ◌++◌, map, Option, Some, None}
 use Rattle.er_base.specs.declared.side.Side.{Side}
 use Rattle.er_base.specs.declared.side.Side.TheVariants.{E, R}
 use Rattle.er_base.specs.declared.release.Release.{Release}
-use Rattle.hdlc_frames.specs.Framing.{Verdict, frames_of}
-use Rattle.station_model.specs.Frames.{sent_octets}
+use Rattle.hdlc_frames.specs.Framing.{Verdict}
 use Rattle.station_model.specs.Stations.{Station, made, settled}
 use Rattle.station_model.specs.Calls.{starts, receives, finishes}
+use Rattle.station_model.specs.Events.{said_octets, news}
 
 -- what comes of a step
 pub data Came : Type 0 where
@@ -70,10 +70,6 @@ tells came l = record l { came = l.came ++ came }
 
 -- ---- an event at an end
 
--- the frames of one call, as octets
-abbrev pub said_octets : Station → List (List ℕ)
-said_octets s = map (sent_octets s.calling s.extended) s.said
-
 abbrev pub if_up : Side → Bool → List Came
 if_up side true = CameUp side ∷ []
 if_up side false = []
@@ -97,10 +93,6 @@ did E s l = record l { e = settled s; from_e = l.from_e ++ said_octets s; came =
 did R s l = record l { r = settled s; from_r = l.from_r ++ said_octets s; came = l.came ++ came_of R s }
 
 -- ---- octets come to an end
-
--- the frames that octets close behind all that was read before
-abbrev pub news : List ℕ → List ℕ → List Verdict
-news before octets = drop (length (frames_of before)) (frames_of (before ++ octets))
 
 -- each is one event, and the answer that is still owed follows it
 abbrev pub hears_each : Side → List Verdict → Link → Link

@@ -1,12 +1,12 @@
--- Representation: what two stations and the frames between them keep at each call while the line loses nothing and repeats nothing, whatever
--- layers stand above them; help for the proofs of the crates of such layers. Everywhere x acts and y doesn't, w waited from x before the
+-- Lemmas: what two stations and the frames between them keep at each call while the line loses nothing and repeats nothing, whatever
+-- layers stand above them, for the proofs of the crates of such layers. Everywhere x acts and y doesn't, w waited from x before the
 -- call, and l waits from y; n is the number of deliveries so far; c says whether x is the calling station.
 use Rattle.std.specs.Prelude.{◌≡◌, ℕ, ◌+◌, ◌*◌, ◌≤◌, Bool, true, false, List, [], ◌∷◌, length}
 use Rattle.station_model.specs.declared.phase.Phase.TheVariants.{Up}
 use Rattle.station_model.specs.Frames.{Frame}
 use Rattle.station_model.specs.Stations.{Station, is_down, made, settled}
 use Rattle.station_model.specs.Calls.{starts, receives, hands, finishes, ticks}
-use Rattle.station_pair.specs.Steps.{is_late}
+use Rattle.station_model.specs.Events.{is_late}
 use Rattle.station_pair.specs.Invariant.{Pair, Both}
 use Rattle.station_pair.specs.Flowing.{Shape, Midway, Ended}
 use Rattle.station_pair.specs.Keeping.{found}

@@ -1,15 +1,15 @@
 -- The steps of two stations over two lines: their users hand payloads down and release, the lines pass, lose, repeat, alter and put in
 -- frames, and time goes on (this profile).
-use Rattle.std.specs.Prelude.{ℕ, zero, suc, ◌+◌, ◌-◌, ◌^◌, ◌==◌, min, max, nat_lt, nat_le, Bool, true, false, not, ◌&&◌, ◌||◌, if◌then◌else◌, List, [], ◌∷◌, length, slice_index, slice_set, bit_xor, Option, Some, None}
+use Rattle.std.specs.Prelude.{ℕ, zero, suc, ◌+◌, ◌-◌, ◌^◌, ◌==◌, min, max, nat_lt, nat_le, Bool, true, false, not, ◌&&◌, ◌||◌, if◌then◌else◌, List, [], ◌∷◌, length, Option, Some, None}
 use Rattle.er_base.specs.declared.side.Side.{Side}
 use Rattle.er_base.specs.declared.side.Side.TheVariants.{E, R}
 use Rattle.er_base.specs.Sides.{other}
 use Rattle.er_base.specs.declared.release.Release.{Release}
-use Rattle.er_base.specs.declared.cause.Cause.TheVariants.{User}
-use Rattle.er_base.specs.Causes.{release_of}
 use Rattle.station_model.specs.Stations.{Station, is_down}
-use Rattle.station_model.specs.Sending.{waiting, is_due}
-use Rattle.station_model.specs.Calls.{hands, finishes, ticks, closes}
+use Rattle.station_model.specs.Sending.{waiting}
+use Rattle.station_model.specs.Calls.{hands, finishes, ticks}
+use Rattle.station_model.specs.Events.{quits, is_late}
+use Rattle.station_model.specs.Lines.{altered, next_of}
 use Rattle.station_pair.specs.Links.{Came, RefusedReleased, RefusedLength, RefusedFull, NothingWaits, IsShort, Drained, Link, station_of, line_of, with_line, tells, did, reads}
 
 -- the steps of a link
@@ -71,10 +71,6 @@ abbrev pub repeat : Side → List (List ℕ) → Link → Link
 repeat side [] l = nothing_waits side l
 repeat side (frame ∷ frames) l = with_line side (frame ∷ frame ∷ frames) (record l { loss_free = false })
 
--- a frame with one octet changed
-abbrev pub altered : List ℕ → ℕ → ℕ → List ℕ
-altered frame place mask = slice_set frame place (bit_xor (slice_index frame place) mask)
-
 -- a mask of 0 changes nothing
 abbrev pub alter : Side → ℕ → ℕ → List (List ℕ) → Link → Link
 alter side place mask [] l = nothing_waits side l
@@ -88,13 +84,6 @@ put side octets l = with_line side (octets ∷ line_of l side) (record l { order
 
 -- ---- a release by the user
 
--- the station is closed, for this reason
-abbrev pub quits : ℕ → Station → Station
-quits sub s = record (closes s) {
-  released = Some (release_of (User sub));
-  deed = record { up = false; payload = None; released = Some (release_of (User sub)) };
-}
-
 -- an end that was released before does nothing
 abbrev pub release : Side → ℕ → Link → Link
 release side sub l =
@@ -102,10 +91,6 @@ release side sub l =
     else did side (quits sub (station_of l side)) (record l { loss_free = false })
 
 -- ---- time
-
--- T1 of a station is found expired
-abbrev pub is_late : ℕ → Station → Bool
-is_late now s = is_due s.timer (max s.moment now)
 
 abbrev pub tick_at : Side → ℕ → Link → Link
 tick_at side now l = did side (finishes (ticks now (station_of l side))) l
@@ -118,12 +103,6 @@ tick now l =
     }))
 
 -- ---- a drain
-
--- the end whose frame is passed next: e where a frame of e waits, else r where one of r waits
-abbrev pub next_of : List (List ℕ) → List (List ℕ) → Option Side
-next_of (frame ∷ frames) from_r = Some E
-next_of [] (frame ∷ frames) = Some R
-next_of [] [] = None
 
 -- too many frames wait in one direction
 abbrev pub is_overfull : Link → Bool

@@ -24,7 +24,8 @@ pub fn losing_line_reasons()
     frame_alone();
 }
 
-/// A loss-free line: once it is empty, both stations are up and all was taken.
+/// A loss-free line: once it is empty, both stations are up, and the called one took all that the calling one was handed; the calling one
+/// took all that the called one was handed, where it was handed a payload itself, since the called station may not send before it took one.
 pub fn delivery()
     ensures { Delivery }
 {
@@ -68,7 +69,7 @@ pub fn calls_keep()
 }
 
 /// Whatever layers stand above two stations: while the line loses nothing, each call keeps what flows, and that bounds the deliveries and
-/// the frames that wait; once none waits, all was taken.
+/// the frames that wait; once none waits, all was taken: at the calling station where it was handed a payload itself.
 pub fn loss_free_keeps()
     ensures calls { FlowKeeps }
     ensures bounds { FlowBounds }

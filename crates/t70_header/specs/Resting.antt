@@ -1,4 +1,4 @@
--- Representation: how a joiner that lends its octets is left, and what it lends; no claim rests on it.
+-- Contract: how the clauses of `add` speak of the octets that it lends, and of how the joiner is left once they are let go.
 use Rattle.std.specs.Prelude.{◌≡◌, ℕ, List, ⊤, Option, Result, Ok, Err}
 use Rattle.std.specs.Option.{option_map}
 use Rattle.std.specs.Borrow.{MutBor, Bor, Fml, follows_so}

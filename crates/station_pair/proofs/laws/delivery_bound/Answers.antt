@@ -1,4 +1,5 @@
-use Rattle.station_pair.proofs.Delivered.{delivery_bound, drain_empties}
+use Rattle.station_pair.proofs.Counted.{drain_empties}
+use Rattle.station_pair.proofs.Delivered.{delivery_bound}
 use Rattle.station_pair.proofs.laws.delivery_bound.Goals as goal
 
 pub returns-clause-bound : goal.returns-clause-bound

@@ -1,4 +1,4 @@
-use Rattle.hdlc_fcs.proofs.KnownAnswers.{no_octets}
+use Rattle.hdlc_fcs.specs.KnownAnswers.{no_octets}
 use Rattle.std.proofs.Common.{sym}
 use Rattle.hdlc_fcs.proofs.running.Running.new.Goals as goal
 
