@@ -1,8 +1,9 @@
 pub mod Acknowledging
 pub mod Allowed
+pub mod Causes
 pub mod Deeds
+pub mod Following
 pub mod Numbers
 pub mod Queue
-pub mod Rows
 pub mod Segmenting
 pub mod Steps

@@ -1,4 +1,4 @@
--- Representation: how the code keeps one side of a connection, and what its calls make of that; no claim rests on it.
+-- Contract: how the code keeps one side of a connection, every number modulo 128, and what its calls make of that.
 use Rattle.std.specs.Prelude.{ℕ, ◌≡◌, ◌+◌, ◌-◌, ◌%◌, ◌==◌, ◌&&◌, not, nat_lt, nat_le, min, if◌then◌else◌, Bool, true, false, List, [], ◌∷◌, ◌++◌, length, take, drop, Option, Some, None, Result, Ok, Err}
 use Rattle.er_settings.specs.declared.settings.Settings.{Settings}
 use Rattle.x224_tpdu.specs.declared.fault.TpFault.{TpFault}

@@ -7,3 +7,5 @@ pub mod Resting
 pub mod Waiting
 pub mod Standing
 pub mod Laws
+pub mod Causes
+pub mod KnownAnswers

@@ -1,4 +1,4 @@
--- Representation: how a side that lends a message is left, and what its deed is seen as; no claim rests on it.
+-- Contract: how a side that lends a message is left, and what its deed is seen as.
 use Rattle.std.specs.Prelude.{◌≡◌, ⊤}
 use Rattle.std.specs.Borrow.{MutBor, Fml, follows_so}
 use mathlib.Core.Option.{none}

@@ -1,5 +1,5 @@
--- Representation: how what the code keeps stands for the transport model, and that each call's function on what is
--- kept is the model's step; no definition of a claim stands here.
+-- Contract: how what the code keeps stands for a side of the transport model, so that clauses speak of the model's steps; and that each
+-- call's function on what is kept is the model's step.
 use Rattle.std.specs.Prelude.{ℕ, ◌≡◌, ◌+◌, ◌-◌, ◌%◌, ◌<◌, ◌≤◌, suc, Bool, true, false, List, [], ◌∷◌, ◌++◌, length, map, drop, Option, Some, is_some, MatchOption}
 use Rattle.er_settings.specs.declared.settings.Settings.{Settings}
 use Rattle.er_settings.specs.Ranges.{AllAllowed}
@@ -74,6 +74,14 @@ pub record IsSound (t : Transport) : Type 0 where
 pub record Stands (k : Kept) (t : Transport) : Type 0 where
   pub is : k ≡ kept_of t
   pub sound : IsSound t
+
+-- a call does this step of the model, whichever side of the model what was kept stood for
+abbrev pub Follows : Kept → Kept → (Transport → Transport) → Type 0
+Follows old new step = (t : Transport) → Stands old t → Stands new (step t)
+
+-- what holds of each side of the model that what is kept stands for
+abbrev pub Shown : Kept → (Transport → Type 0) → Type 0
+Shown k P = (t : Transport) → Stands k t → P t
 
 -- a made side
 abbrev pub MadeStands : Type 0

@@ -2,6 +2,7 @@
 //! their contracts are the laws.
 
 ghost use Rattle.x224_class2.specs.Laws.{CutIsJoined, JoinsInParts, SegmentsFit, SegmentsAreFew, AcknowledgesAtMost, AcknowledgesAll, TakingRises, ReceivingRises};
+ghost use Rattle.x224_class2.specs.Causes.{CauseRefuses, RefusesOnly};
 ghost use Rattle.x224_class2.specs.Standing.{MadeStands, ConnectStands, AcceptStands, HandStands, TakenStands, ReceptionStands, NextStands, CountsStand, NextIsWritable};
 
 /// Messages and their segments: cutting and joining undo each other, and what acknowledges rises.
@@ -14,6 +15,12 @@ pub fn segments()
     ensures all { AcknowledgesAll }
     ensures taking { TakingRises }
     ensures receiving { ReceivingRises }
+{}
+
+/// A side refuses a TPDU for a cause wherever the cause is met before its connection is over, and only there.
+pub fn refusals()
+    ensures each { CauseRefuses }
+    ensures only { RefusesOnly }
 {}
 
 /// What the code keeps of a side stands for a side of the transport model, and each call on it is that

@@ -285,7 +285,7 @@ fn plays_the_scripts(rt: HostRuntime) -> Result<(), Fail> {
             }
         }
     }
-    assert_eq!(rt; played, 354);
+    assert_eq!(rt; played, 407);
     Ok(())
 }
 
@@ -366,6 +366,20 @@ caller 2 256: open 42 | ok; receive 09d20001000120c00107 | confirmed -; receive 
 callee 2 256: receive 09e20000000120c0010742 | called 42; receive 09e20000000120c0010742 | refused 2 133
 callee 2 256: receive 09e20000000120c0010742 | called 42; receive 0680000100018045 | disconnected 45
 open 42 | unable; hand 42 | unable
+# a callee's edge begins at the credit of the CR, not at its own
+callee 15 128: receive 09e10000000120c0010742 | called 42; open 43 | ok; next | 09df0001000120c0010743; hand 41 | ok; hand 42 | ok; next | 04f000018041; next | -
+# the references of a CC, and what comes before the callee accepts
+caller 2 256: open 42 | ok; receive 09d20001000220c00107 | refused 2 133
+callee 2 256: receive 09e20000000120c0010742 | called 42; receive 046f000100 | refused 2 133
+callee 2 256: receive 09e20000000120c0010742 | called 42; receive 04f000018041 | refused 2 133
+# of two rules that a DT breaks, its number comes before the length of its message
+callee 3 1024: receive 09e10000000120c0010a42 | called 42; open 43 | ok; next | 09d30001000120c0010a43; receive 04f0000100 1019 | nothing; receive 04f0000102 20 | refused 2 133
+# the CC goes before an owed AK, and an AK before data
+callee 15 128: receive 09ef0000000120c0010742 | called 42; open 43 | ok; receive 04f000018044 | message 44; taken | ok; next | 09df0001000120c0010743; next | 046f000101; next | -
+callee 15 128: receive 09ef0000000120c0010742 | called 42; open 43 | ok; next | 09df0001000120c0010743; hand 41 | ok; receive 04f000018044 | message 44; taken | ok; next | 046f000101; next | 04f000018041; next | -
+# an AK grants the credit of the settings whatever waits, and names no DT of a message that wasn't taken
+callee 15 128: receive 09ef0000000120c0010742 | called 42; open 43 | ok; next | 09df0001000120c0010743; receive 04f000018044 | message 44; receive 04f000018145 | message 45; receive 04f000010246 | nothing; taken | ok; next | 046f000101; next | -; counts | 1 0
+callee 15 128: receive 09ef0000000120c0010742 | called 42; open 43 | ok; next | 09df0001000120c0010743; receive 04f000010044 | nothing; receive 04f000010145 | nothing; receive 04f000018246 | message 444546; next | 046f000102; taken | ok; next | 046f000103
 # negotiation: the callee answers the least of the proposal, 1,024 and its own size
 callee 1 128: receive 09e10000000120c0010742 | called 42; open 43 | ok; next | 09d10001000120c0010743
 callee 1 128: receive 09e10000000120c0010842 | called 42; open 43 | ok; next | 09d10001000120c0010743

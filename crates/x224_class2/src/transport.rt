@@ -1,8 +1,9 @@
-ghost use Rattle.std.specs.Prelude.{◌≡◌, ◌≢◌, ◌+◌, ◌<◌, ◌≤◌, ◌&&◌, [], length, true, false, IfOk, MatchResult, min, is_some, if◌then◌else◌};
+ghost use Rattle.std.specs.Prelude.{◌≡◌, ◌≢◌, ◌+◌, ◌<◌, ◌≤◌, ◌&&◌, [], length, true, false, IfOk, IfErr, MatchResult, min, is_some, if◌then◌else◌};
 ghost use Rattle.std.specs.Borrow.{sem};
 ghost use Rattle.er_base.specs.Stored.{HasRoom, Appends};
 ghost use Rattle.er_settings.specs.Ranges.{AllAllowed};
-ghost use Rattle.x224_class2.specs.Transport.{is_new, is_called, is_open, is_over, Refused, Data};
+ghost use Rattle.x224_class2.specs.Transport.{is_new, is_called, is_open, is_over, Refused, Data, side_made, after_connect, after_accept, after_hand, after_taken, after_next, reception, next_tpdu, waiting_count, untaken_count};
+ghost use Rattle.x224_class2.specs.Standing.{Stands, Follows, Shown};
 ghost use Rattle.x224_class2.specs.Kept.{kept_made, kept_after_connect, kept_after_accept, kept_after_hand, kept_after_taken, kept_reception, kept_after_next, kept_next_tpdu, octets_next, kept_over, may_be_called, kept_called, may_be_confirmed, kept_confirmed, may_be_disconnected, kept_on_data, kept_is_expected, may_acknowledge, kept_acknowledged, kept_ack, kept_behind, kept_tpdu_at, distance, stage_behind, untaken_behind};
 ghost use Rattle.x224_class2.specs.Refusals.{dr_reason};
 ghost use Rattle.x224_class2.specs.Resting.{deed_of};
@@ -34,9 +35,10 @@ const PROTOCOL_ERROR: u8 = 133;
 
 /// One side of a connection of ITU-T X.224 class 2 with explicit flow control.
 ///
-/// Contracts see what is kept of it, every number modulo 128; [`crate::laws::standing`] says that this
-/// stands for a side of the transport model, whose lists are whole and whose numbers are absolute. After
-/// a deed `Disconnected` or `Refused` the connection is over: no TPDU changes anything, and none is given.
+/// Contracts see what is kept of it, every number modulo 128, and what that stands for: a side of the transport
+/// model, whose lists are whole and whose numbers are absolute. The clauses `stands`, `follows`, `tells`, `gives`
+/// and `shown` say what a call does in the model's words, for every side that what is kept stands for. After a
+/// deed `Disconnected` or `Refused` the connection is over: no TPDU changes anything, and none is given.
 /// Only the two makers take memory: room for sixteen messages to be given and one that comes in several DTs.
 #[derive(Drop)]
 pub struct Transport {
@@ -89,7 +91,8 @@ impl Transport {
     /// The side that calls. It proposes the TPDU size of the settings and grants their credit.
     pub fn caller(alloc: Global, settings: &Settings) -> Result<Transport, NoMemory>
         requires { AllAllowed settings.now }
-        ensures { IfOk result (λ made. made ≡ kept_made true settings.now) }
+        ensures kept { IfOk result (λ made. made ≡ kept_made true settings.now) }
+        ensures stands { IfOk result (λ made. Stands made (side_made true settings.now)) }
     {
         Transport::made(alloc, true, settings)
     }
@@ -98,15 +101,17 @@ impl Transport {
     /// and grants their credit.
     pub fn callee(alloc: Global, settings: &Settings) -> Result<Transport, NoMemory>
         requires { AllAllowed settings.now }
-        ensures { IfOk result (λ made. made ≡ kept_made false settings.now) }
+        ensures kept { IfOk result (λ made. made ≡ kept_made false settings.now) }
+        ensures stands { IfOk result (λ made. Stands made (side_made false settings.now)) }
     {
         Transport::made(alloc, false, settings)
     }
 
-    #[tactic(auto, using(crate::proofs::Allowed::credit_most, crate::proofs::Allowed::size_named, crate::proofs::Allowed::size_most))]
+    #[tactic(auto, using(crate::proofs::Allowed::credit_most, crate::proofs::Allowed::size_named, crate::proofs::Allowed::size_most, crate::proofs::Following::made_follows))]
     fn made(alloc: Global, is_caller: bool, settings: &Settings) -> Result<Transport, NoMemory>
         requires { AllAllowed settings.now }
-        ensures { IfOk result (λ made. made ≡ kept_made is_caller settings.now) }
+        ensures kept { IfOk result (λ made. made ≡ kept_made is_caller settings.now) }
+        ensures stands { IfOk result (λ made. Stands made (side_made is_caller settings.now)) }
     {
         let outgoing = Outgoing::with_slots(alloc)?;
         let text = Room::with_capacity(alloc, LONGEST)?;
@@ -129,37 +134,45 @@ impl Transport {
     }
 
     /// The caller, which was just made, connects: a CR with this user data, 1 to 32 octets, is due.
+    #[tactic(auto, using(crate::proofs::Following::connect_follows))]
     pub fn connect(&mut self, user: &[u8])
         requires caller { self.old.is_caller ≡ true }
         requires new { is_new self.old.stage ≡ true }
         requires user { (1 ≤ length user.now) × (length user.now ≤ 32) }
-        ensures { self.new ≡ kept_after_connect self.old user.now }
+        ensures kept { self.new ≡ kept_after_connect self.old user.now }
+        ensures follows { Follows self.old self.new (λ t. after_connect t user.now) }
     {
         self.due = Some(user_data(user));
         self.stage = Stage::Calling;
     }
 
     /// Whether this is a caller that was just made, so that it may connect.
+    #[tactic(auto, using(crate::proofs::Following::may_connect_shown))]
     pub fn may_connect(&self) -> bool
         ensures test { result ≡ (self.now.is_caller && is_new self.now.stage) }
         ensures caller { result ≡ true → self.now.is_caller ≡ true }
         ensures new { result ≡ true → is_new self.now.stage ≡ true }
+        ensures shown { Shown self.now (λ t. result ≡ (t.is_caller && is_new t.stage)) }
     {
         self.is_caller && self.stage == Stage::New
     }
 
     /// Whether the connection is made, so that messages may be handed.
+    #[tactic(auto, using(crate::proofs::Following::open_shown))]
     pub fn is_open(&self) -> bool
-        ensures { result ≡ is_open self.now.stage }
+        ensures kept { result ≡ is_open self.now.stage }
+        ensures shown { Shown self.now (λ t. result ≡ is_open t.stage) }
     {
         self.stage == Stage::Open
     }
 
     /// The callee, whose last deed was `Called`, accepts: a CC with this user data, 1 to 32 octets, is due.
+    #[tactic(auto, using(crate::proofs::Following::accept_follows))]
     pub fn accept(&mut self, user: &[u8])
         requires called { is_called self.old.stage ≡ true }
         requires user { (1 ≤ length user.now) × (length user.now ≤ 32) }
-        ensures { self.new ≡ kept_after_accept self.old user.now }
+        ensures kept { self.new ≡ kept_after_accept self.old user.now }
+        ensures follows { Follows self.old self.new (λ t. after_accept t user.now) }
     {
         self.due = Some(user_data(user));
         self.stage = Stage::Open;
@@ -172,8 +185,23 @@ impl Transport {
     /// isn't expected: another kind, reference or number, a DT at the edge or above the agreed size, an AK
     /// that names no number that was given or that lowers the edge, a CC above the proposal. It has that
     /// of `MessageTooLong` with 133 for the DT that makes a message longer than 1,032 octets.
-    #[tactic(auto, using(crate::proofs::Deeds::role_stays, crate::proofs::Deeds::stage_told, crate::proofs::Deeds::untaken_told))]
+    #[tactic(auto, using(crate::proofs::Following::reception_follows, crate::proofs::Following::reception_tells))]
     pub fn receive<'a>(&'a mut self, tpdu: &'a [u8]) -> TransportDeed<'a>
+        ensures* after { sem 𝓛 (Rests self.entry (kept_reception self.old tpdu.now).0) }
+        ensures deed { deed_of result ≡ (kept_reception self.old tpdu.now).1 }
+        ensures role { (kept_reception self.old tpdu.now).0.is_caller ≡ self.old.is_caller }
+        ensures stage { (kept_reception self.old tpdu.now).0.stage ≡ stage_behind (deed_of result) self.old.stage }
+        ensures untaken { length (kept_reception self.old tpdu.now).0.lasts ≡ untaken_behind (deed_of result) (length self.old.lasts) }
+        ensures follows { Follows self.old (kept_reception self.old tpdu.now).0 (λ t. (reception t tpdu.now).0) }
+        ensures tells { Shown self.old (λ t. deed_of result ≡ (reception t tpdu.now).1) }
+    {
+        crate::laws::standing();
+        self.tpdu_comes(tpdu)
+    }
+
+    // A TPDU comes.
+    #[tactic(auto, using(crate::proofs::Deeds::role_stays, crate::proofs::Deeds::stage_told, crate::proofs::Deeds::untaken_told))]
+    fn tpdu_comes<'a>(&'a mut self, tpdu: &'a [u8]) -> TransportDeed<'a>
         ensures* after { sem 𝓛 (Rests self.entry (kept_reception self.old tpdu.now).0) }
         ensures deed { deed_of result ≡ (kept_reception self.old tpdu.now).1 }
         ensures role { (kept_reception self.old tpdu.now).0.is_caller ≡ self.old.is_caller }
@@ -256,12 +284,16 @@ impl Transport {
 
     /// Hands a message, 1 to 1,032 octets, where the connection is made. It waits until its last segment
     /// was given. Refused exactly where sixteen messages wait.
+    #[tactic(auto, using(crate::proofs::Following::few_wait, crate::proofs::Following::sixteen_wait))]
     pub fn hand(&mut self, message: &[u8]) -> Result<(), Full>
         requires open { is_open self.old.stage ≡ true }
         requires message { (1 ≤ length message.now) × (length message.now ≤ 1032) }
-        ensures { MatchResult result
+        ensures kept { MatchResult result
             (λ _. (length self.old.waiting < 16) × (self.new ≡ kept_after_hand self.old message.now))
             (λ full. (length self.old.waiting ≡ 16) × (full.waiting ≡ 16) × (self.new ≡ self.old)) }
+        ensures handed { IfOk result (λ _. Follows self.old self.new (λ t. after_hand t message.now)) }
+        ensures not_full { IfOk result (λ _. Shown self.old (λ t. waiting_count t < 16)) }
+        ensures full { IfErr result (λ full. Shown self.old (λ t. (waiting_count t ≡ 16) × (full.waiting ≡ 16))) }
     {
         let waiting = self.outgoing.len();
         if waiting == SLOTS {
@@ -277,7 +309,8 @@ impl Transport {
     /// this in the same event.
     pub fn taken(&mut self)
         requires { 0 < length self.old.lasts }
-        ensures { self.new ≡ kept_after_taken self.old }
+        ensures kept { self.new ≡ kept_after_taken self.old }
+        ensures follows { Follows self.old self.new after_taken }
     {
         self.lasts.remove(0);
     }
@@ -285,6 +318,21 @@ impl Transport {
     /// Appends the next TPDU, at most 1,024 octets, and answers whether there was one: the CR or CC that is
     /// due, else an owed AK with the newest number, else the next segment, where it lies below the edge.
     pub fn next_tpdu(&mut self, out: &mut Room) -> bool
+        requires { HasRoom out.old 1024 }
+        ensures state { self.new ≡ kept_after_next self.old }
+        ensures wrote { Appends out.old out.new (octets_next (kept_next_tpdu self.old)) }
+        ensures some { result ≡ is_some (kept_next_tpdu self.old) }
+        ensures most { length out.new.items ≤ length out.old.items + 1024 }
+        ensures stage { self.new.stage ≡ self.old.stage }
+        ensures untaken { self.new.lasts ≡ self.old.lasts }
+        ensures follows { Follows self.old self.new after_next }
+        ensures gives { Shown self.old (λ t. Appends out.old out.new (octets_next (next_tpdu t)) × (result ≡ is_some (next_tpdu t))) }
+    {
+        self.give_next(out)
+    }
+
+    // Appends the next TPDU, and answers whether there was one.
+    fn give_next(&mut self, out: &mut Room) -> bool
         requires { HasRoom out.old 1024 }
         ensures state { self.new ≡ kept_after_next self.old }
         ensures wrote { Appends out.old out.new (octets_next (kept_next_tpdu self.old)) }
@@ -316,14 +364,17 @@ impl Transport {
 
     /// How many messages wait to be taken, at most 15.
     pub fn untaken(&self) -> usize
-        ensures { result ≡ length self.now.lasts }
+        ensures kept { result ≡ length self.now.lasts }
+        ensures shown { Shown self.now (λ t. result ≡ untaken_count t) }
     {
         self.lasts.len()
     }
 
     /// How many messages wait for their last segment to be given, at most 16.
+    #[tactic(auto, using(crate::proofs::Following::waiting_shown))]
     pub fn waiting(&self) -> usize
-        ensures { result ≡ length self.now.waiting }
+        ensures kept { result ≡ length self.now.waiting }
+        ensures shown { Shown self.now (λ t. result ≡ waiting_count t) }
     {
         self.outgoing.len()
     }

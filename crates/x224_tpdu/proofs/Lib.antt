@@ -2,5 +2,4 @@ pub mod Bounds
 pub mod Converse
 pub mod Cutting
 pub mod RoundTrip
-pub mod Rows
 pub mod Spelled

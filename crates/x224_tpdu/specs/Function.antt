@@ -1,6 +1,6 @@
--- Representation: reading as a function of octets, for layers above whose steps are functions of octets.
--- It defines nothing of its own: the laws of reading say that it is what the spelling and the rules say,
--- and no layer above needs to look inside.
+-- What octets say as a TPDU (ITU-T X.224, clause 13): a function of octets, which gives their first fault or else the fields at their
+-- places. The laws below pin it: octets that spell a TPDU are read as this one, none other are read as a TPDU, and faulty octets are
+-- read as their first fault.
 use Rattle.std.specs.Prelude.{◌≡◌, ℕ, ◌+◌, ◌*◌, ◌%◌, ◌^◌, ◌<◌, ◌≤◌, nat_le, List, length, slice_index, Option, None, Some, Result, Ok, Err}
 use Rattle.er_base.specs.Octets.{AreOctets}
 use Rattle.x224_tpdu.specs.declared.tpdu.Tpdu.{Tpdu}
@@ -37,7 +37,7 @@ value_in Dt c =
 value_in Ak c = acknowledgement (c.code % 16) (number_at 0 c) (slice_index c.fields 2)
 value_in Er c = tpdu_error (number_at 0 c) (slice_index c.fields 2)
 
--- the TPDU of a cut without a fault; where no kind is named there is one
+-- the TPDU of a cut; a code that names no kind is a fault, so what stands for it here is never the answer
 abbrev pub value_by : Option Kind → Layout → Pdu
 value_by (Some kind) c = value_in kind c
 value_by None c = tpdu_error 0 0
@@ -51,11 +51,11 @@ abbrev pub fault_or : Option TpFault → Pdu → Result Pdu TpFault
 fault_or (Some fault) p = Err fault
 fault_or None p = Ok p
 
--- what reading octets answers
+-- octets are read: their first fault, or else their TPDU
 unfoldable pub reading : List ℕ → Result Pdu TpFault
 reading octets = fault_or (first_fault octets) (value_of octets)
 
--- the answer of the program
+-- the answer of the code, whose TPDU lends its user data
 abbrev pub answer_of : Result Tpdu TpFault → Result Pdu TpFault
 answer_of (Ok tpdu) = Ok (pdu_of tpdu)
 answer_of (Err fault) = Err fault

@@ -6,3 +6,4 @@ pub mod Reading
 pub mod Function
 pub mod Writing
 pub mod Parts
+pub mod KnownAnswers
