@@ -1,7 +1,7 @@
 -- What a side knows on its way to a connection, and that each of its steps keeps it, with facts of which all that is claimed holds.
 use Rattle.std.proofs.Common.{◌≡◌, ℕ, Bool, true, false, inl, inr, List, [], ◌∷◌, ◌++◌, refl, sym, ap, ap₂, subst, ◌∙◌}
 use Rattle.std.specs.Prelude.{map, Option, Some, Ok}
-use Rattle.std.proofs.lemmas.Bool.{or_parts, not-false}
+use Rattle.std.proofs.lemmas.Bool.{or_parts, not-false, not-true}
 use Rattle.std.proofs.lemmas.List.Folds.{list_any-append}
 use Rattle.er_base.specs.declared.release.Release.{Release}
 use Rattle.er_base.specs.declared.side.Side.{Side}
@@ -21,6 +21,7 @@ use Rattle.safe_pair.specs.Openings.{PairOpening, OfFixed, OfKeys, role_of, flag
 use Rattle.safe_pair.specs.Authentic.{IsReadFrom, WasVerified, Verifies, ConnectsAs, HasSession, IsSend, IsMessage, IsEnginesSealing, IsRbcsSealing, IsVerified, IsOwn, IsConnection, IsAuthentic}
 use Rattle.safe_pair.proofs.Along.{Along, any_more, any_at}
 use Rattle.safe_pair.proofs.Sealings.{was_sealed_more}
+use Rattle.safe_pair.proofs.Mistrust.{none_sealed, marked_right, trusted_earlier, only_so}
 use Rattle.safe_pair.proofs.Honest.{HonestFact, AllHonest, was_sent, was_au3, was_au2, was_ar, randoms}
 
 -- the text of the AU2 of a connection of an engine
@@ -221,6 +222,7 @@ module _ (tell : TextsTell) (opening : PairOpening) where
         read = heard_from s side event (Dt user (mac_of session verified)) steady.role_is r.received;
         sent = λ unforged.
             was_sent tell opening (other side) session verified (number_of opening side) user text_is seen honest (not-false (was_sealed session verified seen) unforged);
+        only = λ forged. none_sealed session verified seen (not-true (was_sealed session verified seen) forged);
       } in
       record { steady = stays opening seen _ side s next r.next_is steady; along = (record { honest = tt; authentic = message }, tt) }
 
@@ -234,7 +236,7 @@ module _ (tell : TextsTell) (opening : PairOpening) where
       let send : IsSend opening seen side user session sealed = record { session = has.1; text_is = text_is } in
       record {
         steady = stays opening seen _ side s next r.next_is steady;
-        along = (record { honest = (number_of opening (other side), text_is); authentic = send }, tt);
+        along = (record { honest = (number_of opening (other side), text_is); authentic = (refl, send) }, tt);
       }
 
   -- the peer and the session keys of a connected side
@@ -256,7 +258,7 @@ module _ (tell : TextsTell) (opening : PairOpening) where
       let text_is : sealed ≡ au2_text true c.peer c.me 1 c.ra c.rb =
       r.sealed_is ∙ ap₂ (λ (t : Role) (m : ℕ). au2_text (flag_of t) c.peer m 1 c.ra c.rb) steady.role_is (sym r.me_is) in
       let honest : IsRbcsSealing opening session sealed = record { connection = c; own = own; key_is = r.session_is; text_is = inl text_is } in
-      record { steady = onward opening seen _ R s next (WaitAu3 c) r.next_is steady own; along = (record { honest = honest; authentic = honest }, tt) }
+      record { steady = onward opening seen _ R s next (WaitAu3 c) r.next_is steady own; along = (record { honest = honest; authentic = (refl, honest) }, tt) }
 
   sends_au3 : (seen : List MarkedFact) (side : Side) (s : Safety) (event : SafetyEvent) (next : Safety) (session : TripleKey) (verified sealed octets : List ℕ)
       → IsSteady opening seen side s → SendsAu3 s event next session verified sealed octets
@@ -285,7 +287,7 @@ module _ (tell : TextsTell) (opening : PairOpening) where
           any_at (λ m. (m.side ≡ E) × Verifies c.session (au2_of c) m.fact) seen first _ (refl, (refl, refl)),
           trusted_now seen _ heard c,
         );
-        along = (record { honest = tt; authentic = known }, (record { honest = honest; authentic = honest }, tt));
+        along = (record { honest = tt; authentic = (known, marked_right c.session (au2_of c) seen) }, (record { honest = honest; authentic = (refl, honest) }, tt));
       } in
       subst (λ (t : List ℕ). Q session t) (sym verified_is) (subst (λ (k : TripleKey). Q k (au2_of c)) (sym r.session_is) there)
 
@@ -311,10 +313,12 @@ module _ (tell : TextsTell) (opening : PairOpening) where
             not-false (was_sealed c.session verified seen) (or_parts _ (mistrusts R seen) unforged).0 in
             let both = was_au3 tell opening c seen honest (subst (λ (t : List ℕ). was_sealed c.session t seen ≡ true) verified_is was) in
             record { sealed = both.0; randoms = randoms opening R c own both.1; shared = both.1 };
+        trusted = trusted_earlier c.session verified R seen;
+        only = only_so c.session verified R seen;
       } in
       record {
         steady = onward opening seen _ R s next (Connected c.peer c.session) r.next_is steady (peer_of opening R c own, connected_now opening seen _ R heard c verified own);
-        along = (record { honest = tt; authentic = connection }, (record { honest = sealed_honest; authentic = sealed_honest }, tt));
+        along = (record { honest = tt; authentic = connection }, (record { honest = sealed_honest; authentic = (refl, sealed_honest) }, tt));
       }
 
   receives_ar : (seen : List MarkedFact) (side : Side) (s : Safety) (event : SafetyEvent) (next : Safety) (c : Connection) (verified : List ℕ)
@@ -339,6 +343,8 @@ module _ (tell : TextsTell) (opening : PairOpening) where
             let au2 = was_au2 tell opening c seen honest (knows.2 parts.1) in
             let ar = was_ar tell opening c seen honest (subst (λ (t : List ℕ). was_sealed c.session t seen ≡ true) verified_is was) in
             record { sealed = (au2.0, ar); randoms = randoms opening E c own au2.1; shared = au2.1 };
+        trusted = trusted_earlier c.session verified E seen;
+        only = only_so c.session verified E seen;
       } in
       record {
         steady = onward opening seen _ E s next (Connected c.peer c.session) r.next_is steady (peer_of opening E c own, connected_now opening seen _ E heard c verified own);

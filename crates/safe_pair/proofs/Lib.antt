@@ -1,5 +1,6 @@
 mod Along
 mod Sealings
+mod Mistrust
 mod Honest
 mod Keeping
 mod Talking

@@ -1,6 +1,6 @@
 -- Authentic messages and authentic peers (UNISIG SUBSET-037: message origin authentication, peer entity authentication): what is claimed
 -- of each fact at a side, behind all that came before it.
-use Rattle.std.specs.Prelude.{ℕ, ◌≡◌, ◌⊎◌, Bool, false, List, ◌∷◌, ◌++◌, Any, Option, Some, Ok}
+use Rattle.std.specs.Prelude.{ℕ, ◌≡◌, ◌⊎◌, Bool, true, false, List, ◌∷◌, ◌++◌, Any, Option, Some, Ok}
 use Rattle.er_base.specs.declared.side.Side.{Side}
 use Rattle.er_base.specs.declared.side.Side.TheVariants.{E, R}
 use Rattle.er_base.specs.Sides.{other}
@@ -63,6 +63,22 @@ ConnectsAs c (Accepted heard user key text) = ⊥
 
 abbrev pub WasConnected : Side → Connection → List MarkedFact → Type 0
 WasConnected side c before = Any (λ f. (f.side ≡ side) × ConnectsAs c f.fact) before
+
+-- ---- marks
+
+-- either side sealed this text under these session keys, in a set-up or for a message
+abbrev pub EitherSealed : TripleKey → (text : List ℕ) → List MarkedFact → Type 0
+EitherSealed key text before = Any (λ f. Seals key text f.fact ⊎ ((user : List ℕ) × Sends user key text f.fact)) before
+
+-- a text that was verified is marked where neither side had sealed it, and only there
+pub record IsMarkedRight (before : List MarkedFact) (key : TripleKey) (text : List ℕ) (forged : Bool) : Type 0 where
+  pub only : forged ≡ true → EitherSealed key text before → ⊥
+  pub else_sealed : forged ≡ false → EitherSealed key text before
+
+-- a text that was verified earlier in the set-up of this side is marked
+abbrev pub WasMarked : Side → List MarkedFact → Type 0
+WasMarked side before =
+    Any (λ f. (f.side ≡ side) × (f.forged ≡ true) × ((key : TripleKey) × (text : List ℕ) × Verifies key text f.fact)) before
 
 -- ---- the set-up
 
@@ -160,12 +176,15 @@ pub record IsPeered (opening : PairOpening) (before : List MarkedFact) (side : S
   pub randoms : HasRandoms opening c
   pub shared : IsShared opening side c
 
--- a connection is one of the side itself, and what was heard ends its set-up; unless it is forged, it is one with an authentic peer
+-- a connection is one of the side itself, and what was heard ends its set-up; unless it is forged, it is one with an authentic peer. It is
+-- forged only where neither side had sealed the text, or a text that was verified earlier in the set-up is marked
 pub record IsConnection (opening : PairOpening) (before : List MarkedFact) (side : Side) (heard : List ℕ) (c : Connection) (text : List ℕ)
     (forged : Bool) : Type 0 where
   pub own : IsOwn opening side c
   pub set_up : EndsSetUp before side heard c text
   pub peered : forged ≡ false → IsPeered opening before side c
+  pub trusted : forged ≡ false → WasMarked side before → ⊥
+  pub only : forged ≡ true → (EitherSealed c.session text before → ⊥) ⊎ WasMarked side before
 
 -- ---- messages
 
@@ -189,21 +208,23 @@ pub record IsSend (opening : PairOpening) (before : List MarkedFact) (side : Sid
 
 -- an accepted message: what was heard is a DT with these user octets and the peer's direction flag, whose MAC is the MAC of the text
 -- under the side's session keys; the text is that of these user octets to this side; and unless it is forged, the peer sent these
--- octets before, sealed as this text under these session keys
+-- octets before, sealed as this text under these session keys. It is forged only where neither side had sealed the text
 pub record IsMessage (opening : PairOpening) (before : List MarkedFact) (side : Side) (heard user : List ℕ) (key : TripleKey) (text : List ℕ)
     (forged : Bool) : Type 0 where
   pub session : HasSession opening before side key
   pub text_is : text ≡ message_text (flag_from (other side)) (number_of opening side) user
   pub read : IsReadFrom (other side) heard (Dt user (mac_of key text))
   pub sent : forged ≡ false → WasSent (other side) user key text before
+  pub only : forged ≡ true → EitherSealed key text before → ⊥
 
 -- ---- the claim
 
--- of a fact at a side, behind all that came before it
+-- of a fact at a side, behind all that came before it; what is sealed is never marked
 abbrev pub IsAuthentic : PairOpening → (before : List MarkedFact) → Side → Fact → (forged : Bool) → Type 0
-IsAuthentic opening before side (Sent user key text) forged = IsSend opening before side user key text
-IsAuthentic opening before side (Sealed key text) forged = IsSetUpSealing opening side key text
-IsAuthentic opening before side (Verified heard key text) forged = IsVerified opening side heard key text
+IsAuthentic opening before side (Sent user key text) forged = (forged ≡ false) × IsSend opening before side user key text
+IsAuthentic opening before side (Sealed key text) forged = (forged ≡ false) × IsSetUpSealing opening side key text
+IsAuthentic opening before side (Verified heard key text) forged =
+    IsVerified opening side heard key text × IsMarkedRight before key text forged
 IsAuthentic opening before side (Connected heard connection text) forged = IsConnection opening before side heard connection text forged
 IsAuthentic opening before side (Accepted heard user key text) forged = IsMessage opening before side heard user key text forged
 

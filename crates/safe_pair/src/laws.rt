@@ -11,7 +11,8 @@ pub fn marks_grow()
 
 /// Authentic messages and peers, whatever lies between two sides: each accepted message is one whose MAC verified under the side's
 /// session keys, and one that the peer sent before, unless it is forged; each connection is one of the side itself, and one with a
-/// peer that has the same random numbers and session keys, unless it is forged.
+/// peer that has the same random numbers and session keys, unless it is forged. A text is marked as forged only where neither side had sealed
+/// it, and a connection only so or where a text that was verified earlier in its set-up is marked.
 pub fn talks_are_authentic()
     ensures { TalksAreAuthentic }
 {
