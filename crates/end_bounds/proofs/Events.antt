@@ -16,6 +16,7 @@ use Rattle.er_trace.specs.Texts.{AreReadable}
 use Rattle.hdlc_frames.specs.Framing.{Verdict}
 use Rattle.station_model.specs.Stations.{settled}
 use Rattle.station_model.specs.Calls as station
+use Rattle.station_model.specs.Events.{news}
 use Rattle.sapdu.specs.Messages.{is_message}
 use Rattle.safety_automaton.specs.Keys.{no_keys}
 use Rattle.safety_automaton.specs.Safety.{Safety, SafetyEvent, DataRequest, DisconnectRequest, SafetyOutcome, sent_by, step as speaks}
@@ -25,7 +26,7 @@ use Rattle.end_model.specs.Steps.{Finds, begins, begins_at, departs, normal_disc
 use Rattle.end_model.specs.Steps.{refusal_of, sent, sends_unless, uses, leaves, is_spent, di_of, time_at, ticks, breaks, if_connected, if_accepted, if_released}
 use Rattle.end_model.specs.Steps.{if_octets, outcomes_of, if_taken}
 use Rattle.end_model.specs.Layers.{Core, model, written_by}
-use Rattle.end_model.specs.Ends.{Call, Event, Start, Come, Send, Take, Leave, Tick, Ended, Fault, Stalled, End, core_made, opened, news, hears_each, told_of_each}
+use Rattle.end_model.specs.Ends.{Call, Event, Start, Come, Send, Take, Leave, Tick, Ended, Fault, Stalled, End, core_made, opened, hears_each, told_of_each}
 use Rattle.end_model.specs.Ends.{with_core, if_refused, step}
 use Rattle.trace_model.specs.Connections.{goes_on, called, happens, happens_at, end_behind, end_at}
 use Rattle.end_bounds.specs.Shorts.{IsShortRefusal, AreShort, OutcomesAreShort}

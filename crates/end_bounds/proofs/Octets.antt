@@ -9,7 +9,7 @@ use Rattle.hdlc_fcs.specs.FrameCheck.{fcs_of}
 use Rattle.hdlc_fcs.specs.Contents.{shortest, longest, checked_part, check_number}
 use Rattle.hdlc_frames.specs.Framing.{flag, escape, Verdict, Frame, BadFcs, TooShort, TooLong, Aborted, unescaped, ends_in_escape, verdict_on_content, verdict_on}
 use Rattle.hdlc_frames.specs.Framing.{cut, all_but_last, between_flags, has_octets, frames_of}
-use Rattle.end_model.specs.Ends.{news}
+use Rattle.station_model.specs.Events.{news}
 use Rattle.end_bounds.proofs.Lists.{Each, each_append, each_take, each_drop, each_filter}
 
 -- ---- one by one

@@ -5,11 +5,13 @@ use Rattle.std.proofs.Math.Seq.{drop-append_seam}
 use Rattle.hdlc_frames.specs.Framing.{Verdict, frames_of}
 use Rattle.hdlc_frames.specs.Laws.{KeptStandsForStream}
 use Rattle.hdlc_frames.specs.Deframing as deframing
+use Rattle.station_model.specs.Events.{news}
 use Rattle.end_model.specs.Outcomes.{Outcome}
 use Rattle.end_model.specs.Steps.{Finds, begins_at, comes, received, outcomes_of}
 use Rattle.end_model.specs.Layers.{Core, model}
-use Rattle.end_model.specs.Ends.{Come, End, news, hears_each, told_of_each, step, outcomes}
+use Rattle.end_model.specs.Ends.{Come, End, hears_each, told_of_each, step, run, outcomes}
 use Rattle.end_model.specs.Laws.{come_in, AnyCut}
+use Rattle.end_model.proofs.Behind.{hears_parts, told_parts}
 
 abbrev joined : List (List ℕ) → List ℕ
 joined pieces = flat_map (λ piece. piece) pieces
@@ -26,15 +28,6 @@ comes_begun finds now v x = ap (λ (y : Core). received model finds v y) (begins
 told_begun : (finds : Finds) (now : ℕ) (vs : List Verdict) (x : Core) → told_of_each finds now vs (begins_at model now x) ≡ told_of_each finds now vs x
 told_begun finds now [] x = refl
 told_begun finds now (v ∷ vs) x = ap (λ (y : Core). outcomes_of model y ++ told_of_each finds now vs y) (comes_begun finds now v x)
-
--- verdicts in two parts
-told_parts : (finds : Finds) (now : ℕ) (vs us : List Verdict) (x : Core)
-    → told_of_each finds now (vs ++ us) x ≡ told_of_each finds now vs x ++ told_of_each finds now us (hears_each finds now vs x)
-told_parts finds now [] us x = refl
-told_parts finds now (v ∷ vs) us x =
-    let y : Core = comes model finds now v x in
-    ap (λ (os : List Outcome). outcomes_of model y ++ os) (told_parts finds now vs us y)
-    ∙ sym (append_assoc (outcomes_of model y) (told_of_each finds now vs y) (told_of_each finds now us (hears_each finds now vs y)))
 
 -- behind the first verdict it makes no difference where the event began
 told_behind : (finds : Finds) (now : ℕ) (vs us : List Verdict) (x : Core)
@@ -74,6 +67,36 @@ module _ (stands : KeptStandsForStream) where
       ∙ sym (told_parts finds now vs us x)
       ∙ ap (λ (fs : List Verdict). told_of_each finds now fs x) (sym (news_parts m.stream piece (joined pieces)))
 
+  -- behind frames it makes no difference where the event began
+  begun_behind : (finds : Finds) (now : ℕ) (us : List Verdict) (x : Core)
+      → begins_at model now (hears_each finds now us (begins_at model now x)) ≡ begins_at model now (hears_each finds now us x)
+  begun_behind finds now [] x = begins_twice now x
+  begun_behind finds now (v ∷ us) x = ap (λ (y : Core). begins_at model now (hears_each finds now us y)) (comes_begun finds now v x)
+
+  all_lead : (finds : Finds) (now : ℕ) (pieces : List (List ℕ)) (m : End)
+      → begins_at model now (run (come_in finds now pieces) m).core ≡ begins_at model now (hears_each finds now (news m.stream (joined pieces)) m.core)
+  all_lead finds now [] m = ap (λ (vs : List Verdict). begins_at model now (hears_each finds now vs m.core)) (sym (news_none m.stream))
+  all_lead finds now (piece ∷ pieces) m =
+      let x : Core = m.core in
+      let vs : List Verdict = news m.stream piece in
+      let us : List Verdict = news (m.stream ++ piece) (joined pieces) in
+      let behind : Core = hears_each finds now vs (begins_at model now x) in
+      let e : begins_at model now behind ≡ begins_at model now (hears_each finds now vs x) = begun_behind finds now vs x in
+      all_lead finds now pieces (step now (Come finds piece) m).0
+      ∙ sym (begun_behind finds now us behind)
+      ∙ ap (λ (y : Core). begins_at model now (hears_each finds now us y)) e
+      ∙ begun_behind finds now us (hears_each finds now vs x)
+      ∙ ap (λ (y : Core). begins_at model now y) (sym (hears_parts finds now vs us x))
+      ∙ ap (λ (fs : List Verdict). begins_at model now (hears_each finds now fs x)) (sym (news_parts m.stream piece (joined pieces)))
+
+  all_stream : (finds : Finds) (now : ℕ) (pieces : List (List ℕ)) (m : End) → (run (come_in finds now pieces) m).stream ≡ m.stream ++ joined pieces
+  all_stream finds now [] m = sym (append-nil m.stream)
+  all_stream finds now (piece ∷ pieces) m =
+      all_stream finds now pieces (step now (Come finds piece) m).0 ∙ append_assoc m.stream piece (joined pieces)
+
   pub any_cut : AnyCut
-  any_cut finds now m pieces others e =
-      all_told finds now pieces m ∙ ap (λ (os : List ℕ). told_of_each finds now (news m.stream os) m.core) e ∙ sym (all_told finds now others m)
+  any_cut finds now m pieces others e = (
+    all_told finds now pieces m ∙ ap (λ (os : List ℕ). told_of_each finds now (news m.stream os) m.core) e ∙ sym (all_told finds now others m),
+    all_stream finds now pieces m ∙ ap (λ (os : List ℕ). m.stream ++ os) e ∙ sym (all_stream finds now others m),
+    all_lead finds now pieces m ∙ ap (λ (os : List ℕ). begins_at model now (hears_each finds now (news m.stream os) m.core)) e ∙ sym (all_lead finds now others m),
+  )

@@ -1,5 +1,9 @@
-pub mod KnownAnswers
 pub mod Resting
 pub mod Offering
 pub mod Cutting
 pub mod Speaking
+pub mod Giving
+pub mod Origins
+pub mod Behind
+pub mod Releasing
+pub mod Timing

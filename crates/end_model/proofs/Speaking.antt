@@ -39,7 +39,7 @@ pub record Seen : Type 0 where
   pub news : Option (List ℕ)
   pub stage : Stage
 
-abbrev seen : Core → Seen
+abbrev pub seen : Core → Seen
 seen x = record { safe = x.safe; spoke = x.upper.spoke; connected = x.connected; news = x.upper.news; stage = x.upper.transport.stage }
 
 -- ---- what goes down shows nothing
@@ -51,16 +51,16 @@ seen_if false x y v h g = g refl
 seen_gives : (g : Given) (x : Core) → seen (gives_if_may model g x) ≡ seen x
 seen_gives g x = seen_if (model.may_send x.line) _ x (seen x) (λ e. refl) (λ e. refl)
 
-seen_departs : (why : Release) (reason : ℕ) (user : List ℕ) (x : Core) → seen (departs model why reason user x) ≡ seen x
+pub seen_departs : (why : Release) (reason : ℕ) (user : List ℕ) (x : Core) → seen (departs model why reason user x) ≡ seen x
 seen_departs why reason user x = seen_gives (Dr reason user) x
 
-seen_cut_off : (why : Release) (x : Core) → seen (cut_off model why x) ≡ seen x
+pub seen_cut_off : (why : Release) (x : Core) → seen (cut_off model why x) ≡ seen x
 seen_cut_off why x = seen_gives Dc x
 
-seen_parts : (why : Release) (di : List ℕ) (x : Core) → seen (parts model why di x) ≡ seen x
+pub seen_parts : (why : Release) (di : List ℕ) (x : Core) → seen (parts model why di x) ≡ seen x
 seen_parts why di x = seen_if why.by_peer _ _ (seen x) (λ e. refl) (λ e. seen_departs why _ di x)
 
-seen_says : (text : List ℕ) (x : Core) → seen (says model text x) ≡ seen x
+pub seen_says : (text : List ℕ) (x : Core) → seen (says model text x) ≡ seen x
 seen_says text x = seen_if (is_some_octets text && model.may_hand x.upper) _ x (seen x) (λ e. refl) (λ e. refl)
 
 turn_stage : (t : Transport) (turn : Turn) (g : Option Given) → (with_given (state_behind t turn) g).stage ≡ t.stage
@@ -83,7 +83,7 @@ seen_offers zero x = refl
 seen_offers (suc n) x =
     seen_if (goes_on model x) (offers model n (gives_next model x)) x (seen x) (λ e. seen_offers n (gives_next model x) ∙ seen_next x) (λ e. refl)
 
-seen_concludes : (x : Core) → seen (concludes model x) ≡ seen x
+pub seen_concludes : (x : Core) → seen (concludes model x) ≡ seen x
 seen_concludes x = seen_if (is_some x.released) x (finishes model (offers model most_offers x)) (seen x) (λ e. refl) (λ e. seen_offers most_offers x)
 
 -- ---- what is claimed, of what is seen

@@ -1,15 +1,16 @@
 -- The end model: an opening and a list of events determine the outcomes (this profile).
-use Rattle.std.specs.Prelude.{ℕ, ◌+◌, ◌==◌, Bool, true, false, List, [], ◌∷◌, ◌++◌, length, drop, Option, Some, None}
+use Rattle.std.specs.Prelude.{ℕ, ◌+◌, ◌==◌, Bool, true, false, not, ◌&&◌, ◌||◌, List, [], ◌∷◌, ◌++◌, Option, Some, None, is_some}
 use Rattle.er_base.specs.declared.cause.Cause.TheVariants.{LineEnded, LineFailed, LineStalled}
 use Rattle.er_settings.specs.declared.settings.Settings.{Settings}
 use Rattle.des_block.specs.declared.triple_key.TripleKey.{TripleKey}
-use Rattle.hdlc_frames.specs.Framing.{Verdict, frames_of}
+use Rattle.hdlc_frames.specs.Framing.{Verdict}
 use Rattle.station_model.specs.Stations.{made}
+use Rattle.station_model.specs.Events.{is_late, news}
 use Rattle.x224_class2.specs.Transport.{side_made}
 use Rattle.safety_automaton.specs.Safety.{Safety, initiator, responder}
 use Rattle.safety_automaton.specs.Reports as reports
 use Rattle.end_model.specs.Outcomes.{Outcome, Refused, SendRefusal}
-use Rattle.end_model.specs.Steps.{Finds, begins_at, starts, comes, refusal_of, sends_unless, uses, leaves, ticks, breaks, outcomes_of, if_taken}
+use Rattle.end_model.specs.Steps.{Finds, begins_at, starts, comes, refusal_of, sends_unless, uses, leaves, is_spent, ticks, breaks, outcomes_of, if_taken}
 use Rattle.end_model.specs.Layers.{Upper, Core, model}
 
 -- how an end is opened: it calls, or it answers; at a moment
@@ -62,11 +63,13 @@ abbrev pub opened : Opening → End
 opened (Call settings me peer kmac rb now) = record { stream = []; core = core_made true settings (initiator me peer kmac rb) now }
 opened (Answer settings me ra now) = record { stream = []; core = core_made false settings (responder me ra) now }
 
--- ---- octets
+-- ---- timers
 
--- the frames that octets close behind all that came before
-abbrev pub news : List ℕ → List ℕ → List Verdict
-news before octets = drop (length (frames_of before)) (frames_of (before ++ octets))
+-- an end that isn't released finds T1 expired, or the time for the set-up spent
+abbrev pub finds_expired : Core → Bool
+finds_expired x = not (is_some x.released) && (is_late x.moment x.line || is_spent x)
+
+-- ---- octets
 
 -- frame by frame
 abbrev pub hears_each : Finds → ℕ → List Verdict → Core → Core

@@ -14,7 +14,7 @@ use Rattle.safety_automaton.specs.Safety.{Safety, SafetyOutcome, SentAu1, SentAu
 use Rattle.end_model.specs.Outcomes.{RefusedReleased}
 use Rattle.end_model.specs.Steps.{Finds, begins_at, goes_on, offers, most_offers, starts, comes, refusal_of, sent, uses, leaves, ticks, breaks, is_connected, outcomes_of}
 use Rattle.end_model.specs.Layers.{Spoken, Core, model}
-use Rattle.end_model.specs.Ends.{Opening, Come, End, Moment, opened, outcomes}
+use Rattle.end_model.specs.Ends.{Opening, Come, End, Moment, opened, run, outcomes}
 
 -- ---- the safety side
 
@@ -116,9 +116,11 @@ OffersRest =
 abbrev pub come_in : Finds → ℕ → List (List ℕ) → List Moment
 come_in finds now pieces = map (λ piece. record { now = now; event = Come finds piece }) pieces
 
--- however the same octets are cut, their outcomes are the same, at every end
+-- however the same octets are cut, at every end: their outcomes are the same, and they lead to the same end, what its last event told aside
 abbrev pub AnyCut : Type 0
 AnyCut =
     (finds : Finds) (now : ℕ) (m : End) (pieces others : List (List ℕ))
     → flat_map (λ piece. piece) pieces ≡ flat_map (λ piece. piece) others
-    → outcomes (come_in finds now pieces) m ≡ outcomes (come_in finds now others) m
+    → (outcomes (come_in finds now pieces) m ≡ outcomes (come_in finds now others) m)
+    × ((run (come_in finds now pieces) m).stream ≡ (run (come_in finds now others) m).stream)
+    × (begins_at model now (run (come_in finds now pieces) m).core ≡ begins_at model now (run (come_in finds now others) m).core)

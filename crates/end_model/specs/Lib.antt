@@ -4,3 +4,10 @@ pub mod Steps
 pub mod Layers
 pub mod Ends
 pub mod Laws
+pub mod Hearing
+pub mod Origins
+pub mod Releasing
+pub mod Timing
+pub mod Reasons
+pub mod Bounds
+pub mod KnownAnswers

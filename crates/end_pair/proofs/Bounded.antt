@@ -11,10 +11,11 @@ use Rattle.x224_class2.specs.Segments.{Segment, segments_of as cut, messages_in}
 use Rattle.x224_class2.specs.Tpdus.{Given}
 use Rattle.x224_class2.specs.Transport.{Transport}
 use Rattle.end_model.specs.Layers.{Core}
+use Rattle.end_model.specs.Bounds.{segments, segments_of}
 use Rattle.end_pair.specs.Openings.{Opening, Agree}
 use Rattle.end_pair.specs.Links.{Link}
 use Rattle.end_pair.specs.Steps.{drained}
-use Rattle.end_pair.specs.Laws.{after, segments, segments_of, bound, DeliveryBound, DrainEmpties}
+use Rattle.end_pair.specs.Laws.{after, bound, DeliveryBound, DrainEmpties}
 use Rattle.end_pair.proofs.Lists.{head_take}
 use Rattle.end_pair.proofs.Ports.{got_most}
 use Rattle.end_pair.proofs.Constants.{own_number, session, flag_at, opening_text, sealed_text}

@@ -9,7 +9,7 @@ use Rattle.hdlc_frames.specs.Framing.{Verdict}
 use Rattle.station_model.specs.Frames.{Frame}
 use Rattle.station_model.specs.Stations.{Station, no_deed, is_down}
 use Rattle.station_model.specs.Calls as station
-use Rattle.station_pair.specs.Steps.{is_late}
+use Rattle.station_model.specs.Events.{is_late}
 use Rattle.station_pair.specs.Flowing.{Midway, Ended}
 use Rattle.station_pair.specs.Keeping.{found}
 use Rattle.safety_automaton.specs.Keys.{no_keys}

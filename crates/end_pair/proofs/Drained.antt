@@ -5,7 +5,7 @@ use Rattle.std.proofs.lemmas.Bool.{cond_both, le-ltb}
 use Rattle.std.proofs.lemmas.List.{length-map}
 use Rattle.er_base.specs.declared.side.Side.{Side}
 use Rattle.er_base.specs.declared.side.Side.TheVariants.{E, R}
-use Rattle.station_pair.specs.Steps.{altered, next_of}
+use Rattle.station_model.specs.Lines.{altered, next_of}
 use Rattle.end_model.specs.Ends.{Event}
 use Rattle.end_model.specs.Ends as event
 use Rattle.end_pair.specs.Openings.{Opening, Agree}

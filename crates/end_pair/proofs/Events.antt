@@ -20,7 +20,7 @@ use Rattle.x224_class2.specs.declared.stage.Stage.TheVariants as stages
 use Rattle.end_model.specs.Layers.{Core, model}
 use Rattle.end_model.specs.Steps.{block_at, block_comes, concludes}
 use Rattle.end_pair.specs.Openings.{Opening, Agree}
-use Rattle.end_pair.specs.Reasons.{IsLosingLineReason}
+use Rattle.end_pair.specs.Reasons.{IsLosingLineRelease}
 use Rattle.end_pair.proofs.Lists.{each_next}
 use Rattle.end_pair.proofs.Locals.{Fits}
 use Rattle.end_pair.proofs.Own.{AlwaysOf, Stages, AliveOf, Joint, heard, block, Beside, Busy, Gone, Done}
@@ -134,14 +134,14 @@ line_busy s c k w x l l' y line both e t live st b =
 
 -- ---- releases of the station
 
-station_reason : (why : Release) (o : Option Release) → pair.IsLosingLineReason o → Some why ≡ o → IsLosingLineReason (Some why)
+station_reason : (why : Release) (o : Option Release) → pair.IsLosingLineRelease o → Some why ≡ o → IsLosingLineRelease (Some why)
 station_reason why None h e = absurd (let u : ⊥ = cc in u)
 station_reason why (Some release) h e =
     let same : why ≡ release = cc in
-    subst (λ (r : Release). IsLosingLineReason (Some r)) (sym same) (elim h.1 [ inl zero' ↦ inl zero' | inr one ↦ inr (inl one) ])
+    subst (λ (r : Release). IsLosingLineRelease (Some r)) (sym same) (elim h.1 [ inl zero' ↦ inl zero' | inr one ↦ inr (inl one) ])
 
-pub told_reason : (why : Release) (line : Station) → (line.deed.released ≡ None) ⊎ (line.deed.released ≡ line.released) → line.deed.released ≡ Some why → pair.IsLosingLineReason line.released
-    → IsLosingLineReason (Some why)
+pub told_reason : (why : Release) (line : Station) → (line.deed.released ≡ None) ⊎ (line.deed.released ≡ line.released) → line.deed.released ≡ Some why → pair.IsLosingLineRelease line.released
+    → IsLosingLineRelease (Some why)
 told_reason why line (inl none) e h = absurd (let q : None ≡ Some why = sym none ∙ e in let u : ⊥ = cc in u)
 told_reason why line (inr same) e h = station_reason why line.released h (sym e ∙ same)
 

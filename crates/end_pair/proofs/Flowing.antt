@@ -7,18 +7,18 @@ use Rattle.er_base.specs.declared.release.Release.{Release}
 use Rattle.er_base.specs.Octets.{AreOctets}
 use Rattle.station_model.specs.Frames.{Frame}
 use Rattle.station_model.specs.Stations.{settled}
-use Rattle.station_pair.specs.Steps.{is_late}
+use Rattle.station_model.specs.Events.{is_late}
 use Rattle.station_pair.specs.Flowing.{Shape, Midway}
 use Rattle.station_pair.specs.Keeping.{found, octets_from}
 use Rattle.x224_class2.specs.Transport.{waiting_count}
 use Rattle.end_model.specs.Outcomes.{SendRefusal}
 use Rattle.end_model.specs.Layers.{Core, model}
 use Rattle.end_model.specs.Steps.{begins_at, refusal_at, is_connected, is_spent, sends_unless, sent, uses, ticks}
-use Rattle.end_model.specs.Ends.{End}
+use Rattle.end_model.specs.Ends.{End, finds_expired}
 use Rattle.end_model.specs.Ends as event
 use Rattle.end_pair.specs.Openings.{Opening, Agree}
 use Rattle.end_pair.specs.Links.{Link, end_of, line_of, frames_said, frames_unless, give, opened}
-use Rattle.end_pair.specs.Steps.{pass, finds_expired, expires_at, tick}
+use Rattle.end_pair.specs.Steps.{pass, expires_at, tick}
 use Rattle.end_pair.proofs.Own.{Done}
 use Rattle.end_pair.proofs.Happens.{received_keeps, ticked_keeps, used_keeps, sent_keeps, e_begins, r_begins}
 use Rattle.end_pair.proofs.Worlds.{Holds, e_event, r_event, e_did, r_did, other_parts, first_of_line, r_behind, e_behind, e_passes, r_passes, r_waits, e_waits}

@@ -30,7 +30,7 @@ use Rattle.end_model.specs.Outcomes as outcomes
 use Rattle.end_model.specs.Layers.{Core, model}
 use Rattle.end_model.specs.Steps.{begins_at, departs, normal_disconnect, is_some_octets, spoken, says, link_comes, concludes, received, ticked, time_at, is_spent, is_connected, di_of, left, used, started, sent, refusal_at, why_of}
 use Rattle.end_pair.specs.Openings.{Opening, Agree}
-use Rattle.end_pair.specs.Reasons.{IsLosingLineReason}
+use Rattle.end_pair.specs.Reasons.{IsLosingLineRelease}
 use Rattle.end_pair.proofs.Lists.{each_push}
 use Rattle.end_pair.proofs.Locals.{Fits}
 use Rattle.end_pair.proofs.Turns.{fits_dr}
@@ -116,7 +116,7 @@ module _ (below : Below) (s : Opening) (c : Bool) (k : ℕ) (w : List Frame) (x 
         release_of SetUpTimeSpent,
         refl,
         departs_gone below s c k w ticked_core l y (release_of SetUpTimeSpent) normal_disconnect (spelling (Di 6 1) (flag_at c)) (di_fits c 6 1) ok
-            (λ a. subst (λ (o : Option (ℕ × ℕ)). IsLosingLineReason (Some (why_of o))) (sym (di_known c 6 1)) (inr (inr (refl, refl))))
+            (λ a. subst (λ (o : Option (ℕ × ℕ)). IsLosingLineRelease (Some (why_of o))) (sym (di_known c 6 1)) (inr (inr (refl, refl))))
             (λ a. inr (inr (refl, refl))) g,
       ))
 
@@ -164,7 +164,7 @@ left_state below s c k w x l y sub due b a e =
       release_of (User sub),
       refl,
       departs_gone below s c k w z l y (release_of (User sub)) normal_disconnect (spelling (Di 0 sub) (flag_at c)) (di_fits c 0 sub) ok
-          (λ a. subst (λ (o : Option (ℕ × ℕ)). IsLosingLineReason (Some (why_of o))) (sym (di_known c 0 sub)) (inl refl)) (λ a. inl refl)
+          (λ a. subst (λ (o : Option (ℕ × ℕ)). IsLosingLineRelease (Some (why_of o))) (sym (di_known c 0 sub)) (inl refl)) (λ a. inl refl)
           (record { beside = b.beside; always = b.always; told = b.told }),
     ))
 

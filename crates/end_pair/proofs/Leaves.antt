@@ -16,7 +16,7 @@ use Rattle.x224_class2.specs.declared.stage.Stage.TheVariants as stages
 use Rattle.end_model.specs.Layers.{Core, Upper, model}
 use Rattle.end_model.specs.Steps.{ends, gives, gives_if_may, shuts, finishes, departs, cut_off, deserted}
 use Rattle.end_pair.specs.Openings.{Opening, Agree}
-use Rattle.end_pair.specs.Reasons.{IsLosingLineReason}
+use Rattle.end_pair.specs.Reasons.{IsLosingLineRelease}
 use Rattle.end_pair.proofs.Lists.{each_push, flat_one, length_push}
 use Rattle.end_pair.proofs.Locals.{dc_of, drs, dcs, Opens, Fits}
 use Rattle.end_pair.proofs.Turns.{gives_other, opens_later, fits_dc}
@@ -135,27 +135,27 @@ finished_gone below s c k w x l y b =
       told = b.told;
     }
 
-pub ended_gone : (s : Opening) (c : Bool) (k : ℕ) (w : List Frame) (x : Core) (l : List Frame) (y : Core) (why : Release) → (Agree s → IsLosingLineReason (Some why))
+pub ended_gone : (s : Opening) (c : Bool) (k : ℕ) (w : List Frame) (x : Core) (l : List Frame) (y : Core) (why : Release) → (Agree s → IsLosingLineRelease (Some why))
     → Gone s c k w x l y → Gone s c k w (ends why x) l y
 ended_gone s c k w x l y why good b =
     record { beside = b.beside; always = b.always; told = λ a. let v = b.told a in record { proper = v.proper; said = v.said; good = good a } }
 
 -- this end leaves
 pub departs_gone : Below → (s : Opening) (c : Bool) (k : ℕ) (w : List Frame) (x : Core) (l : List Frame) (y : Core) (why : Release) (reason : ℕ) (user : List ℕ) → Fits (Dr reason user)
-    → LeaveOk c x.upper.transport.gave x.line.phase → (Agree s → Proper s c (Dr reason user)) → (Agree s → IsLosingLineReason (Some why)) → Gone s c k w x l y
+    → LeaveOk c x.upper.transport.gave x.line.phase → (Agree s → Proper s c (Dr reason user)) → (Agree s → IsLosingLineRelease (Some why)) → Gone s c k w x l y
     → Gone s c k w (departs model why reason user x) l y
 departs_gone below s c k w x l y why reason user fits ok proper good b =
     let d : Core = gives_if_may model (Dr reason user) x in
     ended_gone s c k w (shuts model d) l y why good (shut_gone below s c k w d l y (drops below s c k w x l y reason user fits ok proper b))
 
 -- the peer left by a DI in a message, which no peer does whose keys agree
-pub deserted_gone : Below → (s : Opening) (c : Bool) (k : ℕ) (w : List Frame) (x : Core) (l : List Frame) (y : Core) (why : Release) → (Agree s → IsLosingLineReason (Some why))
+pub deserted_gone : Below → (s : Opening) (c : Bool) (k : ℕ) (w : List Frame) (x : Core) (l : List Frame) (y : Core) (why : Release) → (Agree s → IsLosingLineRelease (Some why))
     → Gone s c k w x l y → Gone s c k w (deserted model why x) l y
 deserted_gone below s c k w x l y why good b = ended_gone s c k w (shuts model x) l y why good (shut_gone below s c k w x l y b)
 
 -- the peer left by a DR
 pub cut_gone : Below → (s : Opening) (c : Bool) (k : ℕ) (w : List Frame) (x : Core) (l : List Frame) (y : Core) (why : Release) → 1 ≤ length x.upper.transport.gave
-    → length (dcs x.upper.transport.gave) + 1 ≤ length (drs (heard x y)) → (Agree s → IsLosingLineReason (Some why)) → Gone s c k w x l y
+    → length (dcs x.upper.transport.gave) + 1 ≤ length (drs (heard x y)) → (Agree s → IsLosingLineRelease (Some why)) → Gone s c k w x l y
     → Gone s c k w (cut_off model why x) l y
 cut_gone below s c k w x l y why some few good b =
     let d : Core = gives_if_may model Dc x in

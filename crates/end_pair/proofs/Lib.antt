@@ -28,3 +28,4 @@ pub mod Drained
 pub mod Delivered
 pub mod Bounded
 pub mod Together
+pub mod Apart

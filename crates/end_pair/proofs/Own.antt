@@ -17,7 +17,7 @@ use Rattle.x224_class2.specs.declared.stage.Stage.TheVariants as stages
 use Rattle.end_model.specs.Layers.{Core, model}
 use Rattle.end_model.specs.Steps.{why_of, goes_on}
 use Rattle.end_pair.specs.Openings.{Opening, Agree}
-use Rattle.end_pair.specs.Reasons.{IsLosingLineReason}
+use Rattle.end_pair.specs.Reasons.{IsLosingLineRelease}
 use Rattle.end_pair.proofs.Lists.{Head, Each, Ends}
 use Rattle.end_pair.proofs.Locals.{drs, dcs, aks, Gives, Gets, Cuts, Opens, Fits}
 use Rattle.end_pair.proofs.Constants.{side_in, own_number, flag_at, session, connection_at, greeting, said_all, users_of, Sendable}
@@ -53,7 +53,7 @@ Proper s c (Cr credit size user) = user ≡ greeting s c
 Proper s c (Cc credit size user) = user ≡ greeting s c
 Proper s c (Dt last n user) = Unit {0}
 Proper s c (Ak credit n) = Unit {0}
-Proper s c (Dr reason user) = IsLosingLineReason (Some (why_of (di_in user (flag_at c))))
+Proper s c (Dr reason user) = IsLosingLineRelease (Some (why_of (di_in user (flag_at c))))
 Proper s c Dc = Unit {0}
 
 abbrev pub Said : Opening → Bool → List (List ℕ) → List (List ℕ) → Type 0
@@ -62,7 +62,7 @@ Said s c messages sent = ((messages ≡ []) × (sent ≡ [])) ⊎ (messages ≡ 
 pub record Told (s : Opening) (c : Bool) (segs : List Segment) (gave : List Given) (sent : List (List ℕ)) (released : Option Release) : Type 0 where
   pub proper : Each (Proper s c) gave
   pub said : Said s c (messages_in segs) sent
-  pub good : IsLosingLineReason released
+  pub good : IsLosingLineRelease released
 
 abbrev pub ToldOf : Opening → Bool → Core → Type 0
 ToldOf s c x = Told s c x.upper.transport.segments x.upper.transport.gave x.upper.sent x.released

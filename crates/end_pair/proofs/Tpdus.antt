@@ -17,7 +17,7 @@ use Rattle.x224_class2.specs.declared.stage.Stage.TheVariants as stages
 use Rattle.end_model.specs.Layers.{Core, model}
 use Rattle.end_model.specs.Steps.{Carrier, InCr, InCc, InDt, acts, text_comes, does, tpdu_comes, why_of}
 use Rattle.end_pair.specs.Openings.{Opening, Agree}
-use Rattle.end_pair.specs.Reasons.{IsLosingLineReason}
+use Rattle.end_pair.specs.Reasons.{IsLosingLineRelease}
 use Rattle.end_pair.proofs.Lists.{Head, head_trans, head_take, head_length, each_next, Ends, ends_push, flat_none, flat_one, length_push}
 use Rattle.end_pair.proofs.Segments.{IsShort, text_small}
 use Rattle.end_pair.proofs.Locals.{dt_of, ak_of, dr_of, aks, drs, dcs, First, Later, Fits}
@@ -69,8 +69,8 @@ module _ (below : Below) (s : Opening) (c : Bool) (k : ℕ) (w : List Frame) (x 
       let v = b.always in
       let flag : peer_flag x.safe.safety ≡ flag_at (not c) = ap peer_flag b.trusting.side_is ∙ sym (peers_flag s c x.safe.safety.phase) in
       let why : Release = why_of (di_in user (peer_flag x.safe.safety)) in
-      let good : Agree s → IsLosingLineReason (Some why) = λ a.
-      subst (λ (f : Bool). IsLosingLineReason (Some (why_of (di_in user f)))) (sym flag) (each_next (Proper s (not c)) h g y.upper.transport.gave next (own.told a).proper) in
+      let good : Agree s → IsLosingLineRelease (Some why) = λ a.
+      subst (λ (f : Bool). IsLosingLineRelease (Some (why_of (di_in user f)))) (sym flag) (each_next (Proper s (not c)) h g y.upper.transport.gave next (own.told a).proper) in
       let one : length (drs (h ++ g ∷ [])) ≡ suc (length (drs h)) = ap length (flat_one dr_of h g 0 refl) ∙ length_push (drs h) 0 in
       let few : length (dcs t.gave) + 1 ≤ length (drs (heard x y)) = subst (λ (r : List Given). length (dcs t.gave) + 1 ≤ length (drs r)) (sym b.heard_is) (omega (arith, v.dc_few, b.alive.no_dr_heard)) in
       subst (λ (r : Transport × Deed). Arrived s c k w (heard_at s x r) l y) (sym (dr_heard t user (ap is_new e ∙ begun))) (record {

@@ -9,15 +9,15 @@ use Rattle.er_base.specs.Octets.{AreOctets}
 use Rattle.hdlc_frames.specs.Framing.{Verdict}
 use Rattle.station_model.specs.Frames.{Frame, sent_octets}
 use Rattle.station_model.specs.Stations.{Station}
-use Rattle.station_pair.specs.Links.{said_octets}
-use Rattle.station_pair.specs.Steps.{altered, next_of}
+use Rattle.station_model.specs.Events.{said_octets, news}
+use Rattle.station_model.specs.Lines.{altered, next_of}
 use Rattle.station_pair.specs.Invariant.{Pair}
 use Rattle.station_pair.specs.Keeping.{found, octets_from, IsAtFlag}
 use Rattle.x224_class2.specs.Transport.{waiting_count}
 use Rattle.end_model.specs.Outcomes.{SendRefusal}
 use Rattle.end_model.specs.Layers.{Core, model}
 use Rattle.end_model.specs.Steps.{begins_at, comes, refusal_at, is_connected, sends_unless, sent, uses, leaves, ticks}
-use Rattle.end_model.specs.Ends.{End, Event, Come, news, hears_each, step}
+use Rattle.end_model.specs.Ends.{End, Event, Come, hears_each, step}
 use Rattle.end_model.specs.Ends as event
 use Rattle.end_pair.specs.Openings.{Opening}
 use Rattle.end_pair.specs.Links.{Link, line_of, with_line, frames_said, frames_of_each, frames_unless, give}

@@ -1,12 +1,13 @@
 -- What holds of two ends over two lines, over every list of steps, at modulo 8 and at modulo 128. A list of steps stands for each moment of
 -- a longer run. An opening has its settings, numbers and random numbers in their ranges; the user octets of the steps are octets.
-use Rattle.std.specs.Prelude.{◌≡◌, ℕ, ◌+◌, ◌-◌, ◌*◌, ◌/◌, ◌≤◌, true, List, [], ◌∷◌, length, take}
-use Rattle.std.specs.List.{sum_by}
+use Rattle.std.specs.Prelude.{◌≡◌, ℕ, ◌≤◌, true, List, [], ◌∷◌, length}
 use Rattle.er_settings.specs.declared.settings.Settings.{Settings}
+use Rattle.station_model.specs.Events.{news}
+use Rattle.station_model.specs.Lines.{IsPrefix}
 use Rattle.end_model.specs.Steps.{is_connected}
-use Rattle.end_model.specs.Ends.{news}
+use Rattle.end_model.specs.Bounds.{end_bound}
 use Rattle.end_pair.specs.Openings.{Opening, Agree}
-use Rattle.end_pair.specs.Reasons.{IsLosingLineReason}
+use Rattle.end_pair.specs.Reasons.{IsLosingLineRelease}
 use Rattle.end_pair.specs.Links.{Link, opened}
 use Rattle.end_pair.specs.Phases.{AreInStep}
 use Rattle.end_pair.specs.Steps.{LinkStep, AllFit, run, drained}
@@ -14,9 +15,6 @@ use Rattle.end_pair.specs.Steps.{LinkStep, AllFit, run, drained}
 -- the link behind a list of steps
 abbrev pub after : Opening → List LinkStep → Link
 after s steps = run s.finder (opened s) steps
-
-abbrev pub IsPrefix : List (List ℕ) → List (List ℕ) → Type 0
-IsPrefix xs ys = xs ≡ take (length xs) ys
 
 -- ---- an order-keeping line: it may lose and repeat
 
@@ -31,7 +29,7 @@ Prefix =
 abbrev pub LosingLineReasons : Type 0
 LosingLineReasons =
     (s : Opening) (steps : List LinkStep) → AllFit steps → Agree s → (after s steps).order_kept ≡ true
-    → IsLosingLineReason (after s steps).e.core.released × IsLosingLineReason (after s steps).r.core.released
+    → IsLosingLineRelease (after s steps).e.core.released × IsLosingLineRelease (after s steps).r.core.released
 
 -- the first frame that waits is one frame at the other end, and nothing besides
 abbrev pub IsOneFrame : (stream : List ℕ) → (line : List (List ℕ)) → Type 0
@@ -67,16 +65,9 @@ abbrev pub Delivery : Type 0
 Delivery =
     (s : Opening) (steps : List LinkStep) → AllFit steps → Agree s → (after s steps).loss_free ≡ true → IsEmpty (after s steps) → HasAll (after s steps)
 
--- the segments of a message of so many octets: its SaPDU has nine octets more, and a segment has the octets of a TPDU but for five
-abbrev pub segments : Settings → ℕ → ℕ
-segments settings n = (n + 9 + (settings.size - 6)) / (settings.size - 5)
-
-abbrev pub segments_of : Settings → List (List ℕ) → ℕ
-segments_of settings messages = sum_by (λ message. segments settings (length message)) messages
-
 -- the greatest number of deliveries
 abbrev pub bound : Settings → Link → ℕ
-bound settings l = 14 + 4 * (segments_of settings l.e.core.upper.sent + segments_of settings l.r.core.upper.sent)
+bound settings l = end_bound settings l.e.core.upper.sent l.r.core.upper.sent
 
 abbrev pub DeliveryBound : Type 0
 DeliveryBound =

@@ -4,3 +4,4 @@ pub mod Links
 pub mod Steps
 pub mod Phases
 pub mod Laws
+pub mod Ordered

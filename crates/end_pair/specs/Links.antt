@@ -4,11 +4,11 @@ use Rattle.std.specs.Prelude.{ℕ, Bool, true, List, [], ◌∷◌, ◌++◌, Op
 use Rattle.er_base.specs.declared.side.Side.{Side}
 use Rattle.er_base.specs.declared.side.Side.TheVariants.{E, R}
 use Rattle.hdlc_frames.specs.Framing.{Verdict}
-use Rattle.station_pair.specs.Links.{said_octets}
+use Rattle.station_model.specs.Events.{said_octets, news}
 use Rattle.end_model.specs.Outcomes.{SendRefusal}
 use Rattle.end_model.specs.Layers.{Core, model}
 use Rattle.end_model.specs.Steps.{Finds, begins_at, comes, refusal_of}
-use Rattle.end_model.specs.Ends.{End, Event, Start, Come, Send, Take, Leave, Tick, Ended, Fault, Stalled, Call, Answer, news, step}
+use Rattle.end_model.specs.Ends.{End, Event, Start, Come, Send, Take, Leave, Tick, Ended, Fault, Stalled, Call, Answer, step}
 use Rattle.end_model.specs.Ends as end
 use Rattle.end_pair.specs.Openings.{Opening}
 

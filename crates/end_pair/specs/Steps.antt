@@ -1,14 +1,14 @@
 -- The steps of two ends over two lines: their users send, take and release, the lines pass, lose, repeat, alter and put in frames, and
 -- time goes on (this profile).
-use Rattle.std.specs.Prelude.{ℕ, zero, suc, ◌+◌, ◌==◌, max, nat_lt, Bool, true, false, not, ◌&&◌, ◌||◌, if◌then◌else◌, List, [], ◌∷◌, length, Option, Some, None, is_some}
+use Rattle.std.specs.Prelude.{ℕ, zero, suc, ◌+◌, ◌==◌, max, nat_lt, Bool, true, false, not, ◌&&◌, ◌||◌, if◌then◌else◌, List, [], ◌∷◌, length, Option, Some, None}
 use Rattle.er_base.specs.declared.side.Side.{Side}
 use Rattle.er_base.specs.declared.side.Side.TheVariants.{E, R}
 use Rattle.er_base.specs.Sides.{other}
 use Rattle.er_base.specs.Octets.{AreOctets}
-use Rattle.station_pair.specs.Steps.{altered, is_late, next_of}
-use Rattle.end_model.specs.Layers.{Core, model}
-use Rattle.end_model.specs.Steps.{Finds, begins_at, is_spent}
-use Rattle.end_model.specs.Ends.{End, Come}
+use Rattle.station_model.specs.Lines.{altered, next_of}
+use Rattle.end_model.specs.Layers.{model}
+use Rattle.end_model.specs.Steps.{Finds, begins_at}
+use Rattle.end_model.specs.Ends.{End, Come, finds_expired}
 use Rattle.end_model.specs.Ends as event
 use Rattle.end_pair.specs.Links.{Link, line_of, with_line, give}
 
@@ -62,10 +62,7 @@ put side octets l = with_line side (octets ∷ line_of l side) (record l { order
 
 -- ---- time
 
--- an end that isn't released finds T1 expired, or the time for the set-up spent
-abbrev pub finds_expired : Core → Bool
-finds_expired x = not (is_some x.released) && (is_late x.moment x.line || is_spent x)
-
+-- an end finds a timer expired at a moment
 abbrev pub expires_at : ℕ → End → Bool
 expires_at now m = finds_expired (begins_at model now m.core)
 

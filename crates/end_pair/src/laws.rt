@@ -1,6 +1,7 @@
 //! What holds of two ends of the whole stack over two lines, as facts that a caller can cite.
 
 ghost use Rattle.end_pair.specs.Laws.{Delivery, DeliveryBound, DrainEmpties, FewWait, InStep, LosingLineReasons, OneFrame, Prefix};
+ghost use Rattle.end_pair.specs.Ordered.{InStepWhileOrdered};
 
 /// A line that only loses and repeats: what an end accepted is a prefix of what the other sent, whatever the keys.
 pub fn prefix()
@@ -144,6 +145,27 @@ pub fn in_step()
     station_model::laws::releases_are_told();
     station_pair::laws::calls_keep();
     station_pair::laws::loss_free_keeps();
+    t70_header::laws::wrapping();
+    x224_tpdu::laws::writing();
+    x224_class2::laws::segments();
+    sapdu::laws::messages();
+    sapdu::laws::spelled_is_read();
+    sapdu::laws::lengths_of_spellings();
+    safety_automaton::laws::steps();
+    safety_automaton::laws::lengths();
+    cbc_mac::laws::mac_below();
+}
+
+/// A line that only loses and repeats, where the radio block centre finds the engine's KMAC: a live end that knows session keys heard the CC of the
+/// other, and one that is connected heard a message of the other; and what a live end gave and said tells how far it is.
+pub fn in_step_while_ordered()
+    ensures { InStepWhileOrdered }
+{
+    er_settings::laws::allowed_are_bounded();
+    station_model::laws::receives_give();
+    station_model::laws::ticks_give();
+    station_model::laws::others_keep();
+    station_pair::laws::calls_keep();
     t70_header::laws::wrapping();
     x224_tpdu::laws::writing();
     x224_class2::laws::segments();
