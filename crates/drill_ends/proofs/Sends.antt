@@ -8,8 +8,7 @@ use Rattle.des_block.specs.declared.triple_key.TripleKey.{TripleKey}
 use Rattle.hdlc_frames.specs.Framing.{Verdict}
 use Rattle.station_model.specs.Stations.{Station, Deed as LinkDeed, is_down}
 use Rattle.station_model.specs.Calls.{starts as begins_station, receives, hands, ticks as station_ticks, finishes as owes}
-use Rattle.station_pair.specs.Links.{said_octets, news}
-use Rattle.station_pair.specs.Steps.{quits, is_late}
+use Rattle.station_model.specs.Events.{said_octets, news, quits, is_late, news as stack_news}
 use Rattle.t70_header.specs.Joining as joining
 use Rattle.x224_class2.specs.Tpdus.{Dr, Dc}
 use Rattle.x224_class2.specs.Refusals.{protocol_error}
@@ -27,13 +26,13 @@ use Rattle.safe_pair.specs.Facts.{Fact, Sent, Sealed, Verified, Connected as Con
 use Rattle.end_model.specs.Outcomes.{SendRefusal, RefusedNotConnected, RefusedLength as RefusedLong, RefusedFull}
 use Rattle.end_model.specs.Layers.{Spoken, Core, model}
 use Rattle.end_model.specs.Steps.{Finds, begins_at, ends, gives, shuts, finishes, departs, cut_off, deserted, parts, why_of, spoken, is_some_octets, says, skips, Carrier, InCr, InCc, InDt, answers, keeps, acts, text_comes, does, block_at, is_ready, connects, comes_up, link_at, link_comes, gives_next, goes_on, offers, most_offers, concludes, starts, comes, is_connected, refusal_at, refusal_of, sent, sends_unless, uses, leaves, is_spent, di_of, time_at, ticks, normal_disconnect}
-use Rattle.end_model.specs.Ends.{End as Stack, news as stack_news}
+use Rattle.end_model.specs.Ends.{End as Stack, finds_expired}
 use Rattle.drill_model.specs.Outcomes.{Outcome, OfSafety, Handed, Arrived, Up, Took, NothingToTake, Released as ReleasedOut, Frame, Expired, UserReleased, Passed, Lost, Repeated, Altered, Inserted, NothingWaits, IsShort}
 use Rattle.drill_model.specs.Outcomes as outcome
 use Rattle.drill_model.specs.Kinds.{sent_in}
 use Rattle.drill_model.specs.StationEnds.{if_up, if_arrived, if_released, if_expired, told_by, frames_heard, handed_unless, user_sends, user_releases, time_goes_on}
 use Rattle.drill_model.specs.StationEnds as stations
-use Rattle.drill_model.specs.StackEnds.{facts_told, told_at, stack_told, told_unless, took, finds_expired}
+use Rattle.drill_model.specs.StackEnds.{facts_told, told_at, stack_told, told_unless, took}
 use Rattle.drill_model.specs.Ends.{End, OfSafe, OfStation, OfStack, EndEvent, Start, Receive, Send, Take, Release as Leave, Tick, safety_event, outcomes_by, safe_end_step, station_end_step, stack_end_step, end_step}
 use Rattle.drill_ends.specs.declared.told.Told.{Told}
 use Rattle.drill_ends.specs.Tellings.{IsToldFact, IsTold, EachTold, heard_in}

@@ -11,7 +11,8 @@ use Rattle.hdlc_frames.specs.Laws.{KeptStandsForStream, GoesOn}
 use Rattle.safety_automaton.specs.Keys.{Entry, key_at}
 use Rattle.end_model.specs.Layers.{Core, model}
 use Rattle.end_model.specs.Steps.{Finds, begins, begins_at, received, comes}
-use Rattle.end_model.specs.Ends.{End as Stack, Come, news, hears_each}
+use Rattle.station_model.specs.Events.{news}
+use Rattle.end_model.specs.Ends.{End as Stack, Come, hears_each}
 use Rattle.drill_model.specs.Outcomes.{Outcome}
 use Rattle.drill_model.specs.StackEnds.{told_at, stack_told, stack_hears}
 use Rattle.drill_model.specs.StackReports.{ReportsAt, IsOrderly, CallsReport}

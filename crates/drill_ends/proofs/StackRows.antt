@@ -6,9 +6,9 @@ use Rattle.x224_class2.specs.Standing.{CountsStand}
 use Rattle.end_model.specs.Outcomes.{SendRefusal}
 use Rattle.end_model.specs.Layers.{Core, model}
 use Rattle.end_model.specs.Steps.{begins, begins_at, refusal_of, is_connected, started, sent, sends_unless, used, uses, left, ticked, ticks, goes_on, gives_next, offers, most_offers, finishes, concludes}
-use Rattle.end_model.specs.Ends.{End as Stack, Start, Send, Take, Leave, Tick}
+use Rattle.end_model.specs.Ends.{End as Stack, Start, Send, Take, Leave, Tick, finds_expired}
 use Rattle.drill_model.specs.Outcomes.{Outcome, Took, NothingToTake}
-use Rattle.drill_model.specs.StackEnds.{told_at, stack_begins, as_refusal, told_unless, stack_sends, took, stack_takes, stack_releases, finds_expired, stack_ticks}
+use Rattle.drill_model.specs.StackEnds.{told_at, stack_begins, as_refusal, told_unless, stack_sends, took, stack_takes, stack_releases, stack_ticks}
 use Rattle.drill_model.specs.StackReports.{ReportsAt, IsOrderly, CallsReport}
 use Rattle.er_end.specs.Inboxes.{first_in}
 use Rattle.er_end.specs.KeptEnds.{KEnd, after_start, refusal, after_send, after_take, after_release, after_tick, waiting_in}

@@ -3,7 +3,7 @@ use Rattle.std.proofs.Common.{◌≡◌, ℕ, List, [], ◌++◌, map, Option, S
 use Rattle.er_base.specs.declared.release.Release.{Release}
 use Rattle.des_block.specs.declared.triple_key.TripleKey.{TripleKey}
 use Rattle.station_model.specs.Stations.{Station}
-use Rattle.station_pair.specs.Links.{said_octets}
+use Rattle.station_model.specs.Events.{said_octets}
 use Rattle.safety_automaton.specs.Laws.{keys_of}
 use Rattle.safety_automaton.specs.Reports.{KeptSafe}
 use Rattle.safety_automaton.specs.Safety.{SafetyOutcome, SentAu1, SentAu2, SentAu3, SentAr, ReceivedAr, AcceptedDt, SentDt, Refused, ReleasedLocally, ReleasedByPeer, NothingDone, sealed_by, verified_by, session_in}

@@ -11,8 +11,7 @@ use Rattle.station_model.specs.Frames.{Frame, sent_octets}
 use Rattle.station_model.specs.Stations.{Station, Deed, no_deed}
 use Rattle.station_model.specs.Sending.{waiting}
 use Rattle.station_model.specs.Calls.{closes, hands, finishes}
-use Rattle.station_pair.specs.Links.{said_octets}
-use Rattle.station_pair.specs.Steps.{quits}
+use Rattle.station_model.specs.Events.{said_octets, quits}
 use Rattle.hdlc_balanced.specs.Kept.{Kept, texts, Stands}
 use Rattle.drill_model.specs.Outcomes.{Outcome, RefusedFull, Frame as FrameOut}
 use Rattle.drill_model.specs.StationEnds.{if_up, if_arrived, if_released, told_by, called, refusal_of, handed_unless}

@@ -10,8 +10,7 @@ use Rattle.station_model.specs.Calls.{starts, receives, hands, finishes, ticks}
 use Rattle.station_model.specs.Laws.{HandsKeep}
 use Rattle.hdlc_balanced.specs.Kept.{Kept}
 use Rattle.station_model.specs.Reports.{newer, is_release, TellsRelease, ReleasesAreTold, KeepsRelease, FinishKeepsRelease}
-use Rattle.station_pair.specs.Links.{news}
-use Rattle.station_pair.specs.Steps.{is_late}
+use Rattle.station_model.specs.Events.{news, is_late}
 use Rattle.drill_model.specs.Outcomes.{Outcome, SendRefusal}
 use Rattle.drill_model.specs.StationEnds.{called, begins, frames_heard, refusal_of, handed_unless, user_sends, if_expired, time_goes_on}
 use Rattle.drill_ends.specs.declared.told.Told.{Told}

@@ -1,4 +1,4 @@
--- Representation: what the code gives to an end, as the model has it; no claim rests on it.
+-- Contract: what the code gives to an end, as the model has it.
 use Rattle.drill_model.specs.Ends.{EndEvent}
 use Rattle.drill_model.specs.Ends as model
 use Rattle.drill_ends.specs.declared.end_event.EndEvent.{EndEvent as CodeEvent}

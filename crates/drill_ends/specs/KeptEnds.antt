@@ -1,4 +1,4 @@
--- Representation: an end of a link as the code keeps it, whatever its level; no claim rests on it.
+-- Contract: an end of a link as the code keeps it, whatever its level.
 use Rattle.std.specs.Prelude.{◌≡◌, List}
 use Rattle.drill_model.specs.Outcomes.{Outcome}
 use Rattle.drill_model.specs.Ends.{End, OfSafe, OfStation, OfStack}

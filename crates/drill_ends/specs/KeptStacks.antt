@@ -1,4 +1,4 @@
--- Representation: an end of level full as the code keeps it; no claim rests on it.
+-- Contract: an end of level full as the code keeps it.
 use Rattle.std.specs.Prelude.{◌≡◌, ◌≤◌}
 use Rattle.end_model.specs.Layers.{model}
 use Rattle.end_model.specs.Steps.{begins}

@@ -1,4 +1,4 @@
--- Representation: an end of level link as the code keeps it; no claim rests on it.
+-- Contract: an end of level link as the code keeps it.
 use Rattle.std.specs.Prelude.{ℕ, ◌≡◌, ◌≤◌, List, [], length}
 use Rattle.hdlc_frames.specs.Deframing as frames
 use Rattle.station_model.specs.Stations.{Station, no_deed, is_down}

@@ -1,4 +1,4 @@
--- Representation: the one key that the ends of a link of the code can find; no claim rests on it.
+-- Contract: the one key that the ends of a link of the code can find.
 use Rattle.std.specs.Prelude.{ℕ, ◌-◌, ◌^◌, ◌≡◌, ◌<◌, ◌≤◌, List, [], ◌∷◌, Option, Some, None}
 use Rattle.des_block.specs.declared.triple_key.TripleKey.{TripleKey}
 use Rattle.safety_automaton.specs.Keys.{Entry, key_at}

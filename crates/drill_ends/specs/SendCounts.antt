@@ -1,4 +1,4 @@
--- Representation: what the code counts of the sends at an end; no claim rests on it.
+-- Contract: what the code counts of the sends at an end.
 use Rattle.std.specs.Prelude.{ℕ, ◌≡◌, Bool, true, false, if◌then◌else◌, List, [], ◌∷◌, Option, length}
 use Rattle.std.specs.List.{flat_map}
 use Rattle.des_block.specs.declared.triple_key.TripleKey.{TripleKey}

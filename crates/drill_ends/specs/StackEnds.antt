@@ -4,10 +4,11 @@ use Rattle.des_block.specs.declared.triple_key.TripleKey.{TripleKey}
 use Rattle.safety_automaton.specs.Keys.{Entry, key_at}
 use Rattle.safety_automaton.specs.Safety.{session_in}
 use Rattle.station_model.specs.Frames.{Frame}
+use Rattle.station_model.specs.Events.{news}
 use Rattle.hdlc_balanced.specs.Kept.{texts}
 use Rattle.end_model.specs.Layers.{model}
 use Rattle.end_model.specs.Steps.{begins, begins_at}
-use Rattle.end_model.specs.Ends.{End as Stack, news, hears_each}
+use Rattle.end_model.specs.Ends.{End as Stack, hears_each}
 use Rattle.drill_model.specs.Outcomes.{Outcome}
 use Rattle.drill_model.specs.StackEnds.{stack_told, stack_begins, stack_hears, stack_sends, stack_takes, stack_releases, stack_ticks}
 use Rattle.drill_model.specs.StackReports.{IsOrderly}

@@ -3,7 +3,7 @@ use Rattle.std.specs.Prelude.{ℕ, ◌≡◌, Bool, true, false, List, [], ◌�
 use Rattle.er_base.specs.declared.release.Release.{Release}
 use Rattle.station_model.specs.Frames.{Frame, sent_octets}
 use Rattle.station_model.specs.Stations.{Station, Deed}
-use Rattle.station_pair.specs.Links.{news}
+use Rattle.station_model.specs.Events.{news}
 use Rattle.drill_model.specs.Outcomes.{Outcome}
 use Rattle.drill_model.specs.Ends.{End, OfStation}
 use Rattle.drill_model.specs.StationEnds.{called, frames_heard}

@@ -1,4 +1,4 @@
--- Representation: what an end of the code tells of its outcomes; no claim rests on it.
+-- Contract: what an end of the code tells of its outcomes.
 use Rattle.std.specs.Prelude.{◌≡◌, List, [], ◌∷◌}
 use Rattle.std.specs.List.{flat_map}
 use Rattle.safe_pair.specs.Facts.{Fact, Sent, Sealed, Verified, Connected, Accepted}

@@ -5,7 +5,7 @@ ghost use Rattle.er_settings.specs.Ranges.{AllAllowed};
 ghost use Rattle.hdlc_frames.specs.Shown.{shown};
 ghost use Rattle.station_model.specs.Stations.{made};
 ghost use Rattle.station_model.specs.Calls.{starts, receives, finishes, ticks};
-ghost use Rattle.station_pair.specs.Steps.{quits};
+ghost use Rattle.station_model.specs.Events.{quits};
 ghost use Rattle.hdlc_balanced.specs.Kept.{kept_of};
 ghost use Rattle.hdlc_balanced.specs.Told.{deed_of};
 ghost use Rattle.drill_model.specs.StationEnds.{refusal_of, handed_unless};

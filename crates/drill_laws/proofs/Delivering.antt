@@ -18,7 +18,8 @@ use Rattle.safe_pair.specs.Deliveries.{sent_of, accepted_of, Flow, under_way, de
 use Rattle.safe_pair.specs.Deliveries as pair
 use Rattle.drill_model.specs.Outcomes.{Occurrence}
 use Rattle.drill_model.specs.Links.{Link, LinkOpening, OfPair, waiting_of, Pass, pass, link_step}
-use Rattle.drill_model.specs.Worlds.{link_at, history_on, next_of, next_side, overfull_side, Drain, drain, drain_on, world_run}
+use Rattle.station_model.specs.Lines.{next_of}
+use Rattle.drill_model.specs.Worlds.{link_at, history_on, next_side, overfull_side, Drain, drain, drain_on, world_run}
 use Rattle.drill_model.specs.Kinds.{sent_by, accepted_by, deliveries, IsLossFree, EndsAgree, bound}
 use Rattle.drill_model.specs.Headline.{FitsSettings, IsConnectedEnd, HasAll, IsEmpty, IsDelivered, DeliversAlways}
 use Rattle.drill_model.specs.Headline as claim

@@ -15,7 +15,8 @@ use Rattle.hdlc_frames.specs.Framing.{Verdict}
 use Rattle.station_model.specs.declared.phase.Phase.TheVariants.{Up}
 use Rattle.station_model.specs.Stations.{Station, settled}
 use Rattle.station_model.specs.Calls.{receives, finishes}
-use Rattle.station_pair.specs.Links.{Link as Pair, news}
+use Rattle.station_model.specs.Events.{news}
+use Rattle.station_pair.specs.Links.{Link as Pair}
 use Rattle.station_pair.specs.Steps.{run}
 use Rattle.station_pair.specs.Laws.{Opening, Delivery, DeliveriesBound, FewWait}
 use Rattle.station_pair.specs.Laws as of_pair
@@ -25,7 +26,8 @@ use Rattle.drill_model.specs.StationEnds.{told_by, frames_heard}
 use Rattle.drill_model.specs.Ends.{End, OfStation, EndEvent, end_step}
 use Rattle.drill_model.specs.Ends as event
 use Rattle.drill_model.specs.Links.{Link, LinkOpening, OfStations, end_of, waiting_of, with_waiting, answered, give, key_on, Pass, pass, link_step}
-use Rattle.drill_model.specs.Worlds.{next_of, next_side, overfull_side, Drain, drain, drain_on}
+use Rattle.station_model.specs.Lines.{next_of}
+use Rattle.drill_model.specs.Worlds.{next_side, overfull_side, Drain, drain, drain_on}
 use Rattle.drill_model.specs.Kinds.{sent_by, deliveries, is_disturbed, IsLossFree, bound}
 use Rattle.drill_model.specs.Headline.{FitsSettings, IsConnectedEnd, HasAllPayloads, IsEmpty, IsDelivered}
 use Rattle.drill_model.specs.Headline as claim

@@ -24,3 +24,14 @@ mod Trusting
 mod StackCalls
 mod StackTrusting
 mod StackUnforged
+mod StackKeeping
+mod StepEffects
+mod WorldEffects
+mod FileEffects
+mod Hearing
+mod Brought
+mod Taking
+mod StackEnding
+mod Keyed
+mod StackOrdered
+mod OrderUnforged

@@ -8,6 +8,8 @@ use Rattle.er_settings.specs.declared.settings.Settings.{Settings}
 use Rattle.er_settings.specs.Ranges.{IsModulo, AllAllowed}
 use Rattle.er_settings.specs.Laws.{AreBounded, AllowedAreBounded}
 use Rattle.station_model.specs.Frames.{modulo}
+use Rattle.station_model.specs.Lines as line_words
+use Rattle.station_model.specs.Lines.{IsPrefix}
 use Rattle.station_pair.specs.Links.{Link as Pair}
 use Rattle.station_pair.specs.Steps.{run}
 use Rattle.station_pair.specs.Laws.{Opening, Prefix, LosingLineReasons}
@@ -15,7 +17,7 @@ use Rattle.station_pair.specs.Laws as of_pair
 use Rattle.drill_model.specs.Outcomes.{Occurrence}
 use Rattle.drill_model.specs.Links.{Link, LinkOpening, OfStations}
 use Rattle.drill_model.specs.Kinds.{sent_by, accepted_by, releases_in, IsOrderKeeping}
-use Rattle.drill_model.specs.Headline.{FitsSettings, IsPrefix, IsInOrder, IsLosingLineReason}
+use Rattle.drill_model.specs.Headline.{FitsSettings, IsInOrder, IsLosingLineReason}
 use Rattle.drill_laws.proofs.Wiring.{IsOfPair}
 use Rattle.drill_laws.proofs.Wired.{wired, IsWired}
 
@@ -53,7 +55,7 @@ kept_of : (settings : Settings) (l : Link) (history : List Occurrence) (w : IsWi
     → (run (wired settings w.moment) w.steps).order_kept ≡ true
 kept_of settings l history w keeping = not_false (run (wired settings w.moment) w.steps).order_kept (sym w.sees.order ∙ keeping.ordered)
 
-pub prefix_of : (xs ys xs' ys' : List (List ℕ)) → xs ≡ xs' → ys ≡ ys' → of_pair.IsPrefix xs' ys' → IsPrefix xs ys
+pub prefix_of : (xs ys xs' ys' : List (List ℕ)) → xs ≡ xs' → ys ≡ ys' → line_words.IsPrefix xs' ys' → IsPrefix xs ys
 prefix_of xs ys xs' ys' x y prefix = rw (x, y) prefix
 
 pub wired_in_order : Prefix → AllowedAreBounded → (settings : Settings) (l : Link) (history : List Occurrence) → IsWired settings l history → FitsSettings settings l.opening
@@ -64,16 +66,16 @@ wired_in_order law bounds settings l history w fit keeping =
     let allowed : AllAllowed settings = allowed_of settings l v.opening_is fit in
     let bounded : AreBounded settings = bounds settings allowed in
     let s : Opening = pair_opening settings w.moment bounded (below_modulo settings allowed bounded) in
-    let both : of_pair.IsPrefix p.r.taken p.e.handed × of_pair.IsPrefix p.e.taken p.r.handed = law s w.steps (kept_of settings l history w keeping) in
+    let both : line_words.IsPrefix p.r.taken p.e.handed × line_words.IsPrefix p.e.taken p.r.handed = law s w.steps (kept_of settings l history w keeping) in
     record {
       at_r = prefix_of (accepted_by R history) (sent_by E history) p.r.taken p.e.handed v.accepted_r v.sent_e both.0;
       at_e = prefix_of (accepted_by E history) (sent_by R history) p.e.taken p.r.handed v.accepted_e v.sent_r both.1;
     }
 
-one_reason : (released : Option Release) (release : Release) → released ≡ Some release → of_pair.IsLosingLineReason released → IsLosingLineReason OfStations release
-one_reason released release is reason = subst of_pair.IsLosingLineReason is reason
+one_reason : (released : Option Release) (release : Release) → released ≡ Some release → of_pair.IsLosingLineRelease released → IsLosingLineReason OfStations release
+one_reason released release is reason = subst of_pair.IsLosingLineRelease is reason
 
-all_reasons : (p : Pair) (releases : List Release) → of_pair.IsLosingLineReason p.e.released → of_pair.IsLosingLineReason p.r.released
+all_reasons : (p : Pair) (releases : List Release) → of_pair.IsLosingLineRelease p.e.released → of_pair.IsLosingLineRelease p.r.released
     → AllByRecursion (IsOfPair p) releases → AllByRecursion (IsLosingLineReason OfStations) releases
 all_reasons p [] e r all = tt
 all_reasons p (x ∷ xs) e r all =
@@ -87,6 +89,6 @@ wired_reasons law bounds settings l history w fit keeping =
     let allowed : AllAllowed settings = allowed_of settings l v.opening_is fit in
     let bounded : AreBounded settings = bounds settings allowed in
     let s : Opening = pair_opening settings w.moment bounded (below_modulo settings allowed bounded) in
-    let both : of_pair.IsLosingLineReason p.e.released × of_pair.IsLosingLineReason p.r.released = law s w.steps (kept_of settings l history w keeping) in
+    let both : of_pair.IsLosingLineRelease p.e.released × of_pair.IsLosingLineRelease p.r.released = law s w.steps (kept_of settings l history w keeping) in
     subst (λ (o : LinkOpening). AllByRecursion (IsLosingLineReason o) (releases_in history)) (sym v.opening_is)
     (all_reasons p (releases_in history) both.0 both.1 v.releases)

@@ -196,7 +196,7 @@ module _ (grow : FactsGrow) where
   never_opened plan n (does.Wire m) not_link = never_by n m (wire_opening plan.level) not_link
   never_opened plan n s not_link = refl
 
-  never_of : (plan : Plan) (n : ℕ) (steps : List Step) → is_link n ≡ false → opening_of plan n steps ≡ None
+  pub never_of : (plan : Plan) (n : ℕ) (steps : List Step) → is_link n ≡ false → opening_of plan n steps ≡ None
   never_of plan n [] not_link = refl
   never_of plan n (s ∷ steps) not_link = ap₂ or_opening (never_opened plan n s not_link) (never_of plan n steps not_link)
 
@@ -226,7 +226,7 @@ module _ (grow : FactsGrow) where
   no_side n None none = refl
   no_side n (Some side) none = absurd (cc)
 
-  unopened : (place : Option Link) (l : Link) → place ≡ Some l → option_map (λ (x : Link). x.opening) place ≡ None → ⊥
+  pub unopened : (place : Option Link) (l : Link) → place ≡ Some l → option_map (λ (x : Link). x.opening) place ≡ None → ⊥
   unopened None l is none = cc
   unopened (Some k) l is none = cc
 

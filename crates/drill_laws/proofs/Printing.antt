@@ -11,8 +11,7 @@ use Rattle.safe_pair.specs.Marks.{MarksGrow}
 use Rattle.hdlc_frames.specs.Framing.{Verdict}
 use Rattle.station_model.specs.Stations.{Station, settled, is_down}
 use Rattle.station_model.specs.Calls.{starts, receives, hands, finishes, ticks}
-use Rattle.station_pair.specs.Links.{said_octets, news}
-use Rattle.station_pair.specs.Steps.{quits, is_late}
+use Rattle.station_model.specs.Events.{said_octets, news, quits, is_late}
 use Rattle.drill_model.specs.Outcomes.{Outcome, SendRefusal, Frame, Occurrence, facts_at, facts_in}
 use Rattle.drill_model.specs.StationEnds.{if_up, if_arrived, if_released, told_by, called, frames_heard, heard_parts, refusal_of, handed_unless, user_releases, if_expired}
 use Rattle.drill_model.specs.Ends.{OfSafe, OfStation, OfStack, EndEvent, safety_event, outcomes_by, safe_end_step, station_end_step}
@@ -20,7 +19,7 @@ use Rattle.drill_model.specs.Ends as event
 use Rattle.drill_model.specs.Worlds.{Came, On, Drained, history_at, history_on, facts_on}
 use Rattle.drill_model.specs.Marks.{MarkedOccurrence, MarkedOn, mark_of, marks_behind, mark_came, marks_from}
 use Rattle.drill_model.specs.Texts.{place_of}
-use Rattle.drill_model.specs.Headline.{marks_at, marks_on, PrintedAsMarked, IsRising, station_parts, LinesInOrder}
+use Rattle.drill_model.specs.Printing.{marks_at, marks_on, PrintedAsMarked, IsRising, station_parts, LinesInOrder}
 use Rattle.drill_model.specs.Growth.{HistoryGrows, FactsGrow}
 use Rattle.drill_laws.proofs.StackPrinting.{stack_in_order}
 

@@ -10,6 +10,7 @@ use Rattle.er_base.specs.Causes.{release_of, by_this_end}
 use Rattle.des_block.specs.declared.triple_key.TripleKey.{TripleKey}
 use Rattle.hdlc_frames.specs.Framing.{Verdict}
 use Rattle.station_model.specs.Stations.{Deed as LinkDeed}
+use Rattle.station_model.specs.Events.{said_octets, news}
 use Rattle.t70_header.specs.Joining as joining
 use Rattle.x224_class2.specs.Tpdus.{Dr, Dc}
 use Rattle.x224_class2.specs.Transport.{Deed, Nothing, Called, Confirmed, Message, Disconnected}
@@ -21,15 +22,14 @@ use Rattle.safety_automaton.specs.Safety.{Safety, SafetyEvent, ConnectRequest, R
 use Rattle.safe_pair.specs.Facts.{Fact, SideFact, at_side, facts_of}
 use Rattle.safe_pair.specs.Openings.{PairOpening, Pair, key_for, safety_of, with_safety}
 use Rattle.safe_pair.specs.Talks.{Talks, Goes}
-use Rattle.station_pair.specs.Links.{said_octets}
 use Rattle.end_model.specs.Outcomes.{SendRefusal}
 use Rattle.end_model.specs.Layers.{Spoken, Core, model}
 use Rattle.end_model.specs.Steps.{Finds, begins_at, ends, gives, shuts, finishes, departs, cut_off, deserted, parts, why_of, spoken, is_some_octets, says, accepts, skips, Carrier, InCr, InCc, InDt, answers, keeps, acts, text_comes, does, block_at, is_ready, connects, comes_up, link_at, link_comes, gives_next, goes_on, offers, most_offers, concludes, starts, comes, refusal_of, sends_unless, uses, leaves, is_spent, di_of, time_at, ticks, normal_disconnect}
-use Rattle.end_model.specs.Ends.{End as Stack, news, hears_each}
+use Rattle.end_model.specs.Ends.{End as Stack, hears_each, finds_expired}
 use Rattle.drill_model.specs.Outcomes.{Outcome, OfSafety, Refused, Frame, at_end, facts_in}
 use Rattle.drill_model.specs.Growth.{FactsGrow}
 use Rattle.drill_model.specs.StationEnds.{if_released, if_expired}
-use Rattle.drill_model.specs.StackEnds.{facts_told, told_at, stack_told, stack_begins, stack_hears, as_refusal, told_unless, stack_sends, took, stack_takes, stack_releases, finds_expired, stack_ticks}
+use Rattle.drill_model.specs.StackEnds.{facts_told, told_at, stack_told, stack_begins, stack_hears, as_refusal, told_unless, stack_sends, took, stack_takes, stack_releases, stack_ticks}
 
 -- ---- one step at most
 
@@ -170,7 +170,7 @@ module _ (key_of : ℕ → ℕ → Option TripleKey) (before : Safety) where
       if_core Spoke (model.untaken y.upper == 0) y (concludes model (record y { upper = model.uses y.upper })) same
       (concludes_spoke (record y { upper = model.uses y.upper }) same)
 
-  leaves_spoke : (now sub : ℕ) (x : Core) → x.safe.safety ≡ before → Spoke (leaves model now sub x)
+  pub leaves_spoke : (now sub : ℕ) (x : Core) → x.safe.safety ≡ before → Spoke (leaves model now sub x)
   leaves_spoke now sub x same =
       let y : Core = begins_at model now x in
       let a : Safety × SafetyOutcome = step key_of y.safe.safety (DisconnectRequest sub) in

@@ -14,7 +14,7 @@ use Rattle.x224_class2.specs.Tpdus.{Dr}
 use Rattle.safety_automaton.specs.Safety.{Safety}
 use Rattle.safe_pair.specs.Facts.{Fact, SideFact, at_side, facts_of}
 use Rattle.safe_pair.specs.Openings.{PairOpening}
-use Rattle.station_pair.specs.Links.{said_octets}
+use Rattle.station_model.specs.Events.{said_octets}
 use Rattle.end_model.specs.Outcomes.{SendRefusal}
 use Rattle.end_model.specs.Layers.{Spoken, Core, model}
 use Rattle.end_model.specs.Steps.{begins_at, ends, gives, shuts, finishes, departs, gives_next, goes_on, offers, most_offers, concludes, starts, comes, refusal_of, sends_unless, uses, is_spent, di_of, time_at, ticks, normal_disconnect}

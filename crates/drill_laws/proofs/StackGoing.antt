@@ -8,15 +8,15 @@ use Rattle.er_base.specs.declared.release.Release.{Release}
 use Rattle.des_block.specs.declared.triple_key.TripleKey.{TripleKey}
 use Rattle.hdlc_frames.specs.Framing.{Verdict}
 use Rattle.safety_automaton.specs.Rules.{StepsOnly}
-use Rattle.station_pair.specs.Links.{said_octets}
+use Rattle.station_model.specs.Events.{said_octets, news}
 use Rattle.end_model.specs.Outcomes.{SendRefusal}
 use Rattle.end_model.specs.Layers.{Core, model}
 use Rattle.end_model.specs.Steps.{Finds, begins_at, starts, comes, refusal_of, sends_unless, uses, leaves, ticks}
-use Rattle.end_model.specs.Ends.{End as Stack, Event, Start, Come, Send, Take, Leave, Tick, news, hears_each, step}
+use Rattle.end_model.specs.Ends.{End as Stack, Event, Start, Come, Send, Take, Leave, Tick, hears_each, step, finds_expired}
 use Rattle.end_pair.specs.Links.{frames_said, frames_of_each, frames_unless, frames_by}
 use Rattle.drill_model.specs.Outcomes.{Outcome, Refused, Took, NothingToTake, Frame, Expired, frames_of, frames_in}
 use Rattle.drill_model.specs.StationEnds.{if_released, if_expired}
-use Rattle.drill_model.specs.StackEnds.{facts_told, told_at, stack_told, as_refusal, told_unless, took, finds_expired}
+use Rattle.drill_model.specs.StackEnds.{facts_told, told_at, stack_told, as_refusal, told_unless, took}
 use Rattle.drill_model.specs.StackReports.{IsOrderly, CallsReport}
 use Rattle.drill_model.specs.Kinds.{sent_in, accepted_in, released_in, passed_in, is_disorder, is_disturbance}
 use Rattle.drill_model.specs.Ends.{End, OfStack, EndEvent, stack_end_step}

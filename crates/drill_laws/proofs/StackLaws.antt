@@ -14,10 +14,12 @@ use Rattle.safe_pair.specs.Openings.{PairOpening, OfFixed, OfKeys}
 use Rattle.safe_pair.specs.Deliveries.{IsConnectedPhase}
 use Rattle.end_model.specs.Steps.{is_connected}
 use Rattle.end_model.specs.Ends.{End as Stack}
+use Rattle.end_model.specs.Bounds as end_bounds_words
 use Rattle.end_pair.specs.Openings.{Opening, Agree}
 use Rattle.end_pair.specs.Links.{Link as Pair}
 use Rattle.end_pair.specs.Steps.{run}
 use Rattle.end_pair.specs.Laws.{Prefix, OneFrame, LosingLineReasons, InStep, Delivery, DeliveryBound, DrainEmpties}
+use Rattle.station_model.specs.Lines.{IsPrefix}
 use Rattle.end_pair.specs.Laws as of_pair
 use Rattle.end_pair.specs.Reasons as of_pair_reasons
 use Rattle.drill_model.specs.Outcomes.{Occurrence}
@@ -26,7 +28,7 @@ use Rattle.drill_model.specs.Ends.{End, OfStack}
 use Rattle.drill_model.specs.Links.{Link, LinkOpening, OfPair, OfStations, OfStacks, opened, LinkStep, Send, Pass, Change, Take, Release as ReleaseStep, Tick}
 use Rattle.drill_model.specs.Worlds.{Plan, Drain, drain, link_at, history_on, world_run}
 use Rattle.drill_model.specs.Kinds.{releases_in, is_disturbed, IsOrderKeeping, IsLossFree, EndsAgree, deliveries, bound}
-use Rattle.drill_model.specs.Headline.{FitsSettings, IsPrefix, IsInOrder, IsLosingLineReason, IsConnectedEnd, HasTakenAll, HasAll, IsEmpty, IsDelivered, IsUnforged}
+use Rattle.drill_model.specs.Headline.{FitsSettings, IsInOrder, IsLosingLineReason, IsConnectedEnd, HasTakenAll, HasAll, IsEmpty, IsDelivered, IsUnforged}
 use Rattle.drill_model.specs.Headline as claim
 use Rattle.drill_model.specs.Steps.{AllFit}
 use Rattle.drill_model.specs.Growth.{FactsGrow, HistoryGrows, HistoryOfOwn, HistoryOfOther}
@@ -102,11 +104,11 @@ module _ (settings : Settings) (l : Link) (history : List Occurrence) (t : IsSta
         at_e = prefix_of _ _ p.e.core.upper.accepted p.r.core.upper.sent v.accepted_e v.sent_r both.1;
       }
 
-  one_reason : (released : Option Release) (release : Release) → released ≡ Some release → of_pair_reasons.IsLosingLineReason released
-      → of_pair_reasons.IsLosingLineReason (Some release)
-  one_reason released release is reason = subst of_pair_reasons.IsLosingLineReason is reason
+  one_reason : (released : Option Release) (release : Release) → released ≡ Some release → of_pair_reasons.IsLosingLineRelease released
+      → of_pair_reasons.IsLosingLineRelease (Some release)
+  one_reason released release is reason = subst of_pair_reasons.IsLosingLineRelease is reason
 
-  all_reasons : (releases : List Release) → (t.k.kr ≡ Some t.k.ke → of_pair_reasons.IsLosingLineReason p.e.core.released × of_pair_reasons.IsLosingLineReason p.r.core.released)
+  all_reasons : (releases : List Release) → (t.k.kr ≡ Some t.k.ke → of_pair_reasons.IsLosingLineRelease p.e.core.released × of_pair_reasons.IsLosingLineRelease p.r.core.released)
       → AllByRecursion (IsOfPair p) releases → AllByRecursion (IsLosingLineReason (opening_of t.k)) releases
   all_reasons [] both all = tt
   all_reasons (x ∷ xs) both all =
@@ -129,7 +131,7 @@ module _ (settings : Settings) (l : Link) (history : List Occurrence) (t : IsSta
   bound_is : bound settings l.opening history ≡ of_pair.bound settings p
   bound_is =
       ap (λ (o : LinkOpening). bound settings o history) t.sees.opening_is
-      ∙ ap₂ (λ (xs ys : List (List ℕ)). 14 + 4 * (of_pair.segments_of settings xs + of_pair.segments_of settings ys)) t.sees.sent_e t.sees.sent_r
+      ∙ ap₂ (λ (xs ys : List (List ℕ)). 14 + 4 * (end_bounds_words.segments_of settings xs + end_bounds_words.segments_of settings ys)) t.sees.sent_e t.sees.sent_r
 
   connected_phase : (phase : Phase) → is_connected phase ≡ true → IsConnectedPhase phase
   connected_phase (Ready peer kmac rb) e = absurd (cc)

@@ -7,19 +7,19 @@ use Rattle.des_block.specs.declared.triple_key.TripleKey.{TripleKey}
 use Rattle.hdlc_frames.specs.Framing.{Verdict}
 use Rattle.safety_automaton.specs.Safety.{SafetyOutcome, SentAu1, SentAu2, SentAu3, SentAr, ReceivedAr, AcceptedDt, SentDt, Refused, ReleasedLocally, ReleasedByPeer, NothingDone}
 use Rattle.safe_pair.specs.Facts.{heard_in, facts_by}
-use Rattle.station_pair.specs.Links.{said_octets}
+use Rattle.station_model.specs.Events.{said_octets, news}
 use Rattle.end_model.specs.Outcomes.{SendRefusal}
 use Rattle.end_model.specs.Layers.{Spoken, Core, model}
 use Rattle.end_model.specs.Steps.{Finds, begins_at, gives_next, goes_on, offers, most_offers, finishes, concludes, comes, refusal_of, uses}
-use Rattle.end_model.specs.Ends.{End as Stack, news}
+use Rattle.end_model.specs.Ends.{End as Stack, finds_expired}
 use Rattle.end_model.specs.Ends as stacks
 use Rattle.drill_model.specs.Outcomes.{Outcome, OfSafety, Frame}
 use Rattle.drill_model.specs.StationEnds.{if_released, if_expired}
-use Rattle.drill_model.specs.StackEnds.{facts_told, told_at, behind, stack_parts, stack_told, told_unless, took, finds_expired}
+use Rattle.drill_model.specs.StackEnds.{facts_told, told_at, behind, stack_parts, stack_told, told_unless, took}
 use Rattle.drill_model.specs.Ends.{EndEvent, Start, stack_end_step}
 use Rattle.drill_model.specs.Ends as event
 use Rattle.drill_model.specs.Texts.{place_of}
-use Rattle.drill_model.specs.Headline.{IsRising, parts_of_stack}
+use Rattle.drill_model.specs.Printing.{IsRising, parts_of_stack}
 
 -- ---- one call
 

@@ -11,6 +11,7 @@ use Rattle.er_base.specs.Causes.{release_of, by_this_end}
 use Rattle.des_block.specs.declared.triple_key.TripleKey.{TripleKey}
 use Rattle.hdlc_frames.specs.Framing.{Verdict}
 use Rattle.station_model.specs.Stations.{Deed as LinkDeed}
+use Rattle.station_model.specs.Events.{said_octets}
 use Rattle.t70_header.specs.Joining as joining
 use Rattle.x224_class2.specs.Tpdus.{Dr, Dc}
 use Rattle.x224_class2.specs.Transport.{Deed, Nothing, Called, Confirmed, Message, Disconnected}
@@ -25,7 +26,6 @@ use Rattle.safety_automaton.specs.Safety.{Safety, Phase, Ready, WaitAu1, WaitAu2
 use Rattle.safety_automaton.specs.Safety as safety
 use Rattle.safety_automaton.specs.Safety.{sends as sends_side}
 use Rattle.safe_pair.specs.Facts.{Fact, heard_in, facts_by, facts_of}
-use Rattle.station_pair.specs.Links.{said_octets}
 use Rattle.end_model.specs.Outcomes.{RefusedNotConnected, RefusedLength, RefusedFull}
 use Rattle.end_model.specs.Layers.{Spoken, Core, model}
 use Rattle.end_model.specs.Steps.{Finds, begins_at, ends, gives, shuts, finishes, departs, cut_off, deserted, parts, why_of, spoken, is_some_octets, says, accepts, skips, Carrier, InCr, InCc, InDt, answers, keeps, acts, text_comes, does, block_at, is_ready, connects, comes_up, link_at, link_comes, gives_next, goes_on, offers, most_offers, concludes, starts, comes, is_connected, refusal_at, refusal_of, sends_unless, uses, leaves, is_spent, di_of, time_at, ticks, normal_disconnect}
@@ -54,7 +54,7 @@ abbrev pub sent_in_step : Option Spoken → List (List ℕ)
 sent_in_step None = []
 sent_in_step (Some s) = sent_by_step s.outcome
 
-no_send : (key_of : ℕ → ℕ → Option TripleKey) (s : Safety) (event : SafetyEvent) (next : Safety) (o : SafetyOutcome) → ((user : List ℕ) → event ≡ DataRequest user → ⊥)
+pub no_send : (key_of : ℕ → ℕ → Option TripleKey) (s : Safety) (event : SafetyEvent) (next : Safety) (o : SafetyOutcome) → ((user : List ℕ) → event ≡ DataRequest user → ⊥)
     → IsStep key_of s event next o → sent_by_step o ≡ []
 no_send key_of s event next (SentAu1 octets) other row = refl
 no_send key_of s event next (SentAu2 session sealed octets) other row = refl
@@ -302,12 +302,12 @@ by_tests true true w n waiting none = (refl, refl)
 by_tests true false w n waiting none = absurd (cc)
 by_tests false m w n waiting none = absurd (cc)
 
-unrefused : (released : Option Release) (connected : Bool) (user : List ℕ) (waiting : ℕ) → refusal_at released connected user waiting ≡ None
+pub unrefused : (released : Option Release) (connected : Bool) (user : List ℕ) (waiting : ℕ) → refusal_at released connected user waiting ≡ None
     → (released ≡ None) × ((connected ≡ true) × (is_message user ≡ true))
 unrefused (Some why) connected user waiting none = absurd (cc)
 unrefused None connected user waiting none = (refl, by_tests connected (is_message user) (nat_le 16 waiting) (length user) waiting none)
 
-send_step : (s : Safety) (phase : Phase) (user : List ℕ) → is_connected phase ≡ true → is_message user ≡ true → sent_by_step (sends_side s phase user).1 ≡ user ∷ []
+pub send_step : (s : Safety) (phase : Phase) (user : List ℕ) → is_connected phase ≡ true → is_message user ≡ true → sent_by_step (sends_side s phase user).1 ≡ user ∷ []
 send_step s (Ready peer kmac rb) user connected message = absurd (cc)
 send_step s (WaitAu1 ra) user connected message = absurd (cc)
 send_step s (WaitAu2 peer kmac rb) user connected message = absurd (cc)

@@ -17,13 +17,14 @@ use Rattle.safe_pair.specs.Marks.{MarksGrow}
 use Rattle.safe_pair.specs.Openings.{PairOpening, OfKeys}
 use Rattle.end_model.specs.Layers.{Spoken, model}
 use Rattle.end_model.specs.Steps.{begins_at, starts, ticks}
-use Rattle.end_model.specs.Ends.{End as Stack, Event, Call, Answer, news, opened as stack_opened}
+use Rattle.station_model.specs.Events.{news}
+use Rattle.station_model.specs.Lines.{IsPrefix}
+use Rattle.end_model.specs.Ends.{End as Stack, Event, Call, Answer, opened as stack_opened, finds_expired}
 use Rattle.end_model.specs.Ends as on_end
 use Rattle.end_pair.specs.Links.{Link as Pair, end_of}
-use Rattle.end_pair.specs.Laws.{IsPrefix, IsOneFrame}
+use Rattle.end_pair.specs.Laws.{IsOneFrame}
 use Rattle.drill_model.specs.Outcomes.{Outcome, NothingWaits, UserReleased, Passed, Occurrence, at_end, facts_in}
 use Rattle.drill_model.specs.Growth.{FactsGrow}
-use Rattle.drill_model.specs.StackEnds.{finds_expired}
 use Rattle.drill_model.specs.StackReports.{IsOrderly, OpensOrderly, CallsReport, user_in}
 use Rattle.drill_model.specs.Ends.{End, OfStack, EndEvent, Receive, stack_end_step, end_step}
 use Rattle.drill_model.specs.Ends as event

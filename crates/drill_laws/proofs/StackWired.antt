@@ -9,7 +9,7 @@ use Rattle.er_settings.specs.declared.settings.Settings.{Settings}
 use Rattle.safety_automaton.specs.Rules.{StepsOnly}
 use Rattle.safe_pair.specs.Openings.{OfKeys}
 use Rattle.safe_pair.specs.Deliveries.{FitsOpening}
-use Rattle.station_pair.specs.Steps.{next_of as pair_next}
+use Rattle.station_model.specs.Lines.{next_of as pair_next, altered, next_of}
 use Rattle.end_model.specs.Steps.{Finds}
 use Rattle.end_model.specs.Ends.{End as Stack, Event, Start, Come, Leave, Tick as TickEvent, Call, Answer, opened as stack_opened}
 use Rattle.end_pair.specs.Links.{Link as Pair, end_of, line_of, with_line, give}
@@ -19,10 +19,10 @@ use Rattle.drill_model.specs.Outcomes.{Outcome, UserReleased, Passed, Lost, Repe
 use Rattle.drill_model.specs.StackReports.{OpensOrderly, CallsReport}
 use Rattle.drill_model.specs.Ends.{OfStack, EndEvent}
 use Rattle.drill_model.specs.Ends as event
-use Rattle.drill_model.specs.Waiting.{LineChange, Lose, Repeat, Alter, Put, altered, changes}
+use Rattle.drill_model.specs.Waiting.{LineChange, Lose, Repeat, Alter, Put, changes}
 use Rattle.drill_model.specs.Links.{Link, OfStacks, waiting_of, with_waiting, joined, opened_stacks, LinkStep, Send, Pass, Change, Take, Release, Tick, pass, link_step}
 use Rattle.drill_model.specs.Links as drill
-use Rattle.drill_model.specs.Worlds.{next_of, next_side, overfull_side, Drain, drain, drain_on}
+use Rattle.drill_model.specs.Worlds.{next_side, overfull_side, Drain, drain, drain_on}
 use Rattle.drill_laws.proofs.Tellings.{Says, says_nothing, says_more}
 use Rattle.drill_laws.proofs.Wiring.{not_or}
 use Rattle.drill_laws.proofs.StackGoing.{as_given, is_late_at}

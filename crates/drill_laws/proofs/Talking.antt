@@ -16,7 +16,8 @@ use Rattle.safe_pair.specs.Authentic.{TalksAreAuthentic}
 use Rattle.drill_model.specs.Outcomes.{Outcome, NothingWaits, IsShort, Altered, UserReleased, Passed, Occurrence, at_end, facts_in}
 use Rattle.drill_model.specs.Ends.{End, OfSafe, EndEvent, Start, safety_event, outcomes_by, safe_end_step, end_step}
 use Rattle.drill_model.specs.Ends as event
-use Rattle.drill_model.specs.Waiting.{LineChange, Lose, Repeat, Alter, Put, altered, changes}
+use Rattle.station_model.specs.Lines.{altered}
+use Rattle.drill_model.specs.Waiting.{LineChange, Lose, Repeat, Alter, Put, changes}
 use Rattle.drill_model.specs.Links.{Link, LinkOpening, OfPair, OfStations, OfStacks, waiting_of, with_waiting, answered, give, joined_pair, opened_pair, opened, LinkStep, Send, Pass, Change, Take, Release, Tick, pass, link_step}
 use Rattle.drill_model.specs.Worlds.{Plan, fixed_opening, link_opening, wire_opening, link_at, history_on, world_run}
 use Rattle.drill_model.specs.Headline.{LawfulAt, LawfulAlways}

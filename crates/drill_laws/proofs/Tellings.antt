@@ -18,8 +18,7 @@ use Rattle.station_model.specs.Stations.{sees, puts, Station, Deed, made, no_dee
 use Rattle.station_model.specs.Calls.{starts_at, starts, receives, hands, finishes, ticks, closes}
 use Rattle.station_model.specs.Laws.{LeavesPayloads, Received, Ticked, ReceivesGive, TicksGive, HandsKeep, OthersKeep, ReleasedAreInert}
 use Rattle.station_model.specs.Reports.{TellsRelease, ReleasesAreTold, FinishKeepsRelease, newer, is_release}
-use Rattle.station_pair.specs.Links.{said_octets}
-use Rattle.station_pair.specs.Steps.{quits, is_late}
+use Rattle.station_model.specs.Events.{said_octets, quits, is_late}
 use Rattle.safe_pair.specs.Facts.{SideFact}
 use Rattle.drill_model.specs.Outcomes.{Outcome, SendRefusal, Handed, Arrived, Up, Refused, Released, Frame, Expired, at_end, facts_at, facts_in, frames_of, frames_in}
 use Rattle.drill_model.specs.StationEnds.{if_up, if_arrived, if_released, told_by, called, frames_heard, refusal_of, handed_unless, user_sends, user_releases, if_expired, time_goes_on, begins}

@@ -20,7 +20,8 @@ use Rattle.safe_pair.specs.Deliveries as pair
 use Rattle.drill_model.specs.Outcomes.{Outcome, OfSafety, Handed, Arrived, Passed, Altered, NothingWaits, IsShort, Occurrence, at_end, facts_at, facts_in, frames_in}
 use Rattle.drill_model.specs.Ends.{End, OfSafe, EndEvent, Start, safety_event, outcomes_by, safe_end_step, end_step}
 use Rattle.drill_model.specs.Ends as event
-use Rattle.drill_model.specs.Waiting.{LineChange, Lose, Repeat, Alter, Put, altered, changes}
+use Rattle.station_model.specs.Lines.{altered}
+use Rattle.drill_model.specs.Waiting.{LineChange, Lose, Repeat, Alter, Put, changes}
 use Rattle.drill_model.specs.Links.{Link, LinkOpening, OfPair, OfStations, OfStacks, waiting_of, with_waiting, answered, give, joined_pair, opened_pair, opened, LinkStep, Send, Pass, Change, Take, Release, Tick, pass, change_waiting, link_step}
 use Rattle.drill_model.specs.Kinds.{sent_in, accepted_in, sent_by, accepted_by, deliveries, is_disturbance, is_disturbed}
 use Rattle.drill_model.specs.Growth.{FactsGrow}

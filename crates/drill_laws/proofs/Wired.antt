@@ -6,16 +6,18 @@ use Rattle.er_base.specs.Sides.{other}
 use Rattle.er_settings.specs.declared.settings.Settings.{Settings}
 use Rattle.station_model.specs.Stations.{Station, made, settled, is_down}
 use Rattle.station_model.specs.Calls.{starts, finishes, ticks}
-use Rattle.station_pair.specs.Links.{Came, Link as Pair, station_of, line_of, with_line, read_of, tells, said_octets, did, news, hears_each, reads}
+use Rattle.station_model.specs.Events.{said_octets, news, quits, is_late}
+use Rattle.station_pair.specs.Links.{Came, Link as Pair, station_of, line_of, with_line, read_of, tells, did, hears_each, reads}
 use Rattle.station_pair.specs.Links as pair
-use Rattle.station_pair.specs.Steps.{refusal_at, send_unless, counted, quits, is_late, tick_at, happens, run}
+use Rattle.station_pair.specs.Steps.{refusal_at, send_unless, counted, tick_at, happens, run}
 use Rattle.station_pair.specs.Steps as on_pair
 use Rattle.station_pair.specs.Laws as laws_of_pair
 use Rattle.drill_model.specs.Outcomes.{Outcome, UserReleased, Passed, Lost, Repeated, Altered, Inserted, NothingWaits, IsShort, Occurrence, at_end, frames_in}
 use Rattle.drill_model.specs.StationEnds.{told_by, called, frames_heard, user_sends, user_releases, time_goes_on, begins, if_expired}
 use Rattle.drill_model.specs.Ends.{End, OfStation, EndEvent, Start, station_end, station_end_step}
 use Rattle.drill_model.specs.Ends as event
-use Rattle.drill_model.specs.Waiting.{LineChange, Lose, Repeat, Alter, Put, altered, changes}
+use Rattle.station_model.specs.Lines.{altered}
+use Rattle.drill_model.specs.Waiting.{LineChange, Lose, Repeat, Alter, Put, changes}
 use Rattle.drill_model.specs.Links.{Link, OfStations, waiting_of, with_waiting, answered, give, joined, opened_stations, LinkStep, Send, Pass, Change, Take, Release as ReleaseStep, Tick, pass, link_step}
 use Rattle.drill_model.specs.Kinds.{deliveries}
 use Rattle.drill_laws.proofs.Tellings.{Says, says_nothing, says_more, Ready, Went, stays, frames_told, StationLaws, frames_went, sends_went, releases_went, ticks_went, begins_went, ready_made}

@@ -12,7 +12,8 @@ use Rattle.hdlc_frames.specs.Framing.{Verdict}
 use Rattle.station_model.specs.Stations.{Station, settled}
 use Rattle.station_model.specs.Sending.{waiting}
 use Rattle.station_model.specs.Calls.{receives, hands, finishes}
-use Rattle.station_pair.specs.Links.{Came, Link as Pair, station_of, line_of, with_line, read_of, tells, said_octets, did, news, hears_each, reads}
+use Rattle.station_model.specs.Events.{said_octets, news}
+use Rattle.station_pair.specs.Links.{Came, Link as Pair, station_of, line_of, with_line, read_of, tells, did, hears_each, reads}
 use Rattle.station_pair.specs.Links as pair
 use Rattle.station_pair.specs.Steps.{refusal_at, send_unless}
 use Rattle.safe_pair.specs.Facts.{SideFact, is_side}

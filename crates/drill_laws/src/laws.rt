@@ -1,12 +1,20 @@
 //! The laws of every list of steps.
 
+ghost use Rattle.std.specs.Prelude.{List};
 ghost use Rattle.station_model.specs.Laws.{ReceivesGive, TicksGive, HandsKeep, OthersKeep, ReleasedAreInert};
 ghost use Rattle.station_model.specs.Reports.{ReleasesAreTold, FinishKeepsRelease};
 ghost use Rattle.safety_automaton.specs.Rules.{StepsOnly};
 ghost use Rattle.safe_pair.specs.Marks.{MarksGrow};
 ghost use Rattle.end_pair.specs.Laws.{Prefix, OneFrame, LosingLineReasons, InStep, Delivery, DeliveryBound, DrainEmpties};
+ghost use Rattle.er_settings.specs.Ranges.{AllAllowed};
+ghost use Rattle.er_scenario.specs.declared.step.Step.{Step};
+ghost use Rattle.drill_model.specs.Steps.{AllFit};
+ghost use Rattle.drill_model.specs.Worlds.{Plan};
+ghost use Rattle.drill_model.specs.Hearing.{HeardIsBrought};
 ghost use Rattle.drill_model.specs.StackReports.{OpensOrderly, CallsReport};
-ghost use Rattle.drill_model.specs.Headline.{LawfulAlways, OpensAlways, RoomAlways, InOrderAlways, LosingLineReasonsAlways, DeliversAlways, PrintedAsMarked, LinesInOrder};
+ghost use Rattle.drill_model.specs.Effects.{Steps};
+ghost use Rattle.drill_model.specs.Headline.{LawfulAlways, OpensAlways, RoomAlways, InOrderAlways, LosingLineReasonsAlways, OrderIsUnforged, DeliversAlways, TakesInOrder};
+ghost use Rattle.drill_model.specs.Printing.{PrintedAsMarked, LinesInOrder};
 
 // What each call of a station does to its lists and its release.
 fn station_laws()
@@ -117,4 +125,45 @@ pub fn worlds()
 {
     drill_model::laws::histories();
     drill_model::laws::runs_grow();
+}
+
+/// What a link did and had is what the file says: each step brings about at it what its words say, and nothing else; each message that an
+/// end sent is the text of a step that sends at that end, in their order; and without the steps that alter, insert, lose, repeat or have a user
+/// release, and where no timer ran out at a tick, the link keeps its order and is loss-free.
+pub fn steps()
+    ensures { (plan : Plan) (steps : List Step) → Steps plan steps }
+{
+    safety_automaton::laws::steps();
+    drill_model::laws::histories();
+    drill_model::laws::runs_grow();
+}
+
+/// What a side of a safe connection heard is what the line brought it: at level safe the SaPDU that was passed to it last, at level full a text that
+/// its layers made of a frame which the octets closed that were passed to it last, behind all that were passed before.
+pub fn heard()
+    ensures { (plan : Plan) (steps : List Step) → HeardIsBrought plan steps }
+{
+    safety_automaton::laws::steps();
+    end_model::laws::events_give();
+    drill_model::laws::histories();
+}
+
+/// What the user of an end took is a prefix of what the end accepted, whatever the steps.
+pub fn takes()
+    ensures { (plan : Plan) (steps : List Step) → TakesInOrder plan steps }
+{
+    safety_automaton::laws::steps();
+    drill_model::laws::stacks_report();
+    drill_model::laws::histories();
+}
+
+/// On a link of level link or full that keeps its order, whatever it loses and repeats, nothing is forged where the keys agree, also where an end is
+/// released.
+pub fn order_is_unforged()
+    ensures { (plan : Plan) (steps : List Step) → AllFit steps → AllAllowed plan.settings → OrderIsUnforged plan steps }
+{
+    end_pair::laws::in_step_while_ordered();
+    stack_laws();
+    station_laws();
+    drill_model::laws::histories();
 }

@@ -7,7 +7,7 @@ use Rattle.safety_automaton.specs.Safety.{Safety, SafetyEvent, ConnectRequest, R
 use Rattle.safety_automaton.specs.Safety as safety
 use Rattle.safe_pair.specs.Facts.{Sent, Sealed, Verified, Connected, Accepted, heard_in}
 use Rattle.station_model.specs.Stations.{Station}
-use Rattle.station_pair.specs.Links.{news}
+use Rattle.station_model.specs.Events.{news}
 use Rattle.end_model.specs.Ends.{End as Stack}
 use Rattle.drill_model.specs.StackEnds.{stack_begins, stack_hears, stack_sends, stack_takes, stack_releases, stack_ticks}
 use Rattle.drill_model.specs.StationEnds.{begins, frames_heard, user_sends, user_releases, time_goes_on}

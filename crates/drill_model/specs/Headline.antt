@@ -1,36 +1,30 @@
 -- What is claimed of every list of steps, of each link of their world, by its level.
-use Rattle.std.specs.Prelude.{ℕ, ◌≡◌, ◌⊎◌, ◌≤◌, ◌==◌, ◌&&◌, false, if◌then◌else◌, List, [], ◌∷◌, ◌++◌, length, take, Option, Some, None, option_map}
-use Rattle.std.specs.List.{list_any, flat_map, AllByRecursion}
+use Rattle.std.specs.Prelude.{ℕ, ◌≡◌, ◌≤◌, ◌==◌, ◌&&◌, false, if◌then◌else◌, List, [], ◌∷◌, ◌++◌, length, Option, Some, None, option_map}
+use Rattle.std.specs.List.{list_any, AllByRecursion}
 use Rattle.er_base.specs.declared.release.Release.{Release}
+use Rattle.er_base.specs.declared.side.Side.{Side}
 use Rattle.er_base.specs.declared.side.Side.TheVariants.{E, R}
 use Rattle.er_settings.specs.declared.settings.Settings.{Settings}
 use Rattle.er_settings.specs.Ranges.{AllAllowed}
 use Rattle.er_scenario.specs.declared.step.Step.{Step}
 use Rattle.er_scenario.specs.declared.step.Step.TheVariants as does
-use Rattle.des_block.specs.declared.triple_key.TripleKey.{TripleKey}
 use Rattle.safe_pair.specs.Facts.{marked}
 use Rattle.safe_pair.specs.Openings.{OfKeys}
 use Rattle.safe_pair.specs.Authentic.{Authentic}
 use Rattle.safe_pair.specs.Deliveries.{IsConnectedPhase}
 use Rattle.station_model.specs.declared.phase.Phase.TheVariants as phase
-use Rattle.station_model.specs.Stations.{Station}
-use Rattle.station_pair.specs.Links.{news}
-use Rattle.drill_model.specs.Outcomes.{Outcome, Occurrence, facts_in}
-use Rattle.end_model.specs.Layers.{model}
-use Rattle.end_model.specs.Steps.{begins_at}
-use Rattle.end_model.specs.Ends.{End as Stack}
-use Rattle.end_model.specs.Ends as stacks
-use Rattle.drill_model.specs.StationEnds.{heard_parts}
-use Rattle.drill_model.specs.StackEnds.{stack_parts}
-use Rattle.drill_model.specs.Ends.{End, OfSafe, OfStation, OfStack, EndEvent, station_end_step, stack_end_step, end_step}
-use Rattle.drill_model.specs.Ends as event
+use Rattle.station_model.specs.Lines as lines
+use Rattle.station_model.specs.Lines.{IsPrefix}
+use Rattle.end_model.specs.Reasons as reasons
+use Rattle.drill_model.specs.Outcomes.{Occurrence, facts_in}
+use Rattle.drill_model.specs.Ends.{End, OfSafe, OfStation, OfStack}
 use Rattle.drill_model.specs.Links.{LinkOpening, OfPair, OfStations, OfStacks, Link}
 use Rattle.drill_model.specs.Steps.{AllFit}
-use Rattle.drill_model.specs.Worlds.{Plan, Came, is_link, link_at, history_on, fixed_opening, link_opening, wire_opening, overfull_side, drain, world_run}
+use Rattle.drill_model.specs.Worlds.{Plan, is_link, link_at, history_on, fixed_opening, link_opening, wire_opening, overfull_side, drain, world_run}
 use Rattle.drill_model.specs.Faults.{fault_behind}
-use Rattle.drill_model.specs.Marks.{MarkedOccurrence, MarkedCame, MarkedOn, MarkedDrain, marks_behind, marks_from}
-use Rattle.drill_model.specs.Texts.{place_of}
-use Rattle.drill_model.specs.Kinds.{sent_by, accepted_by, releases_in, deliveries, IsOrderKeeping, IsLossFree, bound}
+use Rattle.drill_model.specs.Kinds.{sent_by, accepted_by, taken_by, releases_in, deliveries, IsOrderKeeping, EndsAgree, IsLossFree, bound}
+use Rattle.drill_model.specs.Effects.{Steps}
+use Rattle.drill_model.specs.Hearing.{HeardIsBrought}
 
 -- ---- authentic messages and peers
 
@@ -112,9 +106,6 @@ FitsSteps steps (OfStacks engine rbc ke kr ra rb) = AllFit steps
 
 -- ---- a line that only loses and repeats
 
-abbrev pub IsPrefix : List (List ℕ) → List (List ℕ) → Type 0
-IsPrefix xs ys = xs ≡ take (length xs) ys
-
 -- what an end accepted is a prefix of what the other sent
 pub record IsInOrder (history : List Occurrence) : Type 0 where
   pub at_r : IsPrefix (accepted_by R history) (sent_by E history)
@@ -133,13 +124,8 @@ InOrderAlways =
 -- for the set-up was spent; each by the own end or by the peer
 abbrev pub IsLosingLineReason : LinkOpening → Release → Type 0
 IsLosingLineReason (OfPair opening) release = Unit {0}
-IsLosingLineReason OfStations release =
-    (release.by_peer ≡ false)
-    × ((release.reason ≡ 0) ⊎ ((release.reason ≡ 1) × ((release.sub ≡ 1) ⊎ (release.sub ≡ 2) ⊎ (release.sub ≡ 4))))
-IsLosingLineReason (OfStacks engine rbc ke kr ra rb) release =
-    kr ≡ Some ke
-    → (release.reason ≡ 0) ⊎ ((release.reason ≡ 1) × ((release.sub ≡ 1) ⊎ (release.sub ≡ 2) ⊎ (release.sub ≡ 4)))
-    ⊎ ((release.reason ≡ 6) × (release.sub ≡ 1))
+IsLosingLineReason OfStations release = lines.IsLosingLineReason release
+IsLosingLineReason (OfStacks engine rbc ke kr ra rb) release = kr ≡ Some ke → reasons.IsLosingLineReason release
 
 -- of each release that came
 abbrev pub LosingLineReasonsAlways : Type 0
@@ -148,6 +134,13 @@ LosingLineReasonsAlways =
     → FitsSettings plan.settings l.opening → FitsSteps steps l.opening
     → IsOrderKeeping l.opening (history_on n (world_run plan steps).1)
     → AllByRecursion (IsLosingLineReason l.opening) (releases_in (history_on n (world_run plan steps).1))
+
+-- ---- what users take
+
+-- what the user of an end took is a prefix of what the end accepted
+abbrev pub TakesInOrder : Plan → List Step → Type 0
+TakesInOrder plan steps =
+    (n : ℕ) (side : Side) → IsPrefix (taken_by side (history_on n (world_run plan steps).1)) (accepted_by side (history_on n (world_run plan steps).1))
 
 -- ---- delivery
 
@@ -194,6 +187,13 @@ IsDelivered (OfStacks engine rbc ke kr ra rb) history l = HasAll history l
 abbrev pub IsUnforged : List Occurrence → Type 0
 IsUnforged history = list_any (λ f. f.forged) (marked (facts_in history)) ≡ false
 
+-- on a link that keeps its order and whose ends agree, nothing is forged
+abbrev pub OrderIsUnforged : Plan → List Step → Type 0
+OrderIsUnforged plan steps =
+    (n : ℕ) (l : Link) → link_at (world_run plan steps).0 n ≡ Some l
+    → IsOrderKeeping l.opening (history_on n (world_run plan steps).1) → EndsAgree l.opening
+    → IsUnforged (history_on n (world_run plan steps).1)
+
 -- a loss-free link: nothing is forged; no more deliveries than the bound, ever; once it is empty, all is delivered; and where
 -- not too many frames wait, a drain of at least as many passes as the bound leaves none waiting
 pub record Delivers (settings : Settings) (history : List Occurrence) (l : Link) : Type 0 where
@@ -211,52 +211,27 @@ DeliversAlways =
     → IsLossFree l.opening (history_on n (world_run plan steps).1)
     → Delivers plan.settings (history_on n (world_run plan steps).1) l
 
--- ---- what is printed
+-- ---- the claim
 
--- the marks at link n among those of a world
-abbrev pub marks_at : ℕ → MarkedCame → List MarkedOccurrence
-marks_at n (MarkedOn link m) = if link == n then m ∷ [] else []
-marks_at n (MarkedDrain link passes) = []
-
-abbrev pub marks_on : ℕ → List MarkedCame → List MarkedOccurrence
-marks_on n marks = flat_map (marks_at n) marks
-
--- each link's occurrences are printed with the marks by which they are judged, those of its own facts
-abbrev pub PrintedAsMarked : Type 0
-PrintedAsMarked = (n : ℕ) (came : List Came) → marks_on n (marks_from [] came) ≡ marks_behind [] (history_on n came)
-
--- numbers that don't fall
-abbrev pub IsRising : List ℕ → Type 0
-IsRising [] = Unit {0}
-IsRising (n ∷ []) = Unit {0}
-IsRising (n ∷ m ∷ more) = (n ≤ m) × IsRising (m ∷ more)
-
--- the outcomes of an event at an end in parts: of octets in which several frames close, one part a frame
-abbrev pub station_parts : (moment : ℕ) → Station → (stream : List ℕ) → EndEvent → List (List Outcome)
-station_parts moment s stream event.Start = (station_end_step moment s stream event.Start).1 ∷ []
-station_parts moment s stream (event.Receive octets) = heard_parts moment (news stream octets) s
-station_parts moment s stream (event.Send payload) = (station_end_step moment s stream (event.Send payload)).1 ∷ []
-station_parts moment s stream event.Take = (station_end_step moment s stream event.Take).1 ∷ []
-station_parts moment s stream (event.Release sub) = (station_end_step moment s stream (event.Release sub)).1 ∷ []
-station_parts moment s stream event.Tick = (station_end_step moment s stream event.Tick).1 ∷ []
-
-abbrev pub parts_of_stack : (ℕ → ℕ → Option TripleKey) → (moment : ℕ) → Stack → EndEvent → List (List Outcome)
-parts_of_stack key_of moment m event.Start = (stack_end_step key_of moment m event.Start).1 ∷ []
-parts_of_stack key_of moment m (event.Receive octets) =
-    stack_parts (λ now. key_of) moment (stacks.news m.stream octets) (begins_at model moment m.core)
-parts_of_stack key_of moment m (event.Send user) = (stack_end_step key_of moment m (event.Send user)).1 ∷ []
-parts_of_stack key_of moment m event.Take = (stack_end_step key_of moment m event.Take).1 ∷ []
-parts_of_stack key_of moment m (event.Release sub) = (stack_end_step key_of moment m (event.Release sub)).1 ∷ []
-parts_of_stack key_of moment m event.Tick = (stack_end_step key_of moment m event.Tick).1 ∷ []
-
-abbrev pub parts_of : (ℕ → ℕ → Option TripleKey) → (moment : ℕ) → End → EndEvent → List (List Outcome)
-parts_of key_of moment (OfSafe s) event = (end_step key_of moment (OfSafe s) event).1 ∷ []
-parts_of key_of moment (OfStation s stream) event = station_parts moment s stream event
-parts_of key_of moment (OfStack m) event = parts_of_stack key_of moment m event
-
--- the parts are all that came of the event, and the lines of each come in the order of the table of lines
-abbrev pub LinesInOrder : Type 0
-LinesInOrder =
-    (key_of : ℕ → ℕ → Option TripleKey) (moment : ℕ) (end : End) (event : EndEvent)
-    → (flat_map (λ part. part) (parts_of key_of moment end event) ≡ (end_step key_of moment end event).1)
-    × AllByRecursion (λ part. IsRising (flat_map place_of part)) (parts_of key_of moment end event)
+-- what is claimed of the world that a list of steps leads to: each link has the opening of the step that opened it; what was sent, passed,
+-- lost, repeated, altered, inserted, released by a user and found expired there is what the steps say; at each link the messages and the peers
+-- are authentic, and what was heard is what the line brought; what a user took is a prefix of what its end accepted; where the link keeps its
+-- order, what an end accepted is a prefix of what the other sent, each release has one of the reasons of a line that only loses and repeats, and
+-- where the ends agree nothing is forged; where it is loss-free, all is delivered within its bound; and at most 4,096 frames wait in one direction
+pub record Holds (plan : Plan) (all : List Step) : Type 0 where
+  pub opens : (n : ℕ) → option_map (λ l. l.opening) (link_at (world_run plan all).0 n) ≡ opening_of plan n all
+  pub steps : Steps plan all
+  pub lawful : (n : ℕ) → LawfulAt (link_at (world_run plan all).0 n) (history_on n (world_run plan all).1)
+  pub heard : HeardIsBrought plan all
+  pub takes : TakesInOrder plan all
+  pub in_order : (n : ℕ) (l : Link) → link_at (world_run plan all).0 n ≡ Some l
+      → IsOrderKeeping l.opening (history_on n (world_run plan all).1)
+      → IsInOrder (history_on n (world_run plan all).1)
+  pub reasons : (n : ℕ) (l : Link) → link_at (world_run plan all).0 n ≡ Some l
+      → IsOrderKeeping l.opening (history_on n (world_run plan all).1)
+      → AllByRecursion (IsLosingLineReason l.opening) (releases_in (history_on n (world_run plan all).1))
+  pub unforged : OrderIsUnforged plan all
+  pub delivers : (n : ℕ) (l : Link) → link_at (world_run plan all).0 n ≡ Some l
+      → IsLossFree l.opening (history_on n (world_run plan all).1)
+      → Delivers plan.settings (history_on n (world_run plan all).1) l
+  pub room : (n : ℕ) (l : Link) → link_at (world_run plan all).0 n ≡ Some l → overfull_side l ≡ None

@@ -1,7 +1,7 @@
 -- What a link is and had so far, told by the one list of what came at it: its kind, the messages that were sent and accepted, counts and
 -- bounds (this profile).
-use Rattle.std.specs.Prelude.{ℕ, ◌+◌, ◌-◌, ◌*◌, ◌/◌, ◌≡◌, Bool, true, false, if◌then◌else◌, List, [], ◌∷◌, length, Some}
-use Rattle.std.specs.List.{flat_map, list_any, sum_by}
+use Rattle.std.specs.Prelude.{ℕ, ◌+◌, ◌≡◌, Bool, true, false, if◌then◌else◌, List, [], ◌∷◌, length, Some}
+use Rattle.std.specs.List.{flat_map, list_any}
 use Rattle.er_base.specs.declared.side.Side.{Side}
 use Rattle.er_base.specs.declared.side.Side.TheVariants.{E, R}
 use Rattle.er_base.specs.declared.release.Release.{Release}
@@ -9,6 +9,8 @@ use Rattle.er_settings.specs.declared.settings.Settings.{Settings}
 use Rattle.safe_pair.specs.Facts.{is_side}
 use Rattle.safe_pair.specs.Openings.{Agrees}
 use Rattle.safe_pair.specs.Deliveries as pair
+use Rattle.station_model.specs.Lines.{station_bound}
+use Rattle.end_model.specs.Bounds.{end_bound}
 use Rattle.drill_model.specs.Outcomes.{Outcome, OfSafety, Handed, Arrived, Up, Took, NothingToTake, Refused, Released, Frame, Expired, UserReleased, Passed, Lost, Repeated, Altered, Inserted, NothingWaits, IsShort, Occurrence}
 use Rattle.drill_model.specs.Links.{LinkOpening, OfPair, OfStations, OfStacks}
 
@@ -62,6 +64,30 @@ sent_by side history = flat_map (λ o. if is_side side o.side then sent_in o.out
 
 abbrev pub accepted_by : Side → List Occurrence → List (List ℕ)
 accepted_by side history = flat_map (λ o. if is_side side o.side then accepted_in o.outcome else []) history
+
+-- a message that the user took
+abbrev pub took_in : Outcome → List (List ℕ)
+took_in (OfSafety fact) = []
+took_in (Handed payload) = []
+took_in (Arrived payload) = []
+took_in Up = []
+took_in (Took message) = message ∷ []
+took_in NothingToTake = []
+took_in (Refused refusal) = []
+took_in (Released release) = []
+took_in (Frame octets) = []
+took_in Expired = []
+took_in (UserReleased sub) = []
+took_in (Passed octets) = []
+took_in Lost = []
+took_in Repeated = []
+took_in Altered = []
+took_in Inserted = []
+took_in NothingWaits = []
+took_in (IsShort found) = []
+
+abbrev pub taken_by : Side → List Occurrence → List (List ℕ)
+taken_by side history = flat_map (λ o. if is_side side o.side then took_in o.outcome else []) history
 
 -- ---- releases
 
@@ -190,19 +216,10 @@ pub record IsLossFree (opening : LinkOpening) (history : List Occurrence) : Type
 
 -- ---- bounds
 
--- the segments of a message of so many octets at level full: its SaPDU has nine octets more, and a segment has the octets of a TPDU but
--- for five; rounded up
-abbrev pub segments : Settings → (length : ℕ) → ℕ
-segments settings n = (n + 9 + (settings.size - 6)) / (settings.size - 5)
-
-abbrev pub segments_of : Settings → List (List ℕ) → ℕ
-segments_of settings messages = sum_by (λ message. segments settings (length message)) messages
-
 -- Bound: at level safe one delivery for each message that was sent, and four for a set-up; at level link two for each payload, its I frame and
 -- the answer, and two for the set-up frame and its answer; at level full four for each segment of a message, a DT and an AK with the answer of
 -- each, and fourteen for the set-up of the four layers
 abbrev pub bound : Settings → LinkOpening → List Occurrence → ℕ
 bound settings (OfPair opening) history = pair.set_up_sapdus opening + (length (sent_by E history) + length (sent_by R history))
-bound settings OfStations history = 2 + 2 * (length (sent_by E history) + length (sent_by R history))
-bound settings (OfStacks engine rbc ke kr ra rb) history =
-    14 + 4 * (segments_of settings (sent_by E history) + segments_of settings (sent_by R history))
+bound settings OfStations history = station_bound (length (sent_by E history)) (length (sent_by R history))
+bound settings (OfStacks engine rbc ke kr ra rb) history = end_bound settings (sent_by E history) (sent_by R history)

@@ -10,10 +10,15 @@ pub mod Worlds
 pub mod Faults
 pub mod Marks
 pub mod Kinds
+pub mod Effects
+pub mod Hearing
 pub mod Totals
 pub mod Texts
 pub mod Headline
+pub mod Printing
 pub mod KnownAnswers
 pub mod KnownPayloads
 pub mod KnownStacks
+pub mod KnownEffects
+pub mod KnownMessages
 pub mod Growth

@@ -3,12 +3,11 @@
 use Rattle.std.specs.Prelude.{ℕ, Bool, ◌&&◌, ◌||◌, not, List, [], ◌∷◌, ◌++◌, map, Option, Some, None, is_some}
 use Rattle.hdlc_frames.specs.Framing.{Verdict}
 use Rattle.safe_pair.specs.Facts.{facts_of}
-use Rattle.station_pair.specs.Links.{said_octets}
-use Rattle.station_pair.specs.Steps.{is_late}
+use Rattle.station_model.specs.Events.{said_octets, is_late, news}
 use Rattle.end_model.specs.Outcomes as end
 use Rattle.end_model.specs.Layers.{Spoken, Core, model}
 use Rattle.end_model.specs.Steps.{Finds, begins_at, comes, refusal_of, is_spent}
-use Rattle.end_model.specs.Ends.{End as Stack, Event, Start, Come, Send, Take, Leave, Tick, news, step}
+use Rattle.end_model.specs.Ends.{End as Stack, Event, Start, Come, Send, Take, Leave, Tick, step}
 use Rattle.drill_model.specs.Outcomes.{SendRefusal, RefusedReleased, RefusedNotConnected, RefusedLength, RefusedFull, Outcome, OfSafety, Took, NothingToTake, Refused, Frame}
 use Rattle.drill_model.specs.StationEnds.{if_released, if_expired}
 

@@ -6,8 +6,7 @@ use Rattle.hdlc_frames.specs.Framing.{Verdict}
 use Rattle.station_model.specs.Stations.{Station, settled, is_down}
 use Rattle.station_model.specs.Sending.{waiting}
 use Rattle.station_model.specs.Calls.{starts, receives, hands, finishes, ticks}
-use Rattle.station_pair.specs.Links.{said_octets}
-use Rattle.station_pair.specs.Steps.{quits, is_late}
+use Rattle.station_model.specs.Events.{said_octets, quits, is_late}
 use Rattle.drill_model.specs.Outcomes.{SendRefusal, RefusedReleased, RefusedLength, RefusedFull, Outcome, Handed, Arrived, Up, Refused, Released, Frame, Expired}
 
 -- ---- a call

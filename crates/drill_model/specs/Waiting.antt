@@ -1,6 +1,6 @@
 -- What the line does to the frames of one direction that wait, the first to be passed first (this profile).
-use Rattle.std.specs.Prelude.{ℕ, ◌==◌, nat_lt, not, if◌then◌else◌, List, [], ◌∷◌, length, slice_index, slice_set}
-use Rattle.std.specs.Int.Bits.{bit_xor}
+use Rattle.std.specs.Prelude.{ℕ, ◌==◌, nat_lt, not, if◌then◌else◌, List, [], ◌∷◌, length}
+use Rattle.station_model.specs.Lines.{altered}
 use Rattle.drill_model.specs.Outcomes.{Outcome, Lost, Repeated, Altered, Inserted, NothingWaits, IsShort}
 
 pub data LineChange : Type 0 where
@@ -20,10 +20,6 @@ loses (frame ∷ frames) = (frames, Lost ∷ [])
 abbrev pub repeats : List (List ℕ) → List (List ℕ) × List Outcome
 repeats [] = ([], NothingWaits ∷ [])
 repeats (frame ∷ frames) = (frame ∷ frame ∷ frames, Repeated ∷ [])
-
--- a frame with one octet changed
-abbrev pub altered : List ℕ → (place mask : ℕ) → List ℕ
-altered frame place mask = slice_set frame place (bit_xor (slice_index frame place) mask)
 
 -- the mask 0 changes nothing
 abbrev pub alters : (place mask : ℕ) → List (List ℕ) → List (List ℕ) × List Outcome

@@ -11,6 +11,7 @@ use Rattle.er_scenario.specs.declared.level.Level.TheVariants as level
 use Rattle.er_scenario.specs.declared.step.Step.{Step}
 use Rattle.er_scenario.specs.declared.step.Step.TheVariants as does
 use Rattle.er_scenario.specs.declared.scenario.Scenario.{Scenario}
+use Rattle.station_model.specs.Lines.{next_of}
 use Rattle.safe_pair.specs.Facts.{SideFact}
 use Rattle.safe_pair.specs.Openings.{OfFixed, OfKeys}
 use Rattle.drill_model.specs.Outcomes.{NothingWaits, Occurrence, at_end, facts_in}
@@ -99,12 +100,7 @@ abbrev pub at_link : World → ℕ → Option Link → LinkStep → World × Lis
 at_link w n None s = (w, [])
 at_link w n (Some l) s = went_on w n (link_step l s)
 
--- the end whose frame a drain passes next: e where a frame of e waits, else r where one of r waits
-abbrev pub next_of : List (List ℕ) → List (List ℕ) → Option Side
-next_of (frame ∷ frames) from_r = Some E
-next_of [] (frame ∷ frames) = Some R
-next_of [] [] = None
-
+-- the end whose frame a drain passes next
 abbrev pub next_side : Link → Option Side
 next_side l = next_of l.from_e l.from_r
 

@@ -8,7 +8,8 @@ use Rattle.safe_pair.specs.Facts.{marked}
 use Rattle.drill_model.specs.Outcomes.{Occurrence, facts_in}
 use Rattle.drill_model.specs.Waiting.{changes}
 use Rattle.drill_model.specs.Links.{Link, key_on}
-use Rattle.drill_model.specs.Worlds.{Drain, drain, next_of}
+use Rattle.station_model.specs.Lines.{next_of}
+use Rattle.drill_model.specs.Worlds.{Drain, drain}
 use Rattle.drill_model.specs.Marks.{marks_behind}
 use Rattle.drill_model.specs.Texts.{link_lines}
 use Rattle.er_world.specs.declared.waiting.Change.{Change}

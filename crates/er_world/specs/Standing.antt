@@ -1,4 +1,4 @@
--- Representation: where a world of the code stands among the worlds of the model; what a caller names of it is `Ran` and `spent`.
+-- Contract: where a world of the code stands among the worlds of the model; what a caller names of it is `Ran` and `spent`.
 use Rattle.std.specs.Prelude.{◌≡◌, Bool, true, false, List, [], ◌∷◌, ◌++◌, ℕ, slice_get, Option, Some, None}
 use Rattle.er_scenario.specs.declared.step.Step.{Step}
 use Rattle.drill_model.specs.declared.world_fault.WorldFault.{WorldFault}

@@ -1,6 +1,6 @@
 use Rattle.std.proofs.lemmas.Result.{on_ok_weaker}
 use Rattle.drill_model.specs.StationEnds.{begins, frames_heard, user_sends, user_releases, time_goes_on}
-use Rattle.station_pair.specs.Links.{news}
+use Rattle.station_model.specs.Events.{news}
 use Rattle.std.proofs.Common.{◌++◌}
 use Rattle.drill_ends.proofs.StationRows.{went_so}
 use Rattle.drill_ends.proofs.station_end.StationEnd.tell.Goals as goal

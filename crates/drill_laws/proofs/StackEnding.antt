@@ -1,0 +1,334 @@
+-- An event that releases a stack hands no message to its transport, gives no CC, and in it the safety side seals and verifies nothing.
+use Rattle.std.proofs.Common.{◌≡◌, ◌⊎◌, inl, inr, ℕ, zero, suc, ◌+◌, ◌-◌, length, if◌then◌else◌, true, false, Bool, List, [], ◌∷◌, ◌++◌, refl, ap, ◌∙◌}
+use Rattle.std.specs.Prelude.{◌&&◌, ◌==◌, not, nat_lt, nat_le, Option, Some, None, is_some, Result, Ok, Err}
+use Rattle.er_base.specs.declared.release.Release.{Release}
+use Rattle.er_base.specs.declared.cause.Cause.TheVariants.{User, BlockRefused, SetUpTimeSpent}
+use Rattle.er_base.specs.Causes.{release_of, by_this_end}
+use Rattle.hdlc_frames.specs.Framing.{Verdict}
+use Rattle.station_model.specs.Stations.{Deed as LinkDeed}
+use Rattle.t70_header.specs.Joining as joining
+use Rattle.x224_tpdu.specs.Spelling.{Pdu, connection_request, connection_confirm, disconnect_request, disconnect_confirm, data_tpdu, acknowledgement, tpdu_error}
+use Rattle.x224_tpdu.specs.declared.fault.TpFault.{TpFault}
+use Rattle.x224_tpdu.specs.Function.{reading}
+use Rattle.x224_class2.specs.Segments.{Segment, text_so_far}
+use Rattle.x224_class2.specs.Tpdus.{Given, Dr, Dc}
+use Rattle.x224_class2.specs.Transport.{Transport, Deed, Nothing, Called, Confirmed, Message, Disconnected, is_new, is_calling, is_open, is_over, refusal, on_request, on_confirm, on_disconnect, is_expected, on_data, number_named, on_named, on_acknowledgement, on_reading, reception, turn_of, next_tpdu, tpdu_at, Turn, Rest, Opening, Acknowledgement, Data}
+use Rattle.x224_class2.specs.Transport as transport
+use Rattle.x224_class2.specs.Refusals.{protocol_error, tpdu_refused, message_too_long}
+use Rattle.sapdu.specs.Spelling.{di_in}
+use Rattle.safety_automaton.specs.Keys.{no_keys}
+use Rattle.safety_automaton.specs.Rules.{StepsOnly, IsStep}
+use Rattle.safety_automaton.specs.Reports.{report_of}
+use Rattle.safety_automaton.specs.Safety.{Safety, SafetyEvent, ConnectRequest, Received, DataRequest, DisconnectRequest, SafetyOutcome, SentAu1, SentAu2, SentAu3, SentAr, ReceivedAr, AcceptedDt, SentDt, ReleasedLocally, ReleasedByPeer, NothingDone, peer_flag, sent_by, step}
+use Rattle.safety_automaton.specs.Safety as safety
+use Rattle.safe_pair.specs.Facts.{facts_of}
+use Rattle.end_model.specs.Outcomes.{SendRefusal}
+use Rattle.end_model.specs.Layers.{Spoken, Core, model}
+use Rattle.end_model.specs.Steps.{Finds, begins_at, ends, gives, shuts, finishes, departs, cut_off, deserted, parts, why_of, spoken, is_some_octets, says, accepts, skips, Carrier, InCr, InCc, InDt, answers, keeps, acts, text_comes, does, block_at, is_ready, connects, comes_up, link_at, link_comes, gives_next, goes_on, offers, most_offers, concludes, starts, comes, refusal_of, sends_unless, uses, leaves, is_spent, di_of, time_at, ticks, normal_disconnect}
+use Rattle.end_pair.specs.Ordered.{is_cc, begins_with_cc}
+use Rattle.drill_laws.proofs.StackCalls.{facts_spoken}
+
+-- ---- a reception hands nothing and gives nothing
+
+abbrev SameOf : Transport → Transport → Type 0
+SameOf t u = (u.segments ≡ t.segments) × (u.gave ≡ t.gave)
+
+same_if : (t : Transport) (b : Bool) (x y : Transport × Deed) → SameOf t x.0 → SameOf t y.0 → SameOf t (if b then x else y).0
+same_if t true x y hx hy = hx
+same_if t false x y hx hy = hy
+
+refused_same : (t : Transport) (sub reason : ℕ) → SameOf t (refusal t sub reason).0
+refused_same t sub reason = (refl, refl)
+
+named_same : (t : Transport) (credit : ℕ) (named : Option ℕ) → SameOf t (on_named t credit named).0
+named_same t credit None = (refl, refl)
+named_same t credit (Some n) = same_if t (nat_lt (n + credit) t.edge) (refusal t tpdu_refused protocol_error) _ (refl, refl) (refl, refl)
+
+reading_same : (t : Transport) (read : Result Pdu TpFault) → SameOf t (on_reading t read).0
+reading_same t (Ok (connection_request credit dst src size user)) =
+    same_if t (not t.is_caller && is_new t.stage && (dst == 0) && (src == 1)) _ (refusal t tpdu_refused protocol_error) (refl, refl) (refl, refl)
+reading_same t (Ok (connection_confirm credit dst src size user)) =
+    same_if t (is_calling t.stage && (dst == 1) && (src == 1) && nat_le size t.size) _ (refusal t tpdu_refused protocol_error) (refl, refl) (refl, refl)
+reading_same t (Ok (disconnect_request dst src reason user)) =
+    same_if t (not (is_new t.stage) && (dst == 1) && (src == 1)) _ (refusal t tpdu_refused protocol_error) (refl, refl) (refl, refl)
+reading_same t (Ok (disconnect_confirm dst src)) = (refl, refl)
+reading_same t (Ok (data_tpdu dst last number user)) =
+    let text : List ℕ = text_so_far t.contents ++ user in
+    let got : Transport × Deed = (record t { contents = t.contents ++ (last, user) ∷ [] }, if last then Message text else Nothing) in
+    same_if t (not (is_expected t dst number user)) (refusal t tpdu_refused protocol_error) (if nat_lt 1032 (length text) then refusal t message_too_long protocol_error else got) (refl, refl)
+    (same_if t (nat_lt 1032 (length text)) (refusal t message_too_long protocol_error) got (refl, refl) (refl, refl))
+reading_same t (Ok (acknowledgement credit dst number)) =
+    same_if t (is_open t.stage && (dst == 1)) (on_named t credit (number_named t.acked (t.given - t.acked) number)) (refusal t tpdu_refused protocol_error)
+    (named_same t credit (number_named t.acked (t.given - t.acked) number)) (refl, refl)
+reading_same t (Ok (tpdu_error dst cause)) = (refl, refl)
+reading_same t (Err fault) = (refl, refl)
+
+reception_same : (t : Transport) (tpdu : List ℕ) → SameOf t (reception t tpdu).0
+reception_same t tpdu = same_if t (is_over t.stage) (t, Nothing) (on_reading t (reading tpdu)) (refl, refl) (reading_same t (reading tpdu))
+
+-- a TPDU that is no CC
+other_more : (gave : List Given) (tpdu : Given) → is_cc tpdu ≡ false → begins_with_cc (gave ++ tpdu ∷ []) ≡ begins_with_cc gave
+other_more [] tpdu other = other
+other_more (g ∷ gave) tpdu other = refl
+
+if_core : (P : Core → Type 0) (b : Bool) (x y : Core) → P x → P y → P (if b then x else y)
+if_core P true x y hx hy = hx
+if_core P false x y hx hy = hy
+
+-- ---- within an event, from these segments and this list of TPDUs on
+
+module _ (S : List Segment) (C : Bool) where
+  -- nothing was handed, no CC given, nothing sealed and nothing verified
+  pub record Calm (x : Core) : Type 0 where
+    pub segments_are : x.upper.transport.segments ≡ S
+    pub cc_is : begins_with_cc x.upper.transport.gave ≡ C
+    pub none : facts_spoken x.upper.spoke ≡ []
+
+  -- the end is live, or it is calm
+  abbrev pub Ended : Core → Type 0
+  Ended x = (x.released ≡ None) ⊎ Calm x
+
+  -- the side took no step yet
+  record Fresh (x : Core) : Type 0 where
+    pub live : x.released ≡ None
+    pub segments_are : x.upper.transport.segments ≡ S
+    pub cc_is : begins_with_cc x.upper.transport.gave ≡ C
+    pub silent : x.upper.spoke ≡ None
+
+  calm : (x : Core) → Fresh x → Calm x
+  calm x h = record { segments_are = h.segments_are; cc_is = h.cc_is; none = no_facts x.upper.spoke h.silent }
+    where
+      no_facts : (spoke : Option Spoken) → spoke ≡ None → facts_spoken spoke ≡ []
+      no_facts spoke none = ap facts_spoken none
+
+  -- ---- releases
+
+  gives_calm : (tpdu : Given) (x : Core) → is_cc tpdu ≡ false → Calm x → Calm (gives model tpdu x)
+  gives_calm tpdu x other h =
+      record { segments_are = h.segments_are; cc_is = other_more x.upper.transport.gave tpdu other ∙ h.cc_is; none = h.none }
+
+  same_calm : (x y : Core) → y.upper ≡ x.upper → Calm x → Calm y
+  same_calm x y same h =
+      record {
+        segments_are = ap (λ u. u.transport.segments) same ∙ h.segments_are;
+        cc_is = ap (λ u. begins_with_cc u.transport.gave) same ∙ h.cc_is;
+        none = ap (λ u. facts_spoken u.spoke) same ∙ h.none;
+      }
+
+  departs_calm : (why : Release) (reason : ℕ) (user : List ℕ) (x : Core) → Calm x → Calm (departs model why reason user x)
+  departs_calm why reason user x h =
+      if_core (λ y. Calm (ends why (shuts model y))) (model.may_send x.line) (gives model (Dr reason user) x) x
+      (same_calm (gives model (Dr reason user) x) _ refl (gives_calm (Dr reason user) x refl h)) (same_calm x _ refl h)
+
+  cut_off_calm : (why : Release) (x : Core) → Calm x → Calm (cut_off model why x)
+  cut_off_calm why x h =
+      if_core (λ y. Calm (ends why (finishes model y))) (model.may_send x.line) (gives model Dc x) x
+      (same_calm (gives model Dc x) _ refl (gives_calm Dc x refl h)) (same_calm x _ refl h)
+
+  parts_calm : (why : Release) (di : List ℕ) (x : Core) → Calm x → Calm (parts model why di x)
+  parts_calm why di x h =
+      if_core Calm why.by_peer (deserted model why x) (departs model why normal_disconnect di x) (same_calm x (deserted model why x) refl h) (departs_calm why normal_disconnect di x h)
+
+  -- ---- what keeps an end live
+
+  abbrev Live : Core → Type 0
+  Live x = x.released ≡ None
+
+  says_live : (text : List ℕ) (x : Core) → Live x → Live (says model text x)
+  says_live text x h = if_core Live (is_some_octets text && model.may_hand x.upper) (record x { upper = model.hands_message x.upper text }) x h h
+
+  accepts_live : (text : List ℕ) (x : Core) → Live x → Live (accepts model text x)
+  accepts_live text x h = if_core Live (is_some_octets text) (record x { upper = model.accepts x.upper text }) x h h
+
+  answers_live : (carrier : Carrier) (text : List ℕ) (x : Core) → Live x → Live (answers model carrier text x)
+  answers_live InCr text x h = accepts_live text x h
+  answers_live InCc text x h = says_live text x h
+  answers_live InDt text x h = says_live text (skips model x) h
+
+  keeps_live : (carrier : Carrier) (user : List ℕ) (x : Core) → Live x → Live (keeps model carrier user x)
+  keeps_live InCr user x h = h
+  keeps_live InCc user x h = h
+  keeps_live InDt user x h = h
+
+  offers_released : (n : ℕ) (x : Core) → (offers model n x).released ≡ x.released
+  unfolding offers
+  offers_released zero x = refl
+  offers_released (suc n) x =
+      if_core (λ y. y.released ≡ x.released) (goes_on model x) (offers model n (gives_next model x)) x (offers_released n (gives_next model x)) refl
+
+  concludes_at : (x : Core) (o : Option Release) → x.released ≡ o → Ended x → Ended (if is_some o then x else finishes model (offers model most_offers x))
+  concludes_at x None is h = inl (offers_released most_offers x ∙ is)
+  concludes_at x (Some why) is h = h
+
+  concludes_ended : (x : Core) → Ended x → Ended (concludes model x)
+  concludes_ended x h = concludes_at x x.released refl h
+
+  -- ---- a text comes
+
+  abbrev told : (carrier : Carrier) (event : SafetyEvent) (next : Safety) (outcome : SafetyOutcome) → Core → Core
+  told carrier event next outcome x = acts model carrier (report_of outcome) (sent_by outcome) (spoken model event (next, outcome) x)
+
+  -- a step of the safety side that has no facts
+  spoken_calm : (event : SafetyEvent) (next : Safety) (outcome : SafetyOutcome) (x : Core) → facts_of event outcome ≡ [] → Fresh x
+      → Calm (spoken model event (next, outcome) x)
+  spoken_calm event next outcome x none h = record { segments_are = h.segments_are; cc_is = h.cc_is; none = none }
+
+  acts_ended : (carrier : Carrier) (text : List ℕ) (next : Safety) (outcome : SafetyOutcome) (x : Core) → Fresh x → Ended (told carrier (Received text) next outcome x)
+  acts_ended carrier text next (SentAu1 octets) x h = inl h.live
+  acts_ended carrier text next (SentAu2 session sealed octets) x h = inl (answers_live carrier octets (spoken model (Received text) (next, SentAu2 session sealed octets) x) h.live)
+  acts_ended carrier text next (SentAu3 session verified sealed octets) x h =
+      inl (answers_live carrier octets (spoken model (Received text) (next, SentAu3 session verified sealed octets) x) h.live)
+  acts_ended carrier text next (SentAr c verified sealed octets) x h =
+      inl (answers_live carrier octets (spoken model (Received text) (next, SentAr c verified sealed octets) x) h.live)
+  acts_ended carrier text next (ReceivedAr c verified) x h = inl (answers_live carrier [] (spoken model (Received text) (next, ReceivedAr c verified) x) h.live)
+  acts_ended carrier text next (AcceptedDt session user verified) x h =
+      inl (keeps_live carrier user (spoken model (Received text) (next, AcceptedDt session user verified) x) h.live)
+  acts_ended carrier text next (SentDt session user sealed octets) x h = inl h.live
+  acts_ended carrier text next (safety.Refused refusal) x h = inl h.live
+  acts_ended carrier text next (ReleasedLocally why octets) x h =
+      inr (parts_calm why octets (spoken model (Received text) (next, ReleasedLocally why octets) x) (spoken_calm (Received text) next (ReleasedLocally why octets) x refl h))
+  acts_ended carrier text next (ReleasedByPeer why) x h =
+      inr (parts_calm why [] (spoken model (Received text) (next, ReleasedByPeer why) x) (spoken_calm (Received text) next (ReleasedByPeer why) x refl h))
+  acts_ended carrier text next NothingDone x h = inl h.live
+
+  module _ (finds : Finds) where
+    text_ended : (carrier : Carrier) (text : List ℕ) (x : Core) → Fresh x → Ended (text_comes model finds carrier text x)
+    text_ended carrier text x h =
+        let a : Safety × SafetyOutcome = step (finds x.moment) x.safe.safety (Received text) in
+        acts_ended carrier text a.0 a.1 x h
+
+    does_ended : (deed : Deed) (x : Core) → Fresh x → Ended (does model finds deed x)
+    does_ended Nothing x h = inl h.live
+    does_ended (Called user) x h = text_ended InCr user x h
+    does_ended (Confirmed user) x h = text_ended InCc user x h
+    does_ended (Message message) x h = text_ended InDt message x h
+    does_ended (Disconnected user) x h = inr (cut_off_calm (why_of (di_in user (peer_flag x.safe.safety))) x (calm x h))
+    does_ended (transport.Refused sub reason) x h = inr (departs_calm (by_this_end 2 sub) reason [] x (calm x h))
+
+    block_ended : (answer : joining.Answer) (x : Core) → Fresh x → Ended (block_at model finds answer x)
+    block_ended (Ok None) x h = inl h.live
+    block_ended (Ok (Some tpdu)) x h =
+        let same = reception_same x.upper.transport tpdu in
+        does_ended (model.deed x.upper tpdu) (record x { upper = model.hears x.upper tpdu })
+        (record { live = h.live; segments_are = same.0 ∙ h.segments_are; cc_is = ap begins_with_cc same.1 ∙ h.cc_is; silent = h.silent })
+    block_ended (Err fault) x h = inr (departs_calm (release_of BlockRefused) protocol_error [] x (calm x h))
+
+    comes_up_ended : (x : Core) → Fresh x → Ended (comes_up model x)
+    comes_up_ended x h =
+        let a : Safety × SafetyOutcome = step no_keys x.safe.safety ConnectRequest in
+        let y : Core = spoken model ConnectRequest a x in
+        if_core Ended (model.may_connect x.upper && is_ready x.safe.safety.phase) (connects model (sent_by a.1) y) x
+        (inl (if_core Live (is_some_octets (sent_by a.1)) (record y { upper = model.connects y.upper (sent_by a.1) }) y h.live h.live)) (inl h.live)
+
+    link_ended : (payload : Option (List ℕ)) (up : Bool) (released : Option Release) (x : Core) → Fresh x → Ended (link_at model finds payload up released x)
+    link_ended (Some payload) up released x h =
+        block_ended (joining.step x.joined payload).1 (record x { joined = (joining.step x.joined payload).0 })
+        (record { live = h.live; segments_are = h.segments_are; cc_is = h.cc_is; silent = h.silent })
+    link_ended None true released x h = comes_up_ended x h
+    link_ended None false (Some why) x h = inr (same_calm x (ends why x) refl (calm x h))
+    link_ended None false None x h = inl h.live
+
+-- ---- the events
+
+abbrev pub EndsCalmly : Core → Core → Type 0
+EndsCalmly x y = Ended x.upper.transport.segments (begins_with_cc x.upper.transport.gave) y
+
+-- an event that goes on only where the end is live
+unless : (x y z : Core) (o : Option Release) → x.released ≡ o → z.released ≡ x.released → z.upper.transport.segments ≡ x.upper.transport.segments
+    → begins_with_cc z.upper.transport.gave ≡ begins_with_cc x.upper.transport.gave → z.upper.spoke ≡ None
+    → (x.released ≡ None → EndsCalmly x y) → EndsCalmly x (if is_some o then z else y)
+unless x y z None is same segments cc silent live = live is
+unless x y z (Some why) is same segments cc silent live =
+    inr (record { segments_are = segments; cc_is = cc; none = ap facts_spoken silent })
+
+pub starts_ended : (now : ℕ) (x : Core) → EndsCalmly x (starts model now x)
+starts_ended now x =
+    let y : Core = begins_at model now x in
+    let z : Core = record y { line = model.starts y.moment y.line } in
+    unless x (concludes model z) y x.released refl refl refl refl refl
+    (λ live. concludes_ended x.upper.transport.segments (begins_with_cc x.upper.transport.gave) z (inl live))
+
+pub comes_ended : (finds : Finds) (now : ℕ) (verdict : Verdict) (x : Core) → EndsCalmly x (comes model finds now verdict x)
+comes_ended finds now verdict x =
+    let S : List Segment = x.upper.transport.segments in
+    let C : Bool = begins_with_cc x.upper.transport.gave in
+    let y : Core = begins_at model now x in
+    let z : Core = record y { line = model.receives y.moment verdict y.line } in
+    let deed : LinkDeed = model.told y.moment verdict y.line in
+    unless x (concludes model (link_comes model finds deed z)) y x.released refl refl refl refl refl
+    (λ live. concludes_ended S C (link_comes model finds deed z)
+    (link_ended S C finds deed.payload deed.up deed.released z (record { live = live; segments_are = refl; cc_is = refl; silent = refl })))
+
+-- a send, by whether it is refused
+pub sends_ended : (now : ℕ) (user : List ℕ) (x : Core) (o : Option SendRefusal) → refusal_of model user x ≡ o → (sends_unless model o now user x).released ≡ x.released
+sends_ended now user x (Some refusal) is = refl
+sends_ended now user x None is =
+    let S : List Segment = x.upper.transport.segments in
+    let C : Bool = begins_with_cc x.upper.transport.gave in
+    let y : Core = begins_at model now x in
+    let a : Safety × SafetyOutcome = step no_keys y.safe.safety (DataRequest user) in
+    let z : Core = spoken model (DataRequest user) a y in
+    let w : Core = record z { upper = model.sends z.upper user } in
+    let said : (says model (sent_by a.1) w).released ≡ x.released =
+    if_core (λ v. v.released ≡ x.released) (is_some_octets (sent_by a.1) && model.may_hand w.upper) (record w { upper = model.hands_message w.upper (sent_by a.1) }) w refl refl in
+    concluded (says model (sent_by a.1) w) ∙ said
+  where
+    concluded : (v : Core) → (concludes model v).released ≡ v.released
+    concluded v = if_core (λ u. u.released ≡ v.released) (is_some v.released) v (finishes model (offers model most_offers v)) refl (offers_released [] false most_offers v)
+
+pub uses_ended : (now : ℕ) (x : Core) → EndsCalmly x (uses model now x)
+uses_ended now x =
+    let S : List Segment = x.upper.transport.segments in
+    let C : Bool = begins_with_cc x.upper.transport.gave in
+    let y : Core = begins_at model now x in
+    let z : Core = record y { upper = model.uses y.upper } in
+    let rest : Calm S C y = record { segments_are = refl; cc_is = refl; none = refl } in
+    let taken : Calm S C z = record { segments_are = refl; cc_is = refl; none = refl } in
+    if_core (Ended S C) (model.untaken y.upper == 0) y (concludes model z) (inr rest) (concludes_ended S C z (inr taken))
+
+pub leaves_ended : StepsOnly → (now sub : ℕ) (x : Core) → EndsCalmly x (leaves model now sub x)
+leaves_ended only now sub x =
+    let S : List Segment = x.upper.transport.segments in
+    let C : Bool = begins_with_cc x.upper.transport.gave in
+    let y : Core = begins_at model now x in
+    let a : Safety × SafetyOutcome = step no_keys y.safe.safety (DisconnectRequest sub) in
+    let z : Core = spoken model (DisconnectRequest sub) a y in
+    let none : facts_of (DisconnectRequest sub) a.1 ≡ [] = no_facts y.safe.safety a.0 a.1 sub (only no_keys y.safe.safety (DisconnectRequest sub)) in
+    unless x (departs model (release_of (User sub)) normal_disconnect (sent_by a.1) z) y x.released refl refl refl refl refl
+    (λ live. inr (departs_calm S C (release_of (User sub)) normal_disconnect (sent_by a.1) z (record { segments_are = refl; cc_is = refl; none = none })))
+  where
+    not_received : (sub : ℕ) (octets : List ℕ) → DisconnectRequest sub ≡ Received octets → ⊥
+    not_received sub octets e = cc
+
+    not_data : (sub : ℕ) (user : List ℕ) → DisconnectRequest sub ≡ DataRequest user → ⊥
+    not_data sub user e = cc
+
+    no_facts : (s next : Safety) (outcome : SafetyOutcome) (sub : ℕ) → IsStep no_keys s (DisconnectRequest sub) next outcome → facts_of (DisconnectRequest sub) outcome ≡ []
+    no_facts s next (SentAu1 octets) sub r = refl
+    no_facts s next (SentAu2 session sealed octets) sub r = absurd (not_received sub r.received.octets r.received.event_is)
+    no_facts s next (SentAu3 session verified sealed octets) sub r = absurd (not_received sub r.received.octets r.received.event_is)
+    no_facts s next (SentAr c verified sealed octets) sub r = absurd (not_received sub r.received.octets r.received.event_is)
+    no_facts s next (ReceivedAr c verified) sub r = absurd (not_received sub r.received.octets r.received.event_is)
+    no_facts s next (AcceptedDt session user verified) sub r = absurd (not_received sub r.received.octets r.received.event_is)
+    no_facts s next (SentDt session user sealed octets) sub r = absurd (not_data sub user r.event_is)
+    no_facts s next (safety.Refused refusal) sub r = refl
+    no_facts s next (ReleasedLocally why octets) sub r = refl
+    no_facts s next (ReleasedByPeer why) sub r = refl
+    no_facts s next NothingDone sub r = refl
+
+pub ticks_ended : (now : ℕ) (x : Core) → EndsCalmly x (ticks model now x)
+ticks_ended now x =
+    let S : List Segment = x.upper.transport.segments in
+    let C : Bool = begins_with_cc x.upper.transport.gave in
+    let y : Core = begins_at model now x in
+    let z : Core = record y { line = model.ticks y.moment y.line } in
+    let why : Option Release = model.given_up y.moment y.line in
+    unless x (concludes model (time_at model why z)) y x.released refl refl refl refl refl
+    (λ live. concludes_ended S C (time_at model why z) (time_ended S C why z (record { live = live; segments_are = refl; cc_is = refl; silent = refl })))
+  where
+    time_ended : (S : List Segment) (C : Bool) (why : Option Release) (z : Core) → Fresh S C z → Ended S C (time_at model why z)
+    time_ended S C (Some why) z h = inr (same_calm S C z (ends why z) refl (calm S C z h))
+    time_ended S C None z h =
+        let why : Release = release_of SetUpTimeSpent in
+        if_core (Ended S C) (is_spent z) (departs model why normal_disconnect (di_of why z.safe.safety) z) z
+        (inr (departs_calm S C why normal_disconnect (di_of why z.safe.safety) z (calm S C z h))) (inl h.live)

@@ -1,0 +1,457 @@
+-- What the user of an end took is a prefix of what the end accepted.
+use Rattle.std.proofs.Common.{◌≡◌, inl, inr, ℕ, ◌+◌, ◌-◌, ◌≤◌, ◌<◌, ◌==◌, nat_lt, not, max, if◌then◌else◌, true, false, Bool, List, [], ◌∷◌, ◌++◌, length, map, take, get_or, slice_get, refl, sym, ap, ap₂, subst, ◌∙◌, append-nil, append_assoc, arith}
+use Rattle.std.specs.Prelude.{Option, Some, None}
+use Rattle.std.specs.List.{flat_map}
+use Rattle.std.proofs.lemmas.Bool.{cases_lt, eq-eqb, ne_eqb}
+use Rattle.std.proofs.lemmas.List.{take-append-le, take_more, length-take-le, length-append}
+use Rattle.std.proofs.lemmas.List.Concat.{flat_map-append}
+use Rattle.std.proofs.lemmas.Option.{slice_get-get_or, slice_get_past}
+use Rattle.er_base.specs.declared.release.Release.{Release}
+use Rattle.er_base.specs.declared.side.Side.{Side}
+use Rattle.er_base.specs.declared.side.Side.TheVariants.{E, R}
+use Rattle.er_base.specs.Sides.{other}
+use Rattle.er_settings.specs.declared.settings.Settings.{Settings}
+use Rattle.er_scenario.specs.declared.step.Step.{Step}
+use Rattle.des_block.specs.declared.triple_key.TripleKey.{TripleKey}
+use Rattle.hdlc_frames.specs.Framing.{Verdict}
+use Rattle.safety_automaton.specs.Rules.{StepsOnly}
+use Rattle.safety_automaton.specs.Safety.{Safety, SafetyEvent, SafetyOutcome, SentAu1, SentAu2, SentAu3, SentAr, ReceivedAr, AcceptedDt, SentDt, Refused, ReleasedLocally, ReleasedByPeer, NothingDone}
+use Rattle.safety_automaton.specs.Safety as safety
+use Rattle.safe_pair.specs.Facts.{Fact, is_side, heard_in, facts_of}
+use Rattle.safe_pair.specs.Openings.{OfFixed, OfKeys}
+use Rattle.station_model.specs.Stations.{Station, made, settled, is_down}
+use Rattle.station_model.specs.Sending.{is_due}
+use Rattle.station_model.specs.Calls.{receives, finishes, starts as station_starts, hands as station_hands, ticks as station_ticks}
+use Rattle.station_model.specs.Events.{news, said_octets, news as station_news, quits}
+use Rattle.station_model.specs.Lines.{IsPrefix, altered}
+use Rattle.end_model.specs.Outcomes.{SendRefusal}
+use Rattle.end_model.specs.Layers.{Spoken, Core, model}
+use Rattle.end_model.specs.Steps.{Finds, begins_at, starts, comes, refusal_of, sends_unless, uses, leaves, ticks}
+use Rattle.end_model.specs.Ends.{End as Stack, Event, Start, Come, Send as SendEvent, Take as TakeEvent, Leave, Tick as TickEvent, hears_each, step, finds_expired}
+use Rattle.end_model.specs.Ends as stacks
+use Rattle.drill_model.specs.Outcomes.{Outcome, OfSafety, Frame, UserReleased, Passed, NothingWaits, IsShort, Altered, Occurrence, at_end}
+use Rattle.drill_model.specs.Outcomes as came
+use Rattle.drill_model.specs.StationEnds.{if_up, if_arrived, if_released, if_expired, told_by, called, frames_heard, handed_unless}
+use Rattle.drill_model.specs.StationEnds as station
+use Rattle.drill_model.specs.StackEnds.{facts_told, told_at, stack_told, told_unless, took}
+use Rattle.drill_model.specs.StackReports.{OpensOrderly, CallsReport, IsOrderly}
+use Rattle.drill_model.specs.Ends.{End, OfSafe, OfStation, OfStack, EndEvent, outcomes_by, end_step}
+use Rattle.drill_model.specs.Ends as event
+use Rattle.drill_model.specs.Waiting.{LineChange, Lose, Repeat, Alter, Put, changes}
+use Rattle.drill_model.specs.Links.{Link, LinkOpening, OfPair, OfStations, OfStacks, waiting_of, with_waiting, key_on, give, joined, joined_pair, opened, LinkStep, Send, Pass, Change, Take, Release as ReleaseStep, Tick, pass, link_step}
+use Rattle.drill_model.specs.Worlds.{Plan, link_at, history_on, world_run}
+use Rattle.drill_model.specs.Kinds.{accepted_in, accepted_by, took_in, taken_by}
+use Rattle.drill_model.specs.Headline.{TakesInOrder}
+use Rattle.drill_model.specs.Growth.{HistoryGrows, HistoryOfOwn, HistoryOfOther}
+use Rattle.drill_laws.proofs.StackKeeping.{starts_keep, comes_keep, leaves_keep, ticks_keep, uses_none, uses_one, sends_keep}
+use Rattle.drill_laws.proofs.StackGoing.{Does, stack_does}
+use Rattle.drill_laws.proofs.Worlds.{AtPlace, Keeps as KeepsWorld, world_lives}
+use Rattle.drill_laws.proofs.Wiring.{flat_mapped, accepted_grows, accepted_e_e, accepted_e_r, accepted_r_r, accepted_r_e}
+use Rattle.drill_laws.proofs.Talking.{any_steps}
+
+-- the messages that outcomes say were taken
+abbrev told_taken : List Outcome → List (List ℕ)
+told_taken os = flat_map took_in os
+
+abbrev told_accepted : List Outcome → List (List ℕ)
+told_accepted os = flat_map accepted_in os
+
+taken_append : (xs ys : List Outcome) → told_taken (xs ++ ys) ≡ told_taken xs ++ told_taken ys
+taken_append xs ys = flat_map-append took_in xs ys
+
+-- ---- outcomes that say of no message that it was taken
+
+frames_take : (frames : List (List ℕ)) → told_taken (map Frame frames) ≡ []
+frames_take [] = refl
+frames_take (frame ∷ frames) = frames_take frames
+
+release_takes : (released : Option Release) (frames : List (List ℕ)) → told_taken (if_released released ++ map Frame frames) ≡ []
+release_takes None frames = frames_take frames
+release_takes (Some release) frames = frames_take frames
+
+parts_take : (up : Bool) (payload : Option (List ℕ)) (released : Option Release) (frames : List (List ℕ))
+    → told_taken (((if_up up ++ if_arrived payload) ++ if_released released) ++ map Frame frames) ≡ []
+parts_take true (Some payload) released frames = release_takes released frames
+parts_take true None released frames = release_takes released frames
+parts_take false (Some payload) released frames = release_takes released frames
+parts_take false None released frames = release_takes released frames
+
+call_takes : (s : Station) → told_taken (told_by s) ≡ []
+call_takes s = parts_take s.deed.up s.deed.payload s.deed.released (said_octets s)
+
+heard_take : (moment : ℕ) (vs : List Verdict) (s : Station) → told_taken (frames_heard moment vs s).1 ≡ []
+heard_take moment [] s = refl
+heard_take moment (v ∷ vs) s =
+    let u : Station = finishes (receives moment v s) in
+    taken_append (told_by u) (frames_heard moment vs (settled u)).1
+    ∙ ap₂ (λ (xs ys : List (List ℕ)). xs ++ ys) (call_takes u) (heard_take moment vs (settled u))
+
+if_takes : (b : Bool) (x y : Station × List Outcome) → told_taken x.1 ≡ [] → told_taken y.1 ≡ [] → told_taken (if b then x else y).1 ≡ []
+if_takes true x y hx hy = hx
+if_takes false x y hx hy = hy
+
+handed_takes : (refusal : Option came.SendRefusal) (moment : ℕ) (payload : List ℕ) (s : Station) → told_taken (handed_unless refusal moment payload s).1 ≡ []
+handed_takes (Some refusal) moment payload s = refl
+handed_takes None moment payload s = call_takes (finishes (station_hands moment payload s))
+
+expired_takes : (b : Bool) (os : List Outcome) → told_taken (if_expired b ++ os) ≡ told_taken os
+expired_takes true os = refl
+expired_takes false os = refl
+
+outcome_takes : (heard : List ℕ) (o : SafetyOutcome) → told_taken (outcomes_by heard o) ≡ []
+outcome_takes heard (SentAu1 octets) = refl
+outcome_takes heard (SentAu2 session sealed octets) = refl
+outcome_takes heard (SentAu3 session verified sealed octets) = refl
+outcome_takes heard (SentAr connection verified sealed octets) = refl
+outcome_takes heard (ReceivedAr connection verified) = refl
+outcome_takes heard (AcceptedDt session user verified) = refl
+outcome_takes heard (SentDt session user sealed octets) = refl
+outcome_takes heard (Refused refusal) = refl
+outcome_takes heard (ReleasedLocally release octets) = refl
+outcome_takes heard (ReleasedByPeer release) = refl
+outcome_takes heard NothingDone = refl
+
+facts_take : (fs : List Fact) → told_taken (map OfSafety fs) ≡ []
+facts_take [] = refl
+facts_take (fact ∷ fs) = facts_take fs
+
+spoke_takes : (spoke : Option Spoken) → told_taken (facts_told spoke) ≡ []
+spoke_takes None = refl
+spoke_takes (Some s) = facts_take (facts_of s.event s.outcome)
+
+core_takes : (x : Core) → told_taken (told_at x) ≡ []
+core_takes x =
+    taken_append (facts_told x.upper.spoke) (if_released x.leaves ++ map Frame (said_octets x.line))
+    ∙ ap₂ (λ (xs ys : List (List ℕ)). xs ++ ys) (spoke_takes x.upper.spoke) (release_takes x.leaves (said_octets x.line))
+
+stack_heard_takes : (look : Finds) (moment : ℕ) (vs : List Verdict) (x : Core) → told_taken (stack_told look moment vs x) ≡ []
+stack_heard_takes look moment [] x = refl
+stack_heard_takes look moment (v ∷ vs) x =
+    let y : Core = comes model look moment v x in
+    taken_append (told_at y) (stack_told look moment vs y)
+    ∙ ap₂ (λ (xs ys : List (List ℕ)). xs ++ ys) (core_takes y) (stack_heard_takes look moment vs y)
+
+unless_takes : (refusal : Option SendRefusal) (x : Core) → told_taken (told_unless refusal x) ≡ []
+unless_takes (Some refusal) x = refl
+unless_takes None x = core_takes x
+
+-- ---- an end
+
+-- a stack whose user took so many of the messages that it accepted
+record StackTakes (m : Stack) (taken accepted : List (List ℕ)) : Type 0 where
+  pub orderly : IsOrderly m.core
+  pub accepted_is : m.core.upper.accepted ≡ accepted
+  pub taken_is : taken ≡ take m.core.upper.used m.core.upper.accepted
+  pub within : m.core.upper.used ≤ length m.core.upper.accepted
+
+-- what is taken at levels safe and link counts as taken at once, and is not told
+abbrev TakesAt : End → (taken accepted : List (List ℕ)) → Type 0
+TakesAt (OfSafe s) taken accepted = taken ≡ []
+TakesAt (OfStation s stream) taken accepted = taken ≡ []
+TakesAt (OfStack m) taken accepted = StackTakes m taken accepted
+
+none_more : (taken more : List (List ℕ)) → taken ≡ [] → more ≡ [] → taken ++ more ≡ []
+none_more taken more t m = ap₂ (λ (xs ys : List (List ℕ)). xs ++ ys) t m
+
+-- none was taken in an event
+kept_takes : (m n : Stack) (taken accepted more_taken more : List (List ℕ)) → StackTakes m taken accepted → n.core.upper.used ≡ m.core.upper.used
+    → n.core.upper.accepted ≡ m.core.upper.accepted ++ more → more_taken ≡ [] → IsOrderly n.core → StackTakes n (taken ++ more_taken) (accepted ++ more)
+kept_takes m n taken accepted more_taken more h used grew none orderly =
+    let u : ℕ = m.core.upper.used in
+    let A : List (List ℕ) = m.core.upper.accepted in
+    record {
+      orderly = orderly;
+      accepted_is = grew ∙ ap (λ (xs : List (List ℕ)). xs ++ more) h.accepted_is;
+      taken_is = ap₂ (λ (xs ys : List (List ℕ)). xs ++ ys) h.taken_is none ∙ append-nil (take u A) ∙ sym (take-append-le u A more h.within)
+          ∙ ap₂ (λ (i : ℕ) (xs : List (List ℕ)). take i xs) (sym used) (sym grew);
+      within = subst (λ (xs : List (List ℕ)). n.core.upper.used ≤ length xs) (sym grew) (longer n.core.upper.used u A more used h.within);
+    }
+  where
+    longer : (i u : ℕ) (xs ys : List (List ℕ)) → i ≡ u → u ≤ length xs → i ≤ length (xs ++ ys)
+    longer i u xs ys is within = omega (arith, length-append xs ys)
+
+-- one was taken, the oldest
+one_takes : (m n : Stack) (taken accepted more : List (List ℕ)) (message : List ℕ) → StackTakes m taken accepted → m.core.upper.used < length m.core.upper.accepted
+    → get_or m.core.upper.accepted m.core.upper.used [] ≡ message → n.core.upper.used ≡ m.core.upper.used + 1 → n.core.upper.accepted ≡ m.core.upper.accepted ++ more
+    → IsOrderly n.core → StackTakes n (taken ++ message ∷ []) (accepted ++ more)
+one_takes m n taken accepted more message h waits oldest used grew orderly =
+    let u : ℕ = m.core.upper.used in
+    let A : List (List ℕ) = m.core.upper.accepted in
+    record {
+      orderly = orderly;
+      accepted_is = grew ∙ ap (λ (xs : List (List ℕ)). xs ++ more) h.accepted_is;
+      taken_is = ap₂ (λ (xs : List (List ℕ)) (x : List ℕ). xs ++ x ∷ []) h.taken_is (sym oldest) ∙ sym (take_more A u [] waits)
+          ∙ sym (take-append-le (u + 1) A more (omega arith)) ∙ ap₂ (λ (i : ℕ) (xs : List (List ℕ)). take i xs) (sym used) (sym grew);
+      within = subst (λ (xs : List (List ℕ)). n.core.upper.used ≤ length xs) (sym grew) (longer n.core.upper.used u A more used waits);
+    }
+  where
+    longer : (i u : ℕ) (xs ys : List (List ℕ)) → i ≡ u + 1 → u < length xs → i ≤ length (xs ++ ys)
+    longer i u xs ys is within = omega (arith, length-append xs ys)
+
+module _ (only : StepsOnly) (reports : CallsReport) where
+  -- what is kept of an event in which none is taken
+  stack_keeps : (key_of : ℕ → ℕ → Option TripleKey) (moment : ℕ) (m : Stack) (given : EndEvent) (event : Event) (os : List Outcome) (late : Bool) (taken accepted : List (List ℕ))
+      → StackTakes m taken accepted → Does moment event m os late → (step moment event m).0.core.upper.used ≡ m.core.upper.used → told_taken os ≡ []
+      → StackTakes (step moment event m).0 (taken ++ told_taken os) (accepted ++ told_accepted os)
+  stack_keeps key_of moment m given event os late taken accepted h d used none =
+      kept_takes m (step moment event m).0 taken accepted (told_taken os) (told_accepted os) h used d.says.accepted_is none d.orderly
+
+  heard_used : (look : Finds) (moment : ℕ) (vs : List Verdict) (x : Core) → (hears_each look moment vs x).upper.used ≡ x.upper.used
+  heard_used look moment [] x = refl
+  heard_used look moment (v ∷ vs) x =
+      heard_used look moment vs (comes model look moment v x) ∙ (comes_keep only look moment v x).0
+
+  sent_used : (moment : ℕ) (user : List ℕ) (x : Core) (refusal : Option SendRefusal) → refusal_of model user x ≡ refusal
+      → (sends_unless model refusal moment user x).upper.used ≡ x.upper.used
+  sent_used moment user x (Some refusal) is = refl
+  sent_used moment user x None is = (sends_keep moment user x is).0
+
+  -- the oldest one is taken, where one waits
+  stack_uses : (moment : ℕ) (m : Stack) (taken accepted : List (List ℕ)) → StackTakes m taken accepted
+      → let os = took (model.oldest m.core.upper) ++ told_at (uses model moment m.core) in
+      Does moment TakeEvent m os false → StackTakes (step moment TakeEvent m).0 (taken ++ told_taken os) (accepted ++ told_accepted os)
+  stack_uses moment m taken accepted h d =
+      let u : ℕ = m.core.upper.used in
+      let A : List (List ℕ) = m.core.upper.accepted in
+      let x : Core = uses model moment m.core in
+      let n : Stack = (step moment TakeEvent m).0 in
+      let os : List Outcome = took (slice_get A u) ++ told_at x in
+      elim (cases_lt u (length A)) [
+        | inl waits ↦
+            let message : List ℕ = get_or A u [] in
+            let oldest : slice_get A u ≡ Some message = slice_get-get_or A u [] waits in
+            let some : (length A - u == 0) ≡ false = ne_eqb (length A - u) 0 (λ e. some_left (length A) u waits e) in
+            let tells : told_taken os ≡ message ∷ [] =
+            ap (λ (o : Option (List ℕ)). told_taken (took o ++ told_at x)) oldest ∙ ap (λ (xs : List (List ℕ)). message ∷ xs) (core_takes x) in
+            subst (λ (xs : List (List ℕ)). StackTakes n (taken ++ xs) (accepted ++ told_accepted os)) (sym tells)
+            (one_takes m n taken accepted (told_accepted os) message h waits refl (uses_one moment m.core some).0 d.says.accepted_is d.orderly)
+        | inr past ↦
+            let oldest : slice_get A u ≡ None = slice_get_past A u past in
+            let none : (length A - u == 0) ≡ true = eq-eqb (length A - u) 0 (omega arith) in
+            let tells : told_taken os ≡ [] =
+            ap (λ (o : Option (List ℕ)). told_taken (took o ++ told_at x)) oldest ∙ core_takes x in
+            kept_takes m n taken accepted (told_taken os) (told_accepted os) h (uses_none moment m.core none).0 d.says.accepted_is tells d.orderly
+      ]
+    where
+      some_left : (i j : ℕ) → j < i → i - j ≡ 0 → ⊥
+      some_left i j below e = omega arith
+
+  stack_takes : (key_of : ℕ → ℕ → Option TripleKey) (moment : ℕ) (m : Stack) (given : EndEvent) (taken accepted : List (List ℕ)) → StackTakes m taken accepted
+      → let a = end_step key_of moment (OfStack m) given in TakesAt a.0 (taken ++ told_taken a.1) (accepted ++ told_accepted a.1)
+  stack_takes key_of moment m event.Start taken accepted h =
+      stack_keeps key_of moment m event.Start Start (told_at (starts model moment m.core)) false taken accepted h
+      (stack_does only reports key_of moment m event.Start h.orderly) (starts_keep only moment m.core).0 (core_takes (starts model moment m.core))
+  stack_takes key_of moment m (event.Receive octets) taken accepted h =
+      let x : Core = begins_at model moment m.core in
+      let vs : List Verdict = news m.stream octets in
+      stack_keeps key_of moment m (event.Receive octets) (Come (λ now. key_of) octets) (stack_told (λ now. key_of) moment vs x) false taken accepted h
+      (stack_does only reports key_of moment m (event.Receive octets) h.orderly) (heard_used (λ now. key_of) moment vs x) (stack_heard_takes (λ now. key_of) moment vs x)
+  stack_takes key_of moment m (event.Send user) taken accepted h =
+      let o : Option SendRefusal = refusal_of model user m.core in
+      stack_keeps key_of moment m (event.Send user) (SendEvent user) (told_unless o (sends_unless model o moment user m.core)) false taken accepted h
+      (stack_does only reports key_of moment m (event.Send user) h.orderly) (sent_used moment user m.core o refl) (unless_takes o (sends_unless model o moment user m.core))
+  stack_takes key_of moment m event.Take taken accepted h = stack_uses moment m taken accepted h (stack_does only reports key_of moment m event.Take h.orderly)
+  stack_takes key_of moment m (event.Release sub) taken accepted h =
+      stack_keeps key_of moment m (event.Release sub) (Leave sub) (told_at (leaves model moment sub m.core)) false taken accepted h
+      (stack_does only reports key_of moment m (event.Release sub) h.orderly) (leaves_keep only moment sub m.core).0 (core_takes (leaves model moment sub m.core))
+  stack_takes key_of moment m event.Tick taken accepted h =
+      let late : Bool = finds_expired (begins_at model moment m.core) in
+      stack_keeps key_of moment m event.Tick TickEvent (if_expired late ++ told_at (ticks model moment m.core)) late taken accepted h
+      (stack_does only reports key_of moment m event.Tick h.orderly) (ticks_keep only moment m.core).0
+      (expired_takes late (told_at (ticks model moment m.core)) ∙ core_takes (ticks model moment m.core))
+
+  safe_takes : (key_of : ℕ → ℕ → Option TripleKey) (s : Safety) (given : SafetyEvent) → told_taken (outcomes_by (heard_in given) (safety.step key_of s given).1) ≡ []
+  safe_takes key_of s given = outcome_takes (heard_in given) (safety.step key_of s given).1
+
+  -- an event at an end
+  end_takes : (key_of : ℕ → ℕ → Option TripleKey) (moment : ℕ) (end : End) (given : EndEvent) (taken accepted : List (List ℕ)) → TakesAt end taken accepted
+      → let a = end_step key_of moment end given in TakesAt a.0 (taken ++ told_taken a.1) (accepted ++ told_accepted a.1)
+  end_takes key_of moment (OfSafe s) event.Start taken accepted h = none_more taken _ h (safe_takes key_of s safety.ConnectRequest)
+  end_takes key_of moment (OfSafe s) (event.Receive octets) taken accepted h = none_more taken _ h (safe_takes key_of s (safety.Received octets))
+  end_takes key_of moment (OfSafe s) (event.Send octets) taken accepted h = none_more taken _ h (safe_takes key_of s (safety.DataRequest octets))
+  end_takes key_of moment (OfSafe s) event.Take taken accepted h = none_more taken [] h refl
+  end_takes key_of moment (OfSafe s) (event.Release sub) taken accepted h = none_more taken _ h (safe_takes key_of s (safety.DisconnectRequest sub))
+  end_takes key_of moment (OfSafe s) event.Tick taken accepted h = none_more taken [] h refl
+  end_takes key_of moment (OfStation s stream) event.Start taken accepted h = none_more taken _ h (call_takes (finishes (station_starts moment s)))
+  end_takes key_of moment (OfStation s stream) (event.Receive octets) taken accepted h = none_more taken _ h (heard_take moment (station_news stream octets) s)
+  end_takes key_of moment (OfStation s stream) (event.Send octets) taken accepted h =
+      none_more taken _ h (handed_takes (station.refusal_of s octets s.released) moment octets s)
+  end_takes key_of moment (OfStation s stream) event.Take taken accepted h = none_more taken [] h refl
+  end_takes key_of moment (OfStation s stream) (event.Release sub) taken accepted h =
+      none_more taken _ h (if_takes (is_down s.phase) (s, []) (called (quits sub s)) refl (call_takes (quits sub s)))
+  end_takes key_of moment (OfStation s stream) event.Tick taken accepted h =
+      let u : Station = finishes (station_ticks moment s) in
+      none_more taken _ h (expired_takes (is_due s.timer (max s.moment moment)) (told_by u) ∙ call_takes u)
+  end_takes key_of moment (OfStack m) given taken accepted h = stack_takes key_of moment m given taken accepted h
+
+  -- ---- a link
+
+  abbrev taken_of : Side → Occurrence → List (List ℕ)
+  taken_of s o = if is_side s o.side then took_in o.outcome else []
+
+  abbrev nowhere : Outcome → List (List ℕ)
+  nowhere o = []
+
+  flat_nowhere : (os : List Outcome) → flat_map nowhere os ≡ []
+  flat_nowhere [] = refl
+  flat_nowhere (o ∷ os) = flat_nowhere os
+
+  taken_grows : (s : Side) (history more : List Occurrence) → taken_by s (history ++ more) ≡ taken_by s history ++ taken_by s more
+  taken_grows s history more = flat_map-append (taken_of s) history more
+
+  -- what a side took and accepted, by the link's ends
+  abbrev TakesIn : Link → List Occurrence → Type 0
+  TakesIn l history = TakesAt l.e (taken_by E history) (accepted_by E history) × TakesAt l.r (taken_by R history) (accepted_by R history)
+
+  same_takes : (end : End) (taken there accepted here : List (List ℕ)) → taken ≡ there → accepted ≡ here → TakesAt end taken accepted → TakesAt end there here
+  same_takes end taken there accepted here t a h =
+      subst (λ (xs : List (List ℕ)). TakesAt end there xs) a (subst (λ (xs : List (List ℕ)). TakesAt end xs accepted) t h)
+
+  -- outcomes of the side itself, and of the other
+  own_side : (s : Side) (end : End) (history : List Occurrence) (os : List Outcome) → TakesAt end (taken_by s history ++ told_taken os) (accepted_by s history ++ told_accepted os)
+      → TakesAt end (taken_by s (history ++ map (at_end s) os)) (accepted_by s (history ++ map (at_end s) os))
+  own_side E end history os h =
+      same_takes end _ _ _ _
+      (sym (taken_grows E history (map (at_end E) os) ∙ ap (λ (xs : List (List ℕ)). taken_by E history ++ xs) (flat_mapped (taken_of E) took_in E (λ o. refl) os)))
+      (sym (accepted_grows E history (map (at_end E) os) ∙ ap (λ (xs : List (List ℕ)). accepted_by E history ++ xs) (accepted_e_e os))) h
+  own_side R end history os h =
+      same_takes end _ _ _ _
+      (sym (taken_grows R history (map (at_end R) os) ∙ ap (λ (xs : List (List ℕ)). taken_by R history ++ xs) (flat_mapped (taken_of R) took_in R (λ o. refl) os)))
+      (sym (accepted_grows R history (map (at_end R) os) ∙ ap (λ (xs : List (List ℕ)). accepted_by R history ++ xs) (accepted_r_r os))) h
+
+  other_side : (s : Side) (end : End) (history : List Occurrence) (os : List Outcome) → TakesAt end (taken_by (other s) history) (accepted_by (other s) history)
+      → TakesAt end (taken_by (other s) (history ++ map (at_end s) os)) (accepted_by (other s) (history ++ map (at_end s) os))
+  other_side E end history os h =
+      same_takes end _ _ _ _
+      (sym (taken_grows R history (map (at_end E) os)
+      ∙ ap (λ (xs : List (List ℕ)). taken_by R history ++ xs) (flat_mapped (taken_of R) nowhere E (λ o. refl) os ∙ flat_nowhere os) ∙ append-nil (taken_by R history)))
+      (sym (accepted_grows R history (map (at_end E) os) ∙ ap (λ (xs : List (List ℕ)). accepted_by R history ++ xs) (accepted_r_e os) ∙ append-nil (accepted_by R history))) h
+  other_side R end history os h =
+      same_takes end _ _ _ _
+      (sym (taken_grows E history (map (at_end R) os)
+      ∙ ap (λ (xs : List (List ℕ)). taken_by E history ++ xs) (flat_mapped (taken_of E) nowhere R (λ o. refl) os ∙ flat_nowhere os) ∙ append-nil (taken_by E history)))
+      (sym (accepted_grows E history (map (at_end R) os) ∙ ap (λ (xs : List (List ℕ)). accepted_by E history ++ xs) (accepted_e_r os) ∙ append-nil (accepted_by E history))) h
+
+  give_takes : (l : Link) (history : List Occurrence) (side : Side) (given : EndEvent) → TakesIn l history
+      → TakesIn (give l side given).0 (history ++ (give l side given).1)
+  give_takes l history E given h =
+      let a : End × List Outcome = end_step (key_on l.opening) l.moment l.e given in
+      (own_side E a.0 history a.1 (end_takes (key_on l.opening) l.moment l.e given (taken_by E history) (accepted_by E history) h.0), other_side E l.r history a.1 h.1)
+  give_takes l history R given h =
+      let a : End × List Outcome = end_step (key_on l.opening) l.moment l.r given in
+      (other_side R l.e history a.1 h.0, own_side R a.0 history a.1 (end_takes (key_on l.opening) l.moment l.r given (taken_by R history) (accepted_by R history) h.1))
+
+  -- outcomes that say of no message
+  abbrev SaysNone : List Outcome → Type 0
+  SaysNone os = (told_taken os ≡ []) × (told_accepted os ≡ [])
+
+  add_none : (end : End) (taken accepted : List (List ℕ)) (os : List Outcome) → SaysNone os → TakesAt end taken accepted
+      → TakesAt end (taken ++ told_taken os) (accepted ++ told_accepted os)
+  add_none end taken accepted os none h =
+      same_takes end taken _ accepted _ (sym (ap (λ (xs : List (List ℕ)). taken ++ xs) none.0 ∙ append-nil taken))
+      (sym (ap (λ (xs : List (List ℕ)). accepted ++ xs) none.1 ∙ append-nil accepted)) h
+
+  silent_takes : (l : Link) (history : List Occurrence) (side : Side) (os : List Outcome) → SaysNone os → TakesIn l history → TakesIn l (history ++ map (at_end side) os)
+  silent_takes l history E os none h =
+      (own_side E l.e history os (add_none l.e (taken_by E history) (accepted_by E history) os none h.0), other_side E l.r history os h.1)
+  silent_takes l history R os none h =
+      (other_side R l.e history os h.0, own_side R l.r history os (add_none l.r (taken_by R history) (accepted_by R history) os none h.1))
+
+  waiting_takes : (l : Link) (history : List Occurrence) (side : Side) (frames : List (List ℕ)) → TakesIn l history → TakesIn (with_waiting l side frames) history
+  waiting_takes l history E frames h = h
+  waiting_takes l history R frames h = h
+
+  -- an outcome that says of no message, and then an event
+  onto_takes : (l : Link) (history : List Occurrence) (first : Side) (os : List Outcome) (side : Side) (given : EndEvent) → SaysNone os → TakesIn l history
+      → TakesIn (give l side given).0 (history ++ (map (at_end first) os ++ (give l side given).1))
+  onto_takes l history first os side given none h =
+      let a : Link × List Occurrence = give l side given in
+      subst (λ (xs : List Occurrence). TakesIn a.0 xs) (append_assoc history (map (at_end first) os) a.1)
+      (give_takes l (history ++ map (at_end first) os) side given (silent_takes l history first os none h))
+
+  pass_takes : (l : Link) (history : List Occurrence) (side : Side) (frames : List (List ℕ)) → TakesIn l history
+      → TakesIn (pass l side frames).0 (history ++ (pass l side frames).1)
+  pass_takes l history side [] h = silent_takes l history side (NothingWaits ∷ []) (refl, refl) h
+  pass_takes l history side (frame ∷ frames) h =
+      onto_takes (with_waiting l side frames) history side (Passed frame ∷ []) (other side) (event.Receive frame) (refl, refl) (waiting_takes l history side frames h)
+
+  none_if : (b : Bool) (x y : List (List ℕ) × List Outcome) → SaysNone x.1 → SaysNone y.1 → SaysNone (if b then x else y).1
+  none_if true x y hx hy = hx
+  none_if false x y hx hy = hy
+
+  changes_say : (change : LineChange) (frames : List (List ℕ)) → SaysNone (changes change frames).1
+  changes_say Lose [] = (refl, refl)
+  changes_say Lose (frame ∷ frames) = (refl, refl)
+  changes_say Repeat [] = (refl, refl)
+  changes_say Repeat (frame ∷ frames) = (refl, refl)
+  changes_say (Alter place mask) [] = (refl, refl)
+  changes_say (Alter place mask) (frame ∷ frames) =
+      none_if (not (nat_lt place (length frame))) (frame ∷ frames, IsShort (length frame) ∷ [])
+      (if mask == 0 then (frame ∷ frames, []) else (altered frame place mask ∷ frames, Altered ∷ [])) (refl, refl)
+      (none_if (mask == 0) (frame ∷ frames, []) (altered frame place mask ∷ frames, Altered ∷ []) (refl, refl) (refl, refl))
+  changes_say (Put octets) frames = (refl, refl)
+
+  step_takes : (l : Link) (history : List Occurrence) (s : LinkStep) → TakesIn l history → TakesIn (link_step l s).0 (history ++ (link_step l s).1)
+  step_takes l history (Send side octets) h = give_takes l history side (event.Send octets) h
+  step_takes l history (Pass side) h = pass_takes l history side (waiting_of l side) h
+  step_takes l history (Change side change) h =
+      let a : List (List ℕ) × List Outcome = changes change (waiting_of l side) in
+      silent_takes (with_waiting l side a.0) history side a.1 (changes_say change (waiting_of l side)) (waiting_takes l history side a.0 h)
+  step_takes l history (Take side) h = give_takes l history side event.Take h
+  step_takes l history (ReleaseStep side sub) h = onto_takes l history side (UserReleased sub ∷ []) side (event.Release sub) (refl, refl) h
+  step_takes l history (Tick moment) h =
+      let m : Link = record l { moment = max l.moment moment } in
+      let a : Link × List Occurrence = give m E event.Tick in
+      let b : Link × List Occurrence = give a.0 R event.Tick in
+      subst (λ (xs : List Occurrence). TakesIn b.0 xs) (append_assoc history a.1 b.1)
+      (give_takes a.0 (history ++ a.1) R event.Tick (give_takes m history E event.Tick h))
+
+  module _ (opens : OpensOrderly) where
+    stack_made : (opening : stacks.Opening) → StackTakes (stacks.opened opening) [] []
+    stack_made (stacks.Call settings me peer kmac rb now) =
+        record { orderly = opens (stacks.Call settings me peer kmac rb now); accepted_is = refl; taken_is = refl; within = omega arith }
+    stack_made (stacks.Answer settings me ra now) =
+        record { orderly = opens (stacks.Answer settings me ra now); accepted_is = refl; taken_is = refl; within = omega arith }
+
+    opened_takes : (settings : Settings) (moment : ℕ) (opening : LinkOpening) → TakesIn (opened settings moment opening).0 (opened settings moment opening).1
+    opened_takes settings moment (OfPair (OfFixed engine rbc ke kr)) = (refl, refl)
+    opened_takes settings moment (OfPair (OfKeys engine rbc ke kr ra rb)) =
+        give_takes (joined_pair (OfKeys engine rbc ke kr ra rb) moment) [] E event.Start (refl, refl)
+    opened_takes settings moment OfStations =
+        give_takes
+        (joined OfStations moment (OfStation (made true (settings.modulo == 128) settings.window settings.n2 settings.t1) [])
+        (OfStation (made false (settings.modulo == 128) settings.window settings.n2 settings.t1) []))
+        [] E event.Start (refl, refl)
+    opened_takes settings moment (OfStacks engine rbc ke kr ra rb) =
+        give_takes
+        (joined (OfStacks engine rbc ke kr ra rb) moment (OfStack (stacks.opened (stacks.Call settings engine rbc ke rb moment)))
+        (OfStack (stacks.opened (stacks.Answer settings rbc ra moment))))
+        [] E event.Start (stack_made (stacks.Call settings engine rbc ke rb moment), stack_made (stacks.Answer settings rbc ra moment))
+
+    taking : (settings : Settings) → KeepsWorld settings (λ o. Unit {0}) (λ s. Unit {0}) TakesIn
+    taking settings = record {
+      opens = λ moment opening fit. opened_takes settings moment opening;
+      steps = λ l history s fit h. step_takes l history s h;
+      others = λ s none. tt;
+    }
+
+    -- what an end took is a beginning of what it accepted
+    end_prefix : (end : End) (taken accepted : List (List ℕ)) → TakesAt end taken accepted → IsPrefix taken accepted
+    end_prefix (OfSafe s) taken accepted h = rw h refl
+    end_prefix (OfStation s stream) taken accepted h = rw h refl
+    end_prefix (OfStack m) taken accepted h =
+        let whole : taken ≡ take m.core.upper.used accepted =
+        h.taken_is ∙ ap (λ (xs : List (List ℕ)). take m.core.upper.used xs) h.accepted_is in
+        let many : length taken ≡ m.core.upper.used = ap length h.taken_is ∙ length-take-le m.core.upper.used m.core.upper.accepted h.within in
+        whole ∙ ap (λ (i : ℕ). take i accepted) (sym many)
+
+    place_prefix : (place : Option Link) (history : List Occurrence) (side : Side) → AtPlace TakesIn place history
+        → IsPrefix (taken_by side history) (accepted_by side history)
+    place_prefix None history side h = rw h refl
+    place_prefix (Some l) history E h = end_prefix l.e (taken_by E history) (accepted_by E history) h.0
+    place_prefix (Some l) history R h = end_prefix l.r (taken_by R history) (accepted_by R history) h.1
+
+    pub takes_in_order : HistoryGrows → HistoryOfOwn → HistoryOfOther → (plan : Plan) (steps : List Step) → TakesInOrder plan steps
+    takes_in_order grow own other plan steps n side =
+        place_prefix (link_at (world_run plan steps).0 n) (history_on n (world_run plan steps).1) side
+        (world_lives grow own other plan (λ o. Unit {0}) (λ s. Unit {0}) TakesIn (taking plan.settings) steps (any_steps plan steps) n)
