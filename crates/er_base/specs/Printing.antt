@@ -1,4 +1,4 @@
--- Representation: how the code keeps the words of a line that it prints, and what it leaves where memory ends; no claim rests on it.
+-- Contract: how the code keeps the words of a line that it prints, and what it leaves where memory ends.
 use Rattle.std.specs.Prelude.{ℕ, ◌≡◌, List, ◌++◌}
 use Rattle.std.specs.Fmt.{decimal}
 use Rattle.er_base.specs.declared.line_writer.PrintedWord.{PrintedWord}

@@ -1,4 +1,4 @@
--- Representation: how the code keeps a line's words and its fault; no claim rests on it.
+-- Contract: how the code keeps a line's words and its fault.
 use Rattle.std.specs.Prelude.{ℕ, ◌≡◌, ◌<◌, List, ◌∷◌, length, map, take, Result, Ok, Err}
 use Rattle.er_base.specs.declared.why.Why.{Why}
 use Rattle.er_base.specs.declared.line_fault.LineFault.{LineFault}

@@ -22,9 +22,10 @@ use Rattle.safety_automaton.specs.Safety.{Safety, initiator, responder}
 use Rattle.end_model.specs.Outcomes.{Outcome}
 use Rattle.end_model.specs.Steps.{Finds, begins_at, starts, comes, received, refusal_at, refusal_of, sends_unless, uses, leaves, ticks, breaks, outcomes_of, if_taken}
 use Rattle.end_model.specs.Layers.{Core, model}
-use Rattle.end_model.specs.Ends.{Call, Answer, Event, Start, Come, Send, Take, Leave, Tick, Ended, Fault, Stalled, End, core_made, news, hears_each, told_of_each, with_core, led, if_refused, step}
+use Rattle.station_model.specs.Events.{news}
+use Rattle.end_model.specs.Ends.{Call, Answer, Event, Start, Come, Send, Take, Leave, Tick, Ended, Fault, Stalled, End, core_made, hears_each, told_of_each, with_core, led, if_refused, step}
 use Rattle.er_end.specs.KeptLayers.{KCore, kept}
-use Rattle.er_end.specs.KeptEnds.{KEnd, kept_core_made, kept_opened, after_start, after_octets, after_send, after_take, after_release, after_tick, after_break, refusal, used_of, found_comes, happens, tells, told_by}
+use Rattle.er_end.specs.KeptEnds.{KEnd, deadline_of, kept_core_made, kept_opened, after_start, after_octets, after_send, after_take, after_release, after_tick, after_break, refusal, used_of, found_comes, happens, tells, told_by}
 use Rattle.er_end.specs.KeptEnds as keeping
 use Rattle.er_end.specs.Standing.{LineStands, UpperStands, CoreStands, EndStands, MadeStands, event_of, StepsAlike, ShowsAlike, RunsAlike}
 use Rattle.er_end.proofs.Tying.{Alike, tied_begins_at, tied_starts, tied_comes, tied_sends, tied_uses, tied_leaves, tied_ticks, tied_breaks, same_outcomes, same_refusal, same_deadline}
@@ -324,6 +325,7 @@ module _ (w : Lower) where
   steps_alike now Stalled k m h = goes_break now k m h LineStalled
 
   pub shows_alike : ShowsAlike
+  unfolding deadline_of
   shows_alike k m h = (
     sym (same_deadline kept model LineStands LineBegins UpperStands UpperBegins UpperCalled UpperBrought alike w.few k.core m.core h.core),
     sym (released_is k.core m.core h.core),

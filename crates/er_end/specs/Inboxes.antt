@@ -1,4 +1,4 @@
--- Representation: how the code keeps the messages that wait for the user; no claim rests on it.
+-- Contract: the messages that wait for the user, as an end keeps them.
 use Rattle.std.specs.Prelude.{ℕ, ◌-◌, ◌<◌, ◌≤◌, nat_lt, Bool, true, false, if◌then◌else◌, List, [], ◌∷◌, ◌++◌, length, drop, slice_get, Option, None}
 
 pub record KInbox : Type 0 where

@@ -1,4 +1,4 @@
--- Representation: what an event leaves of what is kept: the messages that wait, and a release; no claim rests on it.
+-- Contract: what an event leaves of what an end keeps: the messages that wait, and a release.
 use Rattle.std.specs.Prelude.{ℕ, ◌≡◌, ◌≤◌, Bool, true, false, List, [], ◌∷◌, ◌++◌, length, drop, Some, None, is_some}
 use Rattle.er_base.specs.declared.release.Release.{Release}
 use Rattle.end_model.specs.Outcomes.{Outcome, ConnectedTo, Accepted, Taken, NothingToTake, Refused, WasReleased, Octets}

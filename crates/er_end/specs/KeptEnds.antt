@@ -1,4 +1,4 @@
--- Representation: each call of an end as one function of what the code keeps; no claim rests on it. The laws of this crate say that these
+-- Contract: each call of an end as one function of what the end keeps. The laws of this crate say that these
 -- are the steps of the end model.
 use Rattle.std.specs.Prelude.{ℕ, ◌+◌, ◌==◌, Bool, true, false, List, [], ◌++◌, length, Option, Some, None, is_some, if◌then◌else◌}
 use Rattle.er_base.specs.declared.cause.Cause.{Cause}

@@ -1,4 +1,4 @@
--- Representation: the layers of an end as the code keeps them; no claim rests on it. The layers' own laws say that these are steps of
+-- Contract: the layers of an end as the end keeps them. The layers' own laws say that these are steps of
 -- the station model and of the transport model.
 use Rattle.std.specs.Prelude.{ℕ, ◌==◌, nat_lt, Bool, ◌&&◌, List, [], ◌++◌, length, slice_get, Option, is_some, false}
 use Rattle.er_base.specs.declared.release.Release.{Release}

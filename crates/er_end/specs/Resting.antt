@@ -1,4 +1,4 @@
--- Representation: how an end that lends its deeds is left; no claim rests on it.
+-- Contract: how an end that lends its deeds is left.
 use Rattle.std.specs.Prelude.{◌≡◌, ⊤}
 use Rattle.std.specs.Borrow.{MutBor, Fml, follows_so}
 use mathlib.Core.Option.{none}

@@ -1,5 +1,5 @@
--- Representation: how what the code keeps stands for an end of the end model, and that each call's function on what is kept is the
--- model's step; no definition of a claim stands here.
+-- Contract: how what an end keeps stands for an end of the end model, and that each call's function on what is kept is the
+-- model's step.
 use Rattle.std.specs.Prelude.{ℕ, ◌≡◌, ◌≤◌, List, [], ◌∷◌, ◌++◌, length, take, drop, None}
 use Rattle.er_settings.specs.Ranges.{AllAllowed}
 use Rattle.hdlc_frames.specs.Deframing as deframing
@@ -14,7 +14,7 @@ use Rattle.end_model.specs.Steps.{deadline}
 use Rattle.end_model.specs.Ends.{Opening, Call, Answer, Event, Start, Come, Send, Take, Leave, Tick, Ended, Fault, Stalled, End, opened, step, Moment, run, outcomes}
 use Rattle.er_end.specs.Inboxes.{newest_of}
 use Rattle.er_end.specs.KeptLayers.{KLine, KUpper, KCore, kept}
-use Rattle.er_end.specs.KeptEnds.{KEnd, kept_opened, happens, tells, used_of}
+use Rattle.er_end.specs.KeptEnds.{KEnd, kept_opened, happens, tells, used_of, deadline_of}
 
 -- the station is kept so, and these octets are those of the frames that it sent
 pub record LineStands (l : KLine) (s : Station) : Type 0 where
@@ -111,7 +111,7 @@ RunsAlike =
 abbrev pub ShowsAlike : Type 0
 ShowsAlike =
     (k : KEnd) (m : End) → EndStands k m
-    → (deadline kept k.core ≡ deadline model m.core)
+    → (deadline_of k ≡ deadline model m.core)
     × (k.core.released ≡ m.core.released)
     × (kept.untaken k.core.upper ≡ model.untaken m.core.upper)
     × (k.core.safe ≡ m.core.safe)

@@ -1,4 +1,4 @@
--- What is told grows piece by piece: lemmas on the definitions of the outside, for the proofs of the layers above.
+-- Lemmas: what is told grows piece by piece; on the definitions of the outside, for the proofs of the crates above.
 use Rattle.std.proofs.Common.{ℕ, List, [], ◌∷◌, ◌++◌, Option, None, Some, Result, Ok, Err, refl, sym, ap, ◌∙◌, append_assoc, append-nil}
 use Rattle.link_trait.specs.Outside.{Grew, GrewPart, Kept, Notes}
 use Rattle.link_trait.specs.declared.cabinet.FetchFault.{FetchFault}

@@ -15,7 +15,8 @@ use Rattle.end_model.specs.Outcomes.{SendRefusal}
 use Rattle.end_model.specs.Steps.{Finds, begins_at, Carrier, InCr, InCc, InDt, acts, spoken, text_comes, does, tpdu_comes, block_at, block_comes, link_at, concludes, received, comes, refusal_of, sends_unless, outcomes_of}
 use Rattle.end_model.specs.Layers.{Spoken, Core, model}
 use Rattle.end_model.specs.Ends as ends
-use Rattle.end_model.specs.Ends.{End, Opening, opened, news, hears_each, told_of_each}
+use Rattle.station_model.specs.Events.{news}
+use Rattle.end_model.specs.Ends.{End, Opening, opened, hears_each, told_of_each}
 use Rattle.end_model.specs.Laws.{IsSane, IsStep, SpeaksOnce, EventsSpeakOnce}
 use Rattle.er_trace.specs.declared.event.Event.{Event}
 use Rattle.er_trace.specs.declared.event.Event.TheVariants as event

@@ -1,4 +1,4 @@
--- Representation: how a part of the loop that calls no wires ends: what it leaves and prints, or where it breaks off; no claim rests on it.
+-- Contract: how a part of the loop that calls no wires ends: what it leaves and prints, or where it breaks off.
 use Rattle.std.specs.Prelude.{◌≡◌, ℕ, ◌≤◌, List, length, drop, Option, Result, Ok, Err}
 use Rattle.safety_automaton.specs.Keys as keys
 use Rattle.er_users.specs.Users.{Mind}

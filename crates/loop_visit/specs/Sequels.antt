@@ -1,4 +1,4 @@
--- One part of the loop behind another: lemmas on how parts end, for the proofs of the layers above.
+-- Lemmas: one part of the loop behind another; how parts end, for the proofs of the crates above.
 use Rattle.std.proofs.Common.{◌≡◌, ◌≤◌, ℕ, ◌+◌, ◌-◌, ◌^◌, min, true, false, List, [], ◌∷◌, ◌++◌, Option, refl, sym, ◌∙◌, ap, subst, append-nil, append_assoc, arith}
 use Rattle.er_base.specs.declared.no_memory.NoMemory.{NoMemory as Want}
 use Rattle.link_trait.specs.Outside.{Grew, GrewPart, Rose}

@@ -1,4 +1,4 @@
--- Representation: what a visit leaves of a session: the session, or nothing where it was closed; no claim rests on it.
+-- Contract: what a visit leaves of a session: the session, or nothing where it was closed.
 use Rattle.std.specs.Prelude.{ℕ, Bool, true, false, List, [], ◌∷◌, Result, Ok, Err}
 use Rattle.loop_model.specs.Outs.{Out, next}
 use Rattle.loop_model.specs.Sessions.{Rules, Session}

@@ -213,6 +213,7 @@ dial_done laws engine rbc kmac plan a m b minds words address conn new count why
       answers = w.answers;
       conn = conn;
       opened = w.is_conn;
+      is_dialling = dialling;
       done = dials_done laws plan caller a m b minds words address conn new count why begun w;
       lawful = dials_lawful laws plan caller minds words address w.answers dialling;
       replies = laws.replies.dialling plan caller (beginning minds words) address w.answers dialling;

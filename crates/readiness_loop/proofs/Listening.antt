@@ -116,6 +116,13 @@ serves_turns laws plan m b minds words address new count why w =
       moment = t.moment;
     }
 
+-- it stopped for this reason
+serves_halted : (plan : Plan) (m b : Around) (minds : List Mind) (words : Stream) (address : List ℕ) (new : Loop) (count : ℕ) (why : Option Halt)
+    → (w : Went (run plan (beginning minds words)) m b (beginning minds words) new count why)
+    → why ≡ (serves plan (beginning minds words) address true w.answers).state.halt
+unfolding serves
+serves_halted plan m b minds words address new count why w = w.is.halt
+
 serve_done : (laws : Laws) (plan : Plan) (a m b : Around) (minds : List Mind) (words : Stream) (address : List ℕ) (new : Loop) (count : ℕ) (why : Option Halt)
     → AllAllowed plan.settings → HasBegun plan (Listens address true) a m
     → Went (run plan (beginning minds words)) m b (beginning minds words) new count why
@@ -124,10 +131,12 @@ serve_done laws plan a m b minds words address new count why allowed begun w =
     let serving = is_serving plan m b minds words new count why allowed w in
     record {
       answers = w.answers;
+      is_serving = serving;
       done = serves_done laws plan a m b minds words address new count why begun w;
       lawful = serves_lawful laws plan minds words address w.answers serving;
       replies = serves_replies laws plan minds words address w.answers serving;
       turns = serves_turns laws plan m b minds words address new count why w;
+      halted = serves_halted plan m b minds words address new count why w;
     }
 
 pub rose_past : (x y z : ℕ) → x ≤ y → Rose y z → Rose x z

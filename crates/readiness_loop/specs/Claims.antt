@@ -10,7 +10,7 @@ use Rattle.link_trait.specs.Wires.{Listens, Dials}
 use Rattle.loop_model.specs.Grammar.{AreInGrammar}
 use Rattle.loop_model.specs.Outs.{Out}
 use Rattle.loop_model.specs.Loops.{Plan, Halt, OnEnded, OnClosed, OnFailed, Course, Turn, beginning, serves, Caller, Dialled, dials, printed}
-use Rattle.loop_model.specs.Laws.{IsIsolated, IsPrinted, AreAccounted, AreOnOpen, faults, HaltsBy, turns_of, greatest}
+use Rattle.loop_model.specs.Laws.{IsServing, IsDialling, IsIsolated, IsPrinted, AreAccounted, AreOnOpen, faults, HaltsBy, turns_of, greatest}
 use Rattle.loop_model.specs.Parts.{of, opened_in}
 use Rattle.loop_model.specs.Points.{AreHeard, user_of, IsSpoken}
 use Rattle.loop_model.specs.Recordings.{IsReplayed}
@@ -102,10 +102,13 @@ outside seen listening clock = record { seen = seen; listening = listening; cloc
 -- a loop that serves, for some answers of the outside: what it printed and called, and how it stopped
 pub record HasServed (before now : Outside) (plan : Plan) (address : List ℕ) (minds : List Mind) (words : Stream) (count : ℕ) (why : Option Halt) : Type 0 where
   pub answers : List Turn
+  -- what the laws of the loop ask for: it begins with no session, the numbers of accepted connections rise, the settings are in their ranges
+  pub is_serving : IsServing plan (beginning minds words) answers
   pub done : IsDone before now true plan (serves plan (beginning minds words) address true answers)
   pub lawful : IsLawful plan (serves plan (beginning minds words) address true answers)
   pub replies : AreSpoken minds (serves plan (beginning minds words) address true answers)
   pub turns : HasTurns plan (serves plan (beginning minds words) address true answers) count why
+  pub halted : why ≡ (serves plan (beginning minds words) address true answers).state.halt
 
 -- the wires never listened, and nothing was printed; or a turn failed
 pub record NeverListened (before now : Outside) (address : List ℕ) : Type 0 where
@@ -128,6 +131,8 @@ pub record HasDialled (before now : Outside) (plan : Plan) (caller : Caller) (ad
   pub answers : Dialled
   pub conn : ℕ
   pub opened : answers.conn ≡ Some conn
+  -- what the laws of the loop ask for: besides, the pair's KMAC holds at the moment of the call
+  pub is_dialling : IsDialling plan caller (beginning minds words) address answers
   pub done : IsDone before now true plan (dials plan caller (beginning minds words) address answers)
   pub lawful : IsLawful plan (dials plan caller (beginning minds words) address answers)
   pub replies : AreSpoken minds (dials plan caller (beginning minds words) address answers)

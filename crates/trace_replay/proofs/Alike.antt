@@ -8,7 +8,8 @@ use Rattle.hdlc_frames.specs.Framing.{Verdict}
 use Rattle.end_model.specs.Outcomes.{Outcome, SendRefusal}
 use Rattle.end_model.specs.Steps.{Finds, begins, begins_at, started, left, ticked, used, broken, breaks, sent, refusal_of, sends_unless, outcomes_of, if_taken}
 use Rattle.end_model.specs.Layers.{Core, model}
-use Rattle.end_model.specs.Ends.{End, Event, Start, Come, Send, Take, Leave, Tick, Ended, Fault, Stalled, news, hears_each, told_of_each, step, with_core, if_refused}
+use Rattle.station_model.specs.Events.{news}
+use Rattle.end_model.specs.Ends.{End, Event, Start, Come, Send, Take, Leave, Tick, Ended, Fault, Stalled, hears_each, told_of_each, step, with_core, if_refused}
 use Rattle.er_end.specs.KeptEnds.{KEnd, happens, tells}
 use Rattle.er_end.specs.Standing.{EndStands, StepsAlike, event_of}
 use Rattle.trace_replay.specs.Places.{AlikeFrom, Follows}

@@ -10,7 +10,8 @@ use Rattle.er_trace.specs.Texts.{outcome_words}
 use Rattle.end_model.specs.Outcomes.{Outcome}
 use Rattle.end_model.specs.Steps.{Finds, begins_at, comes, received, outcomes_of}
 use Rattle.end_model.specs.Layers.{Core, model}
-use Rattle.end_model.specs.Ends.{Come, End, news, hears_each, told_of_each, step}
+use Rattle.station_model.specs.Events.{news}
+use Rattle.end_model.specs.Ends.{Come, End, hears_each, told_of_each, step}
 use Rattle.er_end.specs.KeptEnds.{KEnd, happens, tells, used_of}
 use Rattle.er_end.specs.Standing.{StepsAlike, event_of}
 use Rattle.trace_model.specs.Printed.{told, outcomes_text}

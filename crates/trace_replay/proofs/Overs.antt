@@ -9,7 +9,8 @@ use Rattle.er_trace.specs.declared.event.Event.TheVariants as event
 use Rattle.end_model.specs.Outcomes.{Outcome}
 use Rattle.end_model.specs.Steps.{Finds, begins_at, comes, outcomes_of, uses, if_taken}
 use Rattle.end_model.specs.Layers.{Core, model}
-use Rattle.end_model.specs.Ends.{End, news, hears_each, told_of_each}
+use Rattle.station_model.specs.Events.{news}
+use Rattle.end_model.specs.Ends.{End, hears_each, told_of_each}
 use Rattle.trace_model.specs.Connections.{happens}
 use Rattle.trace_model.specs.Checks.{role_of, opens}
 use Rattle.trace_replay.specs.Places.{IsOver}
