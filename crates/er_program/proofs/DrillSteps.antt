@@ -3,7 +3,6 @@ use Rattle.std.proofs.Common.{◌≡◌, ℕ, zero, suc, ◌+◌, ◌-◌, ◌�
 use Rattle.std.proofs.lemmas.Bool.{cases_eq, cases_lt}
 use Rattle.std.proofs.lemmas.List.{take_all, take_more, length-map}
 use Rattle.std.proofs.lemmas.Option.{same_Some, none-some, slice_get-map, slice_get_within, slice_get_cases, get_or_from_slice_get}
-use Rattle.er_scenario.specs.declared.grammar.Grammar.{Grammar}
 use Rattle.er_scenario.specs.declared.level.Level.{Level}
 use Rattle.er_scenario.specs.declared.level.Level.TheVariants as level
 use Rattle.er_scenario.specs.declared.step.Step.{Step}
@@ -82,11 +81,11 @@ has_moment (does.Tick moment) range = range
 has_moment (does.Drain n most) range = tt
 
 -- a step of the list is readable
-pub readable_at : (grammar : Grammar) (l : Level) (xs : List Numbered) (i : ℕ) (x : Numbered) → AreReadable grammar l xs → slice_get xs i ≡ Some x
-    → IsReadable grammar l x.step
-readable_at grammar l [] i x all at = absurd (cc)
-readable_at grammar l (y ∷ ys) zero x all at = subst (λ (n : Numbered). IsReadable grammar l n.step) (same_Some y x at) all.0
-readable_at grammar l (y ∷ ys) (suc i) x all at = readable_at grammar l ys i x all.1 at
+pub readable_at : (l : Level) (xs : List Numbered) (i : ℕ) (x : Numbered) → AreReadable l xs → slice_get xs i ≡ Some x
+    → IsReadable l x.step
+readable_at l [] i x all at = absurd (cc)
+readable_at l (y ∷ ys) zero x all at = subst (λ (n : Numbered). IsReadable l n.step) (same_Some y x at) all.0
+readable_at l (y ∷ ys) (suc i) x all at = readable_at l ys i x all.1 at
 
 -- ---- first steps
 

@@ -5,8 +5,6 @@ use Rattle.std.proofs.lemmas.List.{get_or_past, take_all}
 use Rattle.std.proofs.lemmas.Option.{slice_get_cases}
 use Rattle.std.specs.List.{AllByRecursion}
 use Rattle.er_base.specs.Octets.{AreOctets}
-use Rattle.er_scenario.specs.declared.grammar.Grammar.{Grammar}
-use Rattle.er_scenario.specs.declared.grammar.Grammar.TheVariants.{Running}
 use Rattle.er_scenario.specs.declared.level.Level.{Level}
 use Rattle.er_scenario.specs.declared.step.Step.{Step}
 use Rattle.er_scenario.specs.declared.step.Step.TheVariants as does
@@ -19,12 +17,13 @@ use Rattle.er_settings.specs.Ranges.{AllAllowed}
 use Rattle.drill_model.specs.Links.{LinkOpening, OfPair, OfStations, OfStacks, Link}
 use Rattle.drill_model.specs.Steps.{HasOctets, FitsFields, AllFit}
 use Rattle.drill_model.specs.Worlds.{Plan, plan_of, link_at, overfull_side, world_run}
-use Rattle.drill_model.specs.Headline.{LawfulAlways, OpensAlways, RoomAlways, FitsSettings, FitsSteps, InOrderAlways, LosingLineReasonsAlways, DeliversAlways}
+use Rattle.drill_model.specs.Headline.{LawfulAlways, OpensAlways, RoomAlways, FitsSettings, FitsSteps, TakesInOrder, Holds, InOrderAlways, LosingLineReasonsAlways, OrderIsUnforged, DeliversAlways}
+use Rattle.drill_model.specs.Effects.{Steps}
+use Rattle.drill_model.specs.Hearing.{HeardIsBrought}
 use Rattle.er_program.specs.Answers.{AreDone, first_steps}
 use Rattle.er_program.proofs.DrillSteps.{etcs_numbers, first_more, all_steps}
 use Rattle.er_program.proofs.RunMeanings.{AlwaysHolds}
 use Rattle.er_program.specs.BulkTexts.{bulk_plan, steps_of_bulk, AllDone}
-use Rattle.er_program.specs.Runs.{Holds}
 use Rattle.er_program.proofs.BulkMeanings.{BulkHolds}
 use Rattle.er_program.proofs.BulkSteps.{take_one_more, usual_allowed, first_steps_fit}
 
@@ -55,12 +54,12 @@ has_octets (does.Tick moment) range = tt
 has_octets (does.Drain n most) range = tt
 
 -- the first steps fit their fields
-first_fit : (grammar : Grammar) (l : Level) (xs : List Numbered) (k : ℕ) → AreReadable grammar l xs
+first_fit : (l : Level) (xs : List Numbered) (k : ℕ) → AreReadable l xs
     → AllByRecursion FitsFields (take k (map (λ (x : Numbered). x.step) xs))
-first_fit grammar l xs zero all = tt
-first_fit grammar l [] (suc k) all = tt
-first_fit grammar l (x ∷ xs) (suc k) all =
-    ((etcs_numbers x.step all.0.range, has_octets x.step all.0.range), first_fit grammar l xs k all.1)
+first_fit l xs zero all = tt
+first_fit l [] (suc k) all = tt
+first_fit l (x ∷ xs) (suc k) all =
+    ((etcs_numbers x.step all.0.range, has_octets x.step all.0.range), first_fit l xs k all.1)
 
 -- behind the steps that are done no link is overfull
 room : RoomAlways → (s : Scenario) (k : ℕ) → AreDone s k → (n : ℕ) (l : Link)
@@ -90,22 +89,66 @@ steps_fit steps (OfPair opening) all = tt
 steps_fit steps OfStations all = tt
 steps_fit steps (OfStacks engine rbc ke kr ra rb) all = all
 
+abbrev StepsAlways : Type 0
+StepsAlways = (plan : Plan) (steps : List Step) → Steps plan steps
+
+abbrev HeardAlways : Type 0
+HeardAlways = (plan : Plan) (steps : List Step) → HeardIsBrought plan steps
+
+abbrev TakesAlways : Type 0
+TakesAlways = (plan : Plan) (steps : List Step) → TakesInOrder plan steps
+
+abbrev UnforgedAlways : Type 0
+UnforgedAlways =
+    (plan : Plan) (steps : List Step) → AllFit steps → AllAllowed plan.settings → OrderIsUnforged plan steps
+
+-- the laws of every list of steps
+pub record Laws : Type 0 where
+  pub opens : OpensAlways
+  pub room : RoomAlways
+  pub steps : StepsAlways
+  pub lawful : LawfulAlways
+  pub heard : HeardAlways
+  pub takes : TakesAlways
+  pub in_order : InOrderAlways
+  pub reasons : LosingLineReasonsAlways
+  pub unforged : UnforgedAlways
+  pub delivers : DeliversAlways
+
+pub laws_of : OpensAlways → RoomAlways → StepsAlways → LawfulAlways → HeardAlways → TakesAlways → InOrderAlways → LosingLineReasonsAlways → UnforgedAlways → DeliversAlways → Laws
+laws_of opens room steps lawful heard takes in_order reasons unforged delivers = record {
+  opens = opens;
+  room = room;
+  steps = steps;
+  lawful = lawful;
+  heard = heard;
+  takes = takes;
+  in_order = in_order;
+  reasons = reasons;
+  unforged = unforged;
+  delivers = delivers;
+}
+
 -- what is claimed of a world behind steps, where no link is overfull
-holds_behind : LawfulAlways → OpensAlways → InOrderAlways → LosingLineReasonsAlways → DeliversAlways → (plan : Plan) (steps : List Step) → AllAllowed plan.settings → AllFit steps
+holds_behind : Laws → (plan : Plan) (steps : List Step) → AllAllowed plan.settings → AllFit steps
     → ((n : ℕ) (l : Link) → link_at (world_run plan steps).0 n ≡ Some l → overfull_side l ≡ None) → Holds plan steps
-holds_behind lawful opens in_order reasons delivers plan steps allowed all room = record {
-  opens = opens plan steps;
-  lawful = lawful plan steps;
-  in_order = λ n l at. in_order plan steps n l at (fits plan.settings l.opening allowed) (steps_fit steps l.opening all);
-  reasons = λ n l at. reasons plan steps n l at (fits plan.settings l.opening allowed) (steps_fit steps l.opening all);
-  delivers = λ n l at. delivers plan steps all n l at (fits plan.settings l.opening allowed);
+holds_behind laws plan steps allowed all room = record {
+  opens = laws.opens plan steps;
+  steps = laws.steps plan steps;
+  lawful = laws.lawful plan steps;
+  heard = laws.heard plan steps;
+  takes = laws.takes plan steps;
+  in_order = λ n l at. laws.in_order plan steps n l at (fits plan.settings l.opening allowed) (steps_fit steps l.opening all);
+  reasons = λ n l at. laws.reasons plan steps n l at (fits plan.settings l.opening allowed) (steps_fit steps l.opening all);
+  unforged = laws.unforged plan steps all allowed;
+  delivers = λ n l at. laws.delivers plan steps all n l at (fits plan.settings l.opening allowed);
   room = room;
 }
 
-pub holds_always : LawfulAlways → OpensAlways → InOrderAlways → LosingLineReasonsAlways → DeliversAlways → RoomAlways → AlwaysHolds
-holds_always lawful opens in_order reasons delivers law s readable count done k le =
-    holds_behind lawful opens in_order reasons delivers (plan_of s) (first_steps s k) readable.settings (first_fit Running s.level s.steps k readable.steps)
-    (room law s k (λ j x lt is. done j x (omega (arith, lt, le)) is))
+pub holds_always : Laws → AlwaysHolds
+holds_always laws s readable count done k le =
+    holds_behind laws (plan_of s) (first_steps s k) readable.settings (first_fit s.level s.steps k readable.steps)
+    (room laws.room s k (λ j x lt is. done j x (omega (arith, lt, le)) is))
 
 -- ---- a bulk run
 
@@ -125,7 +168,7 @@ bulk_room law steps (suc k) done n l at =
           bulk_room law steps k (λ j s lt next. done j s (omega (arith, lt)) next) n l (subst At is at)
     ]
 
-pub bulk_holds : LawfulAlways → OpensAlways → InOrderAlways → LosingLineReasonsAlways → DeliversAlways → RoomAlways → BulkHolds
-bulk_holds lawful opens in_order reasons delivers law seed count most done k le =
-    holds_behind lawful opens in_order reasons delivers bulk_plan (take k (steps_of_bulk seed count)) usual_allowed (first_steps_fit seed count k)
-    (bulk_room law (steps_of_bulk seed count) k (λ j s lt is. done j s (omega (arith, lt, le)) is))
+pub bulk_holds : Laws → BulkHolds
+bulk_holds laws seed count most done k le =
+    holds_behind laws bulk_plan (take k (steps_of_bulk seed count)) usual_allowed (first_steps_fit seed count k)
+    (bulk_room laws.room (steps_of_bulk seed count) k (λ j s lt is. done j s (omega (arith, lt, le)) is))

@@ -56,7 +56,10 @@ ends_file name file files c d before now f g (Ok status) stands ends = record {
 }
 ends_file name file files c d before now f g (Err stop.Sink) stands ends = record {
   answer = ends.answer;
-  is = record { fetched = Some file; stands = stands; is = ends.is };
+  is = record {
+    answer = record { fetched = Some file; stands = stands; is = ends.is };
+    readable = ends.readable;
+  };
   part = ends.part;
   rose = ends.rose;
 }
@@ -81,7 +84,10 @@ ends_unfetched name files c d before now f g (Ok status) rose ends = record {
 }
 ends_unfetched name files c d before now f g (Err stop.Sink) rose ends = record {
   answer = record { status = 2; text = fetch_line name };
-  is = record { fetched = None; stands = rose; is = refl };
+  is = record {
+    answer = record { fetched = None; stands = rose; is = refl };
+    readable = tt;
+  };
   part = ends.0;
   rose = ends.1;
 }
@@ -118,6 +124,7 @@ drilled s before now f g (Ok status) readable drills = record {
   later = drills.later;
 }
 drilled s before now f g (Err stop.Sink) readable drills = record {
+  readable = readable;
   answer = drills.answer;
   is = drills.is;
   part = drills.part;
@@ -142,6 +149,7 @@ refused line why before now f g (Ok status) gives = record {
   later = gives.2;
 }
 refused line why before now f g (Err stop.Sink) gives = record {
+  readable = tt;
   answer = record { status = 3; text = fault_line line (why_word why) };
   is = refl;
   part = gives.0;

@@ -15,9 +15,9 @@ use Rattle.link_trait.specs.Growth.{grew_then}
 use Rattle.er_program.specs.Asking.{Asks}
 use Rattle.er_program.specs.Commands.{Command, Misused, Drill, Bits, Migrate, Replay, Bulk}
 use Rattle.er_program.specs.LastLines.{fault_line, why_word, fetch_line, usage_line, memory_line}
-use Rattle.er_program.specs.Answers.{Answer, HasFetched, IsFetchedAnswer, Files, FirstFault, AreDone, IsDrillAnswer, IsWhole, BreaksOff, IsScenarioAnswer, lines_of_first, fault_answer}
-use Rattle.er_program.specs.Runs.{HoldsAlways, BrokeOff, AreFirstLines, Means, HasStatus, IsSinkFailed, IsOutOfMemory, IsComplete}
-use Rattle.er_program.specs.Writing.{HasReadable, IsReadable, IsBegun, Finished, Broken, Exhausted, Exhausts}
+use Rattle.er_program.specs.Answers.{Answer, IsAnswer, HasFetched, IsFetchedAnswer, Files, FirstFault, AreDone, IsDrillAnswer, IsWhole, BreaksOff, IsScenarioAnswer, lines_of_first, fault_answer}
+use Rattle.er_program.specs.Runs.{HoldsAlways, WorldsHold, BrokeOff, AreFirstLines, Means, HasStatus, IsSinkFailed, IsOutOfMemory, IsComplete}
+use Rattle.er_program.specs.Writing.{HasReadable, IsReadable, IsGiven, IsBegun, Finished, Broken, Exhausted, Exhausts}
 use Rattle.er_program.specs.declared.status.Status.{Status}
 use Rattle.er_program.proofs.BitMeanings.{means_bits}
 use Rattle.er_program.proofs.KeyMeanings.{means_migrate}
@@ -306,17 +306,53 @@ means_finished law bulk (Replay keys trace) files p q c d before now f g status 
 means_finished law bulk (Bulk seed count) files p q c d before now f g status asked ends =
     means_bulk bulk seed count ends.answer files p q c d f g before now status ends.is ends.stated ends.printed
 
+-- what was given is the answer
+answer_given : (command : Command) (files : Files) (c d : ℕ) (a : Answer) → IsGiven command files c d a → IsAnswer command files c d a
+answer_given Misused files c d a given = given
+answer_given (Drill name) files c d a given = given.answer
+answer_given (Bits name) files c d a given = given
+answer_given (Migrate keys) files c d a given = given
+answer_given (Replay keys trace) files c d a given = given
+answer_given (Bulk seed count) files c d a given = given
+
+-- what a file that was fetched spells is in its ranges
+readable_of : (fetched : Option (List ℕ)) (file : List ℕ) (s : Scenario) → HasReadable fetched → fetched ≡ Some file → scenario_of file ≡ Ok s → CanBeRead s
+readable_of None file s readable is spelled = absurd cc
+readable_of (Some other) file s readable is spelled =
+    let same : scenario_of other ≡ Ok s = cc in subst IsReadable same readable
+
+-- what is claimed of the worlds of a command
+worlds_hold : AlwaysHolds → BulkHolds → (command : Command) (files : Files) (c d : ℕ) (a : Answer) → IsGiven command files c d a → WorldsHold command files c d
+worlds_hold law bulk Misused files c d a given = tt
+worlds_hold law bulk (Drill name) files c d a given = record {
+  fetched = given.answer.fetched;
+  stands = given.answer.stands;
+  holds = λ file s count is spelled done. law s (readable_of given.answer.fetched file s given.readable is spelled) count done;
+}
+worlds_hold law bulk (Bits name) files c d a given = tt
+worlds_hold law bulk (Migrate keys) files c d a given = tt
+worlds_hold law bulk (Replay keys trace) files c d a given = tt
+worlds_hold law bulk (Bulk seed count) files c d a given = bulk seed count
+
 -- a write failed
-pub means_broken : (command : Command) (files : Files) (p q : Names) (c d : ℕ) (before now : Option (List ℕ)) (f g : ℕ)
+pub means_broken : AlwaysHolds → BulkHolds → (command : Command) (files : Files) (p q : Names) (c d : ℕ) (before now : Option (List ℕ)) (f g : ℕ)
     → Broken command files c d before now f g → Means command files p q c d f g before now 5
-means_broken command files p q c d before now f g ends =
+means_broken law bulk command files p q c d before now f g ends =
     means_sink command files p q c d f g before now 5 refl
-    (record { rose = ends.rose; beginning = inl (record { answer = ends.answer; is = ends.is; part = ends.part }) })
+    (record {
+      rose = ends.rose;
+      beginning = inl (record {
+        answer = ends.answer;
+        is = answer_given command files c d ends.answer ends.is;
+        part = ends.part;
+        holds = worlds_hold law bulk command files c d ends.answer ends.is;
+      });
+    })
 
 -- the lines of first steps, and what holds of them
-first_lines_hold : AlwaysHolds → (command : Command) (files : Files) (text : List ℕ) → IsBegun command files text → AreFirstLines command files text
-first_lines_hold law Misused files text begun = begun
-first_lines_hold law (Drill name) files text begun =
+first_lines_hold : AlwaysHolds → BulkHolds → (command : Command) (files : Files) (text : List ℕ) → IsBegun command files text → AreFirstLines command files text
+first_lines_hold law bulk Misused files text begun = begun
+first_lines_hold law bulk (Drill name) files text begun =
     elim begun [
       | inl nothing ↦ inl nothing
       | inr first ↦ inr (record {
@@ -328,32 +364,32 @@ first_lines_hold law (Drill name) files text begun =
         holds = law first.scenario first.readable first.count first.are_done;
       })
     ]
-first_lines_hold law (Bits name) files text begun = begun
-first_lines_hold law (Migrate keys) files text begun = begun
-first_lines_hold law (Replay keys trace) files text begun = begun
-first_lines_hold law (Bulk seed count) files text begun = begun
+first_lines_hold law bulk (Bits name) files text begun = begun
+first_lines_hold law bulk (Migrate keys) files text begun = begun
+first_lines_hold law bulk (Replay keys trace) files text begun = begun
+first_lines_hold law bulk (Bulk seed count) files text begun = (begun, bulk seed count)
 
 -- memory ran out, and the last line was written
-means_exhausted : AlwaysHolds → (command : Command) (files : Files) (p q : Names) (c d : ℕ) (before mid now : Option (List ℕ)) (f g h : ℕ)
+means_exhausted : AlwaysHolds → BulkHolds → (command : Command) (files : Files) (p q : Names) (c d : ℕ) (before mid now : Option (List ℕ)) (f g h : ℕ)
     → Exhausted command files before mid f g → Grew mid now memory_line → Means command files p q c d f h before now 7
-means_exhausted law command files p q c d before mid now f g h ends printed =
+means_exhausted law bulk command files p q c d before mid now f g h ends printed =
     means_memory command files p q c d f h before now 7 refl
     (record {
       text = ends.text;
-      first = first_lines_hold law command files ends.text ends.first;
+      first = first_lines_hold law bulk command files ends.text ends.first;
       printed = grew_then before mid now ends.text memory_line ends.printed printed;
     })
 
 -- memory ran out, and the last line wasn't written whole
-means_interrupted : AlwaysHolds → (command : Command) (files : Files) (p q : Names) (c d : ℕ) (before mid now : Option (List ℕ)) (f g h : ℕ)
+means_interrupted : AlwaysHolds → BulkHolds → (command : Command) (files : Files) (p q : Names) (c d : ℕ) (before mid now : Option (List ℕ)) (f g h : ℕ)
     → Exhausted command files before mid f g → GrewPart mid now memory_line → Rose g h → Means command files p q c d f h before now 5
-means_interrupted law command files p q c d before mid now f g h ends part rose =
+means_interrupted law bulk command files p q c d before mid now f g h ends part rose =
     means_sink command files p q c d f h before now 5 refl
     (record {
       rose = omega (arith, ends.later);
       beginning = inr (record {
         text = ends.text;
-        first = first_lines_hold law command files ends.text ends.first;
+        first = first_lines_hold law bulk command files ends.text ends.first;
         tail = part.part;
         rest = part.rest;
         is = part.is;
@@ -362,10 +398,10 @@ means_interrupted law command files p q c d before mid now f g h ends part rose 
     })
 
 -- memory ran out
-pub means_spent : AlwaysHolds → (command : Command) (files : Files) (p q : Names) (c d : ℕ) (before mid now : Option (List ℕ)) (f g h : ℕ) (s : Status)
+pub means_spent : AlwaysHolds → BulkHolds → (command : Command) (files : Files) (p q : Names) (c d : ℕ) (before mid now : Option (List ℕ)) (f g h : ℕ) (s : Status)
     → Exhausted command files before mid f g → Exhausts mid now g h s → Means command files p q c d f h before now s.0
-means_spent law command files p q c d before mid now f g h s ends last =
+means_spent law bulk command files p q c d before mid now f g h s ends last =
     elim last [
-      | inl written ↦ rw written.0 (means_exhausted law command files p q c d before mid now f g h ends written.1)
-      | inr broken ↦ rw broken.0 (means_interrupted law command files p q c d before mid now f g h ends broken.1 broken.2)
+      | inl written ↦ rw written.0 (means_exhausted law bulk command files p q c d before mid now f g h ends written.1)
+      | inr broken ↦ rw broken.0 (means_interrupted law bulk command files p q c d before mid now f g h ends broken.1 broken.2)
     ]

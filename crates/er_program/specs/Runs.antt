@@ -1,21 +1,16 @@
 -- What is claimed of a run of the program: each status with its cause, what the sink got, the names that were asked for (this profile).
 use Rattle.std.specs.Prelude.{◌≡◌, ◌⊎◌, ◌≤◌, ℕ, ◌<◌, List, [], ◌∷◌, ◌++◌, length, take, Option, Some, None, Result, Ok, Err, codes}
-use Rattle.std.specs.List.{AllByRecursion}
-use Rattle.std.specs.Option.{option_map}
 use Rattle.er_base.specs.declared.why.Why.{Why}
 use Rattle.er_base.specs.declared.text_fault.TextFault.TheVariants.{At}
-use Rattle.er_scenario.specs.declared.step.Step.{Step}
 use Rattle.er_scenario.specs.declared.scenario.Scenario.{Scenario}
 use Rattle.er_scenario.specs.Files.{scenario_of}
-use Rattle.drill_model.specs.Links.{Link}
-use Rattle.drill_model.specs.Worlds.{Plan, plan_of, link_at, history_on, overfull_side, world_run}
+use Rattle.drill_model.specs.Worlds.{plan_of}
 use Rattle.drill_model.specs.Texts.{drill_text}
-use Rattle.drill_model.specs.Kinds.{releases_in, IsOrderKeeping, IsLossFree}
-use Rattle.drill_model.specs.Headline.{opening_of, LawfulAt, IsInOrder, IsLosingLineReason, Delivers}
+use Rattle.drill_model.specs.Headline.{Holds}
 use Rattle.link_trait.specs.Outside.{Grew, GrewPart, Rose, HasFile}
 use Rattle.er_program.specs.Commands.{Command, Misused, Drill, Bits, names_of, Migrate, Replay, Bulk}
 use Rattle.er_program.specs.LastLines.{usage_line, memory_line, fetch_line, fault_line, refused_line, overfull_line, why_word}
-use Rattle.er_program.specs.Answers.{Answer, IsAnswer, IsScenarioAnswer, Files, FirstFault, AreDone, first_steps, lines_of_first, fault_answer, bits_answer, IsKeysAnswer, IsTraceAnswer, IsBulkAnswer, keys_answer}
+use Rattle.er_program.specs.Answers.{Answer, IsAnswer, IsScenarioAnswer, HasFetched, Files, FirstFault, AreDone, first_steps, lines_of_first, fault_answer, bits_answer, IsKeysAnswer, IsTraceAnswer, IsBulkAnswer, keys_answer}
 use Rattle.er_program.specs.BitTexts.{most_line_octets, verdict_lines, verdicts_in, bits_text}
 use Rattle.er_program.specs.BulkTexts.{bulk_plan, steps_of_bulk, totals_of_bulk, totals_line, AllDone, FirstOverfull}
 use Rattle.safety_automaton.specs.Keys.{Entry, key_at}
@@ -34,24 +29,6 @@ abbrev pub IsStatus : ℕ → Type 0
 IsStatus s = (s ≡ 0) ⊎ (s ≡ 1) ⊎ (s ≡ 2) ⊎ (s ≡ 3) ⊎ (s ≡ 4) ⊎ (s ≡ 5) ⊎ (s ≡ 7) ⊎ (s ≡ 8)
 
 -- ---- what holds of a world
-
--- what is claimed of the world that a list of steps leads to: each link has the opening of the step that opened it; at each link the
--- messages and the peers are authentic; where the link keeps its order, what an end accepted is a prefix of what the other sent, and each
--- release has one of the reasons of a line that only loses and repeats; where it is loss-free, nothing is forged and all is delivered within
--- its bound; and at most 4,096 frames wait in one direction
-pub record Holds (plan : Plan) (steps : List Step) : Type 0 where
-  pub opens : (n : ℕ) → option_map (λ l. l.opening) (link_at (world_run plan steps).0 n) ≡ opening_of plan n steps
-  pub lawful : (n : ℕ) → LawfulAt (link_at (world_run plan steps).0 n) (history_on n (world_run plan steps).1)
-  pub in_order : (n : ℕ) (l : Link) → link_at (world_run plan steps).0 n ≡ Some l
-      → IsOrderKeeping l.opening (history_on n (world_run plan steps).1)
-      → IsInOrder (history_on n (world_run plan steps).1)
-  pub reasons : (n : ℕ) (l : Link) → link_at (world_run plan steps).0 n ≡ Some l
-      → IsOrderKeeping l.opening (history_on n (world_run plan steps).1)
-      → AllByRecursion (IsLosingLineReason l.opening) (releases_in (history_on n (world_run plan steps).1))
-  pub delivers : (n : ℕ) (l : Link) → link_at (world_run plan steps).0 n ≡ Some l
-      → IsLossFree l.opening (history_on n (world_run plan steps).1)
-      → Delivers plan.settings (history_on n (world_run plan steps).1) l
-  pub room : (n : ℕ) (l : Link) → link_at (world_run plan steps).0 n ≡ Some l → overfull_side l ≡ None
 
 -- at every moment of the first steps
 abbrev pub HoldsAlways : Scenario → ℕ → Type 0
@@ -110,6 +87,10 @@ pub record Replayed (keys name : List ℕ) (files : Files) (before now : Option 
 -- what is claimed of a world holds at every moment of the first steps of a bulk run
 abbrev pub HoldsInBulk : (seed count : ℕ) → (done : ℕ) → Type 0
 HoldsInBulk seed count done = (k : ℕ) → k ≤ done → Holds bulk_plan (take k (steps_of_bulk seed count))
+
+-- and so at every moment of the steps that are done, however many
+abbrev pub HoldsWhereDone : (seed count : ℕ) → Type 0
+HoldsWhereDone seed count = (done : ℕ) → AllDone bulk_plan (steps_of_bulk seed count) done → HoldsInBulk seed count done
 
 -- the steps of a bulk run are all done, and their totals were written
 pub record BulkCounted (seed count : ℕ) (before now : Option (List ℕ)) : Type 0 where
@@ -278,7 +259,7 @@ AreFirstLines (Drill name) files text = (text ≡ []) ⊎ FirstLines name files 
 AreFirstLines (Bits name) files text = (text ≡ []) ⊎ FirstVerdictLines name files text
 AreFirstLines (Migrate keys) files text = text ≡ []
 AreFirstLines (Replay keys trace) files text = (text ≡ []) ⊎ FirstEventLines keys trace files text
-AreFirstLines (Bulk seed count) files text = text ≡ []
+AreFirstLines (Bulk seed count) files text = (text ≡ []) × HoldsWhereDone seed count
 
 -- want of memory: the sink got the lines of some first steps, and then the last line
 pub record IsOutOfMemory (command : Command) (files : Files) (before now : Option (List ℕ)) : Type 0 where
@@ -288,11 +269,27 @@ pub record IsOutOfMemory (command : Command) (files : Files) (before now : Optio
 
 -- ---- status 5
 
--- a beginning of what the run would have written
+-- where the file that was fetched spells a scenario, what is claimed of its world holds at every moment of the steps that are done
+pub record HoldsInFile (name : List ℕ) (files : Files) (c d : ℕ) : Type 0 where
+  pub fetched : Option (List ℕ)
+  pub stands : HasFetched name fetched files c d
+  pub holds : (file : List ℕ) (scenario : Scenario) (count : ℕ) → fetched ≡ Some file → scenario_of file ≡ Ok scenario
+      → AreDone scenario count → HoldsAlways scenario count
+
+abbrev pub WorldsHold : Command → Files → ℕ → ℕ → Type 0
+WorldsHold Misused files c d = Unit {0}
+WorldsHold (Drill name) files c d = HoldsInFile name files c d
+WorldsHold (Bits name) files c d = Unit {0}
+WorldsHold (Migrate keys) files c d = Unit {0}
+WorldsHold (Replay keys trace) files c d = Unit {0}
+WorldsHold (Bulk seed count) files c d = HoldsWhereDone seed count
+
+-- a beginning of what the run would have written, and what is claimed of the worlds of drill and bulk
 pub record IsAnswerBegun (command : Command) (files : Files) (c d : ℕ) (before now : Option (List ℕ)) : Type 0 where
   pub answer : Answer
   pub is : IsAnswer command files c d answer
   pub part : GrewPart before now answer.text
+  pub holds : WorldsHold command files c d
 
 -- the lines of some first steps, and then a beginning of the last line of want of memory
 pub record IsMemoryBegun (command : Command) (files : Files) (before now : Option (List ℕ)) : Type 0 where

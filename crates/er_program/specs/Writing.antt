@@ -15,7 +15,7 @@ use Rattle.link_trait.specs.Outside.{Grew, GrewPart, Rose}
 use Rattle.link_trait.specs.declared.sink.Failed.{Failed}
 use Rattle.er_program.specs.Commands.{Command, Misused, Drill, Bits, Migrate, Replay, Bulk}
 use Rattle.er_program.specs.LastLines.{usage_line, memory_line}
-use Rattle.er_program.specs.Answers.{Answer, IsAnswer, IsDrillAnswer, IsScenarioAnswer, IsFileAnswer, IsBitsAnswer, Files, AreDone, first_steps, lines_of_first, fault_answer, IsMigrateAnswer, IsReplayWordsAnswer, IsBulkAnswer}
+use Rattle.er_program.specs.Answers.{Answer, IsDrillAnswer, IsScenarioAnswer, IsFileAnswer, IsBitsAnswer, Files, AreDone, first_steps, lines_of_first, fault_answer, IsMigrateAnswer, IsReplayWordsAnswer, IsBulkAnswer}
 use Rattle.er_program.specs.Runs.{Spells, FirstVerdictLines, FirstEventLines}
 use Rattle.er_program.specs.declared.status.Status.{Status}
 use Rattle.er_program.specs.declared.halt.Halt.{Halt}
@@ -130,6 +130,7 @@ pub record GaveFile (read : Result Scenario TextFault) (before now : Option (Lis
   pub later : f ≤ g
 
 pub record BrokeFile (read : Result Scenario TextFault) (before now : Option (List ℕ)) (f g : ℕ) : Type 0 where
+  pub readable : IsReadable read
   pub answer : Answer
   pub is : IsScenarioAnswer read answer
   pub part : GrewPart before now answer.text
@@ -174,7 +175,7 @@ pub record Finished (command : Command) (files : Files) (c d : ℕ) (before now 
 -- a write failed
 pub record Broken (command : Command) (files : Files) (c d : ℕ) (before now : Option (List ℕ)) (f g : ℕ) : Type 0 where
   pub answer : Answer
-  pub is : IsAnswer command files c d answer
+  pub is : IsGiven command files c d answer
   pub part : GrewPart before now answer.text
   pub rose : Rose f g
 

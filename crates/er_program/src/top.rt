@@ -113,11 +113,15 @@ fn ran<F: Cabinet, K: Sink>(
     ensures count { F.faults cabinet.old ≤ F.faults cabinet.new }
     ensures sink_count { K.faults sink.old ≤ K.faults sink.new }
 {
+    drill_laws::laws::worlds();
+    drill_laws::laws::steps();
     drill_laws::laws::lawful();
+    drill_laws::laws::heard();
+    drill_laws::laws::takes();
     drill_laws::laws::in_order();
     drill_laws::laws::losing_line_reasons();
+    drill_laws::laws::order_is_unforged();
     drill_laws::laws::delivery();
-    drill_laws::laws::worlds();
     match answered(alloc, words, cabinet, sink) {
         Ok(status) => status,
         Err(Stop::Sink) => Status(5),

@@ -1,7 +1,6 @@
 -- One step more, a step that breaks off, and the end, by the lemmas on runs of steps.
 use Rattle.std.proofs.Common.{◌≡◌, ◌<◌, ◌≤◌, List, ℕ, length, get_or, slice_get, Some, refl, subst, sym, ap}
 use Rattle.std.proofs.lemmas.Option.{slice_get_read}
-use Rattle.er_scenario.specs.declared.grammar.Grammar.TheVariants.{Running}
 use Rattle.er_scenario.specs.declared.level.Level.{Level}
 use Rattle.er_scenario.specs.declared.numbered.Numbered.{Numbered}
 use Rattle.drill_model.specs.Steps.{IsOfLevel}
@@ -16,20 +15,20 @@ item_at xs ys i x same inside is = subst (λ (zs : List Numbered). slice_get zs 
 
 pub step_once-requires-clause-level : goal.step_once-requires-clause-level
 step_once-requires-clause-level g c =
-    let readable = readable_at Running c.args.scenario.now.level c.args.scenario.now.steps c.loop-numbered.numbered-index c.numbered-item.result c.requires.steps
+    let readable = readable_at c.args.scenario.now.level c.args.scenario.now.steps c.loop-numbered.numbered-index c.numbered-item.result c.requires.steps
     (item_at _ _ _ _ c.as_slice-numbered-items.ensures c.loop-numbered-test.true c.numbered-item.is) in
     subst (λ (l : Level). IsOfLevel l c.numbered-item.result.step) (sym (ap (λ (p : Plan). p.level) c.loop-numbered.invariant.plan_is))
     (of_level c.args.scenario.now.level c.numbered-item.result.step readable.of_level)
 
 pub step_once-requires-clause-numbers : goal.step_once-requires-clause-numbers
 step_once-requires-clause-numbers g c =
-    let readable = readable_at Running c.args.scenario.now.level c.args.scenario.now.steps c.loop-numbered.numbered-index c.numbered-item.result c.requires.steps
+    let readable = readable_at c.args.scenario.now.level c.args.scenario.now.steps c.loop-numbered.numbered-index c.numbered-item.result c.requires.steps
     (item_at _ _ _ _ c.as_slice-numbered-items.ensures c.loop-numbered-test.true c.numbered-item.is) in
     etcs_numbers c.numbered-item.result.step readable.range
 
 pub step_once-requires-clause-moment : goal.step_once-requires-clause-moment
 step_once-requires-clause-moment g c =
-    let readable = readable_at Running c.args.scenario.now.level c.args.scenario.now.steps c.loop-numbered.numbered-index c.numbered-item.result c.requires.steps
+    let readable = readable_at c.args.scenario.now.level c.args.scenario.now.steps c.loop-numbered.numbered-index c.numbered-item.result c.requires.steps
     (item_at _ _ _ _ c.as_slice-numbered-items.ensures c.loop-numbered-test.true c.numbered-item.is) in
     has_moment c.numbered-item.result.step readable.range
 
