@@ -1,0 +1,171 @@
+//! A user that leaves, and when it is let go.
+
+ghost use Rattle.std.specs.Prelude.{[], None};
+ghost use Rattle.er_users.specs.Users.{Callers, mind_of};
+
+use crate::lines::lines_of;
+use crate::serving::{bring, plan, randoms_behind};
+use crate::train::{CENTRE, Train, keys, put};
+use arrayvec::ArrayVec;
+use er_base::NoMemory;
+use er_users::{Replies, SafeUser};
+use key_store::KeyStore;
+use link_trait::{Act, Clock, MemorySink, MemoryWires};
+use rand_core::Rng;
+use readiness_loop::serve;
+use std::alloc::Global;
+use std::cell::RefCell;
+use std::rc::Rc;
+use std::test::Fail;
+
+// The rounds in which the train speaks: it is connected, and its three reports come.
+const ROUNDS: u8 = 9;
+
+// What happens, line by line, in the order of time.
+type Happened = ArrayVec<u8, 2048>;
+
+fn write_down(happened: &RefCell<Happened>, word: &[u8], more: &[u8]) {
+    if let Ok(mut happened) = happened.try_borrow_mut() {
+        put(&mut happened, word);
+        put(&mut happened, more);
+        put(&mut happened, b"\n");
+    }
+}
+
+// A clock at which it is always the moment 0, and that writes down that it is asked.
+#[derive(Drop)]
+struct AskedClock {
+    happened: Rc<RefCell<Happened>>,
+}
+
+impl Clock for AskedClock {
+    ghost answers = { λ _. None };
+
+    fn now(&mut self) -> u64 {
+        write_down(&self.happened, b"asked", b"");
+        0
+    }
+}
+
+// A user that says each message back and leaves with sub-reason 0 at the second, and that writes down what it hears, and that it is
+// let go.
+struct Leaver {
+    messages: u8,
+    happened: Rc<RefCell<Happened>>,
+}
+
+impl Drop for Leaver {
+    fn drop(self) {
+        write_down(&self.happened, b"let go", b"");
+        let Leaver {
+            messages: _,
+            happened: _,
+        } = self;
+    }
+}
+
+impl SafeUser for Leaver {
+    ghost mind = { λ _. mind_of Callers [] };
+
+    #[tactic(auto, unfolding(er_users::specs::Users::said))]
+    fn connected(&mut self, _peer: u32, _out: &mut Replies) {
+        write_down(&self.happened, b"connected", b"");
+    }
+
+    #[tactic(auto, unfolding(er_users::specs::Users::said))]
+    fn message(&mut self, text: &[u8], out: &mut Replies) {
+        write_down(&self.happened, b"message ", text);
+        out.say(text);
+        self.messages = self.messages.saturating_add(1);
+        if self.messages == 2 {
+            out.leave(0);
+        }
+    }
+
+    #[tactic(auto, unfolding(er_users::specs::Users::said))]
+    fn released(&mut self, reason: u8, sub: u8, by_peer: bool) {
+        let by = if by_peer { b'p' } else { b'l' };
+        let why = [b'0' + reason % 10, b'0' + sub % 10, by];
+        write_down(&self.happened, b"released ", &why);
+    }
+}
+
+// A train is accepted, and speaks for so many rounds.
+fn acts(alloc: Global, keys: &KeyStore) -> Result<Vec<Act>, NoMemory> {
+    let mut train = Train::begin(alloc, 5, randoms_behind(0).next_u64())?;
+    let mut acts = Vec::new(alloc);
+    acts.push(Act::Accept)?;
+    for _ in 0..ROUNDS {
+        let (piece, _) = train.speak(keys);
+        if !piece.is_empty() {
+            acts.push(bring(alloc, 1, piece.as_slice())?)?;
+        }
+    }
+    Ok(acts)
+}
+
+// What is printed of the train, while what happens is written down.
+fn printed(
+    alloc: Global,
+    keys: &KeyStore,
+    happened: &Rc<RefCell<Happened>>,
+) -> Result<MemorySink, Fail> {
+    let mut wires = MemoryWires::new(alloc, acts(alloc, keys)?, 65_536, 1_000, 65_536)?;
+    let mut clock = AskedClock {
+        happened: happened.clone()?,
+    };
+    let mut sink = MemorySink::with_capacity(alloc, 65_536)?;
+    let mut randoms = randoms_behind(0);
+    let mut users: Vec<Box<dyn SafeUser>> = Vec::new(alloc);
+    let happened = happened.clone()?;
+    users.push(Box::new(
+        alloc,
+        Leaver {
+            messages: 0,
+            happened,
+        },
+    )?)?;
+    serve(
+        alloc,
+        keys,
+        &plan(),
+        "here",
+        CENTRE,
+        users,
+        &mut wires,
+        &mut clock,
+        &mut randoms,
+        &mut sink,
+    )?;
+    Ok(sink)
+}
+
+// Whether the part stands in the text.
+fn has(text: &[u8], part: &[u8]) -> bool {
+    let mut rest = text;
+    for _ in 0..text.len() {
+        if rest.starts_with(part) {
+            return true;
+        }
+        rest = rest.get(1..).unwrap_or(&[]);
+    }
+    false
+}
+
+#[test]
+fn a_user_that_leaves_is_let_go_before_the_next_turn(rt: HostRuntime) -> Result<(), Fail> {
+    let alloc = rt.alloc();
+    let keys = keys(alloc)?;
+    let happened = Rc::new(alloc, RefCell::new(Happened::new()))?;
+    let sink = printed(alloc, &keys, &happened)?;
+    let lines = lines_of(alloc, sink.held(), b"1")?;
+    assert!(rt; has(lines.as_slice(), b"> release 0\n"));
+    let happened = happened.try_borrow()?;
+    assert!(rt;
+        has(
+            happened.as_slice(),
+            b"message position-report-00000002\nreleased 00l\nlet go\nasked\n"
+        )
+    );
+    Ok(())
+}
