@@ -1,0 +1,17 @@
+"""A decoder of what a link of EuroRadio carries, for the tools of the laboratory.
+
+It is written from the standards' tables, apart from the proved program, so that each can be held against the other.
+
+| Module | What it reads |
+|---|---|
+| framing | frames from flag to flag: ISO/IEC 13239, frame structure |
+| controls | control fields at modulo 8 and 128: ISO/IEC 13239, elements of procedure |
+| network | the block header of two octets: ITU-T T.70 |
+| transport | TPDUs of class 2 and the messages cut into DT TPDUs: ITU-T X.224, clause 13 |
+| safety | SaPDUs: UNISIG SUBSET-037, the safety layer |
+| conversation | all of these over the frames of a link, both directions |
+| sources | texts: what a drill prints, a trace or recording, a tap |
+| captures | writes captures in the format pcapng |
+
+Python's standard library is all that it needs.
+"""

@@ -1,0 +1,363 @@
+"""Texts in which frames of links are recorded: what a drill prints, a trace or recording, a tap.
+
+| Text | First line | Lines with octets |
+|---|---|---|
+| what a drill prints | `N S ..` | `N S frame HEX`, where the drill file has `set show 1`: S sent it |
+| trace or recording | `trace 1 ..` | `> M C octets HEX`: the end of connection C got it at moment M; `< C octets HEX`: it sent it |
+| tap | `tap 1` | `octets N S HEX`: S sent it and the other end got it |
+
+A line that is none of its text's is named with its number, and reading goes on behind it.
+"""
+import binascii
+from dataclasses import dataclass, field
+from typing import Dict, List, Optional
+
+from . import controls, framing
+
+OCTETS = "octets"
+EVENT = "event"
+OUTCOME = "outcome"
+OTHER = {"e": "r", "r": "e"}
+
+DRILL, TRACE, TAP = "drill", "trace", "tap"
+LAST_MOMENT = 10 ** 15
+SETTINGS = ["window", "credit", "size", "t1", "n2", "setup"]
+
+# The arguments of each line: d a decimal, s a side, x octets in hexadecimal, h the same of 8 octets; a word stands for itself.
+EVENTS = {"call": "d d h", "answer": "d h", "octets": "x", "send": "x", "take": "", "release": "d", "tick": "", "ended": "", "fault": "",
+          "stalled": "", "full": "d", "unserved": "d"}
+OUTCOMES = {"connected": ["d"], "accepted": ["x"], "taken": ["x"], "none": [""], "octets": ["x"],
+            "refused": ["released d d", "notconnected", "length d", "full d"], "released": ["d d local", "d d peer"]}
+PRINTED = dict(OUTCOMES, frame=["x"], up=[""], empty=[""], short=["d"], connected=["d", "d forged"], accepted=["x", "x forged"])
+del PRINTED["octets"]
+
+
+class BadWord(ValueError):
+    """A word or line that isn't in the grammar of its text."""
+
+
+@dataclass(frozen=True)
+class BadLine:
+    """A line that couldn't be read, or whose octets are no frames: its number, from 1, and why."""
+
+    line: int
+    why: str
+
+    def __str__(self):
+        return f"line {self.line}: {self.why}"
+
+
+@dataclass(slots=True)
+class Item:
+    """One thing that happened on a link.
+
+    `kind` is OCTETS (octets on the line, sent by `side`), EVENT (what was given to the end `side`) or OUTCOME (what the end `side` told, or,
+    with no side, the line of the whole link). `word` is the line's first word, `text` it and all behind, `words` the arguments; `octets` are
+    the line's octets, where it has some. `own` says in a trace that the connection's own end sent the octets; it is None elsewhere.
+    """
+
+    line: int
+    kind: str
+    side: Optional[str]
+    word: str
+    words: tuple = ()
+    octets: bytes = b""
+    moment: Optional[int] = None
+    own: Optional[bool] = None
+
+    @property
+    def text(self):
+        return " ".join((self.word,) + self.words)
+
+
+@dataclass
+class Link:
+    """One link of a drill or tap, or one connection of a trace, with all that happened on it in order.
+
+    `role` is the side of a connection's own end; `engine` and `rbc` are ETCS numbers where they are told; `moment` is that of a tap's link.
+    """
+
+    kind: str
+    number: int
+    items: List[Item] = field(default_factory=list)
+    role: Optional[str] = None
+    engine: Optional[int] = None
+    rbc: Optional[int] = None
+    moment: Optional[int] = None
+    up: bool = False
+
+    @property
+    def name(self):
+        return f"{self.kind} {self.number}"
+
+    @property
+    def level(self):
+        """'safe' where octets are SaPDUs, 'link' where the stations' payloads are the user's own, else 'full'."""
+        first = next((item.octets for item in self.items if item.kind == OCTETS), b"")
+        if self.kind == "link" and first and first[0] != framing.FLAG and first[0] & 0xFE in (0x42, 0x24, 0x06, 0x12, 0x0A, 0x10):
+            return "safe"
+        return "link" if self.up else "full"
+
+
+@dataclass
+class Reading:
+    """A text that was read: its kind (DRILL, TRACE, TAP, or None where no line is one of these), its links in the order in which they come
+    up, its settings where it tells them, the lines that speak of the whole text (`! overfull ..`), and its bad lines."""
+
+    kind: Optional[str] = None
+    links: List[Link] = field(default_factory=list)
+    settings: Dict[str, int] = field(default_factory=dict)
+    notes: List[Item] = field(default_factory=list)
+    bad: List[BadLine] = field(default_factory=list)
+
+
+def read(data):
+    """Reads a text, octets or a string, as what its lines show it to be."""
+    if isinstance(data, bytes):
+        data = data.decode("latin-1")
+    reader, reading = None, Reading()
+    for number, line in enumerate(data.split("\n"), 1):
+        words = line.split(" ")
+        words = [word for word in words if word]
+        if not words or line.startswith("#"):
+            continue
+        if reader is None:
+            reader = _reader_for(words, reading)
+        try:
+            if reader is None:
+                raise BadWord(_no_text(words))
+            reader.line(number, words)
+        except BadWord as why:
+            reading.bad.append(BadLine(number, str(why)))
+    if reader is not None:
+        reader.end()
+    return reading
+
+
+def _reader_for(words, reading):
+    """The reader of the kind of text that this line begins; None where it begins none."""
+    if words[0] == "tap":
+        return _TapReader(reading)
+    if words[0] == "trace" or words[0] in (">", "<"):
+        return _TraceReader(reading)
+    if words[0] == "!" or len(words) > 1 and words[0].isdigit() and words[1] in ("e", "r", "passes", "end"):
+        return _DrillReader(reading)
+    return None
+
+
+def _no_text(words):
+    if words[0] == "drill":
+        return "the steps of a drill; what `euroradio drill` prints of them is wanted"
+    return f"no line of a drill's text, a trace or a tap: {words[0][:40]}"
+
+
+def decimal(word, most=2 ** 64 - 1):
+    if not (word.isascii() and word.isdigit()):
+        raise BadWord(f"no decimal: {word[:40]}")
+    if len(word) > 20 or int(word) > most:
+        raise BadWord(f"a number above {most}: {word[:40]}")
+    return int(word)
+
+
+def side_of(word):
+    if word not in ("e", "r"):
+        raise BadWord(f"no side, e or r: {word[:40]}")
+    return word
+
+
+def octets_of(word):
+    if word == "-":
+        return b""
+    try:
+        return binascii.unhexlify(word)
+    except (binascii.Error, ValueError):
+        why = "an odd number of digits" if len(word) % 2 else "not hexadecimal"
+        raise BadWord(f"{why}: {word[:40]}{'..' if len(word) > 40 else ''}") from None
+
+
+def _arguments(forms, words):
+    """The octets among these words, which have one of these forms."""
+    name = words[0]
+    for form in forms:
+        letters = form.split()
+        if len(letters) == len(words) - 1 and all(len(letter) == 1 or letter == word for letter, word in zip(letters, words[1:])):
+            octets = b""
+            for letter, word in zip(letters, words[1:]):
+                if letter == "d":
+                    decimal(word)
+                elif letter in ("x", "h"):
+                    octets = octets_of(word)
+                    if letter == "h" and len(octets) != 8:
+                        raise BadWord(f"not 16 digits: {word[:40]}")
+            return octets
+    raise BadWord(f"{name} with other words than it takes: {' '.join(words[1:])[:40]}")
+
+
+class _Reader:
+    """What the three readers share: the links by their numbers."""
+
+    kind = "link"
+
+    def __init__(self, reading):
+        self.reading = reading
+        self.by_number = {}
+        self.begun = False
+
+    def link(self, number):
+        if number not in self.by_number:
+            self.by_number[number] = Link(self.kind, number)
+            self.reading.links.append(self.by_number[number])
+        return self.by_number[number]
+
+    def end(self):
+        """What is to be done behind the last line."""
+
+
+class _DrillReader(_Reader):
+    def __init__(self, reading):
+        super().__init__(reading)
+        reading.kind = DRILL
+
+    def line(self, number, words):
+        if words[0] == "!":
+            self.reading.notes.append(Item(number, OUTCOME, None, "!", tuple(words[1:])))
+            return
+        link = decimal(words[0])
+        if len(words) < 2:
+            raise BadWord("a line without its word")
+        if words[1] in ("passes", "end"):
+            _arguments({"passes": ["d"], "end": ["passes d waiting d d"]}[words[1]], words[1:])
+            self.link(link).items.append(Item(number, OUTCOME, None, words[1], tuple(words[2:])))
+            return
+        side, name = side_of(words[1]), words[2] if len(words) > 2 else ""
+        if name not in PRINTED:
+            raise BadWord(f"no word that a drill prints: {name[:40]}")
+        octets = _arguments(PRINTED[name], words[2:])
+        link = self.link(link)
+        if name == "frame":
+            link.items.append(Item(number, OCTETS, side, "frame", (), octets))
+            return
+        link.up = link.up or name == "up"
+        link.items.append(Item(number, OUTCOME, side, name, tuple(words[3:]), octets))
+
+
+class _TraceReader(_Reader):
+    kind = "connection"
+
+    def __init__(self, reading):
+        super().__init__(reading)
+        reading.kind = TRACE
+        self.moment = None
+        self.unopened = []
+
+    def line(self, number, words):
+        if not self.begun:
+            self.begun = True
+            if self._header(words):
+                return
+        if words[0] == ">":
+            self._event(number, words)
+        elif words[0] == "<":
+            self._outcome(number, words)
+        elif words[0] == "!":
+            self.reading.notes.append(Item(number, OUTCOME, None, "!", tuple(words[1:])))
+        else:
+            raise BadWord(f"no line of a trace: {words[0][:40]}")
+
+    def _header(self, words):
+        if words[0] == "trace" and words[1:2] == ["1"] and len(words) == 8:
+            self.reading.settings = dict(zip(SETTINGS, map(decimal, words[2:])))
+            return True
+        if words[0] == "trace":
+            raise BadWord("no header of a trace: `trace 1` and six numbers are wanted")
+        return False
+
+    def _event(self, number, words):
+        if len(words) < 4:
+            raise BadWord("an event without its word")
+        if words[3] not in EVENTS:
+            raise BadWord(f"no word of an event: {words[3][:40]}")
+        moment, conn = decimal(words[1], LAST_MOMENT), decimal(words[2])
+        octets = _arguments([EVENTS[words[3]]], words[3:])
+        self.moment = moment
+        self._add(number, conn, False, words[3], tuple(words[4:]), octets)
+
+    def _outcome(self, number, words):
+        if len(words) < 3:
+            raise BadWord("an outcome without its word")
+        if words[2] not in OUTCOMES:
+            raise BadWord(f"no word of an outcome: {words[2][:40]}")
+        conn = decimal(words[1])
+        octets = _arguments(OUTCOMES[words[2]], words[2:])
+        self._add(number, conn, True, words[2], tuple(words[3:]), octets)
+
+    def _add(self, number, conn, own, name, words, octets):
+        fresh = conn not in self.by_number
+        link = self.link(conn)
+        if name in ("call", "answer") and link.role is not None:
+            raise BadWord(f"connection {conn} is opened twice")
+        if name in ("call", "answer"):
+            link.role = "e" if name == "call" else "r"
+            link.rbc = int(words[-2])
+            link.engine = int(words[0]) if name == "call" else link.engine
+        elif fresh and name not in ("full", "unserved"):
+            self.unopened.append(link)
+            self.reading.bad.append(BadLine(number, f"connection {conn} wasn't opened by call or answer; its end is taken from its frames"))
+        on_line = name == "octets"
+        side = link.role if own or not on_line else OTHER.get(link.role)
+        kind = OCTETS if on_line else OUTCOME if own else EVENT
+        link.items.append(Item(number, kind, side, name, () if on_line else words, octets, self.moment, own))
+
+    def end(self):
+        for link in self.unopened:
+            link.role = link.role or _role_by_frames(link)
+            for item in link.items:
+                item.side = OTHER[link.role] if item.kind == OCTETS and not item.own else link.role
+
+
+def _role_by_frames(link):
+    """The side of a connection's own end, by the first frame that tells which station sent it; e where none does."""
+    deframers = {True: framing.Deframer(), False: framing.Deframer()}
+    for item in link.items:
+        for frame in deframers[item.own].feed(item.octets) if item.kind == OCTETS else ():
+            control = controls.read_control(frame.body) if frame.intact else None
+            sender = controls.sender_by_address(frame.address, control) if control else None
+            if sender is not None:
+                return sender if item.own else OTHER[sender]
+    return "e"
+
+
+class _TapReader(_Reader):
+    def __init__(self, reading):
+        super().__init__(reading)
+        reading.kind = TAP
+
+    def line(self, number, words):
+        if not self.begun:
+            self.begun = True
+            if words != ["tap", "1"]:
+                raise BadWord("no header of a tap: `tap 1` is wanted")
+            return
+        if words[0] == "link":
+            self._open(words)
+        elif words[0] == "octets":
+            if len(words) != 4:
+                raise BadWord("octets with other words than it takes: link, side and octets")
+            self._octets(number, decimal(words[1]), side_of(words[2]), octets_of(words[3]))
+        else:
+            raise BadWord(f"no line of a tap: {words[0][:40]}")
+
+    def _open(self, words):
+        if len(words) != 5:
+            raise BadWord("link with other words than it takes: link, engine, RBC and moment")
+        number, engine, rbc = map(decimal, words[1:4])
+        moment = decimal(words[4], LAST_MOMENT)
+        if number in self.by_number and self.by_number[number].moment is not None:
+            raise BadWord(f"link {number} is opened twice")
+        link = self.link(number)
+        link.engine, link.rbc, link.moment = engine, rbc, moment
+
+    def _octets(self, number, link, side, octets):
+        if link not in self.by_number:
+            self.reading.bad.append(BadLine(number, f"link {link} wasn't opened by a line before"))
+        self.link(link).items.append(Item(number, OCTETS, side, "octets", (), octets))
