@@ -1,4 +1,4 @@
-"""One `serve` and many clients on the loopback address; what each train and the recording must show."""
+"""One `serve` and many clients on the loopback address; what each train and the recording must show. Then one whose peer never reads."""
 
 import os
 import re
@@ -50,6 +50,46 @@ def events_of(text, conn):
     return told
 
 
+def serving(work, turns):
+    """A server at a free port of the loopback address, the first client that it took, and the file of its recording."""
+    keys = os.path.join(work, "keys")
+    with open(keys, "w") as f:
+        f.write(KEYS)
+    port = free_port()
+    address = f"127.0.0.1:{port}"
+    recording = os.path.join(work, "recording")
+    with open(recording, "wb") as out:
+        server = subprocess.Popen([program, "serve", keys, address, "9", turns], stdout=out)
+    for _ in range(100):
+        try:
+            return server, connected(port), recording, port
+        except OSError:
+            time.sleep(0.05)
+    sys.exit(f"nobody listens at {address}")
+
+
+def never_reads():
+    """A peer that sends set-up frames and reads no answer: what waits for it grows past the room of the kernel and past 262,144 octets."""
+    with tempfile.TemporaryDirectory() as work:
+        server, probe, recording, port = serving(work, "10000000")
+        deaf = connected(port)
+        deaf.settimeout(20)
+        try:
+            for _ in range(4_000):
+                deaf.sendall(bytes.fromhex("7e013febdf7e") * 500)
+        except OSError:
+            pass
+        time.sleep(0.5)
+        server.terminate()
+        server.wait()
+        with open(recording, "rb") as f:
+            lines = f.read()[-1_000:].decode().splitlines()
+        check(lines[-1:] == ["< 2 released 1 7 local"] and lines[-2].endswith(" 2 stalled"), f"a peer that never reads stalls: {lines[-2:]}")
+        check(sum(1 for it in lines if it == "< 2 octets 7e017383577e") > 1, "each set-up frame before was answered")
+        probe.close()
+        deaf.close()
+
+
 def is_train(told):
     """A whole session of a train: connected, three reports sent, each echoed, taken in order, then the user's release."""
     taken = [w.split()[1] for w in told if w.startswith("taken ")]
@@ -58,22 +98,9 @@ def is_train(told):
 
 
 with tempfile.TemporaryDirectory() as work:
+    server, probe, recording, port = serving(work, "1000000")
     keys = os.path.join(work, "keys")
-    with open(keys, "w") as f:
-        f.write(KEYS)
-    port = free_port()
     address = f"127.0.0.1:{port}"
-    recording = os.path.join(work, "recording")
-    with open(recording, "wb") as out:
-        server = subprocess.Popen([program, "serve", keys, address, "9", "1000000"], stdout=out)
-    for _ in range(100):
-        try:
-            probe = connected(port)
-            break
-        except OSError:
-            time.sleep(0.05)
-    else:
-        sys.exit(f"nobody listens at {address}")
     # one client sends 100,000 random octets, one closes in mid-frame, one never reads
     noise = connected(port)
     noise.sendall(os.urandom(100_000))
@@ -108,10 +135,15 @@ with tempfile.TemporaryDirectory() as work:
     served = [events_of(text.decode(), c.decode()) for c in conns]
     whole = [t for t in served if [w for w in t if w.startswith("taken ")] == [f"taken {r}" for r in REPORTS]]
     check(len(conns) == 15, f"fifteen connections were answered: {len(conns)}")
+    cut = events_of(text.decode(), "3")
+    check(cut == ["answer", "ended", "released 1 5 local"], f"a close in mid-frame ends the connection with 1.5: {cut}")
+    noisy = events_of(text.decode(), "2")
+    check(noisy[:1] == ["answer"] and not [w for w in noisy if w.startswith(("connected", "accepted"))], f"random octets connect nobody: {noisy}")
     check(len(whole) == 11, f"eleven trains were served whole: {len(whole)}")
     check(all("connected 5" in t and t[-1].startswith("released 0 0 peer") for t in whole), "each of them connected and left")
     again = subprocess.run([program, "replay", keys, recording], capture_output=True, timeout=60)
     check(again.returncode == 0 and again.stdout == text, "the recording replays to itself")
 
+never_reads()
 print(f"{checks} checks, {failed} failed")
 sys.exit(1 if failed else 0)

@@ -1,0 +1,125 @@
+#!/usr/bin/env python3
+"""What must be believed, by claim: the table of docs/CLAIMS.md, made from the imports of the definitions.
+
+    tests/closures.py          compares the table in docs/CLAIMS.md with the tree; each difference is printed, the status is 1 where there is one
+    tests/closures.py --write  writes the table anew
+
+A claim is read from one file of specs/ on: that file and all that it imports, without what the prover declares of code and without the kit's
+library. Of each file those lines count that aren't imports, comments or blank. Known answers don't count: no definition imports their files. It
+also fails where a file that is to be believed imports one that readers may skip.
+"""
+import os
+import re
+import sys
+
+CLAIMS = [
+    ("Authentic messages and peers", "safe_pair/specs/Authentic"),
+    ("The cipher", "des_block/specs/Triple"),
+    ("The MAC", "cbc_mac/specs/Mac"),
+    ("One side of a safe connection", "safety_automaton/specs/Safety"),
+    ("A station", "station_model/specs/Calls"),
+    ("Two stations over two lines", "station_pair/specs/Laws"),
+    ("A transport connection", "x224_class2/specs/Transport"),
+    ("An end of four layers", "end_model/specs/Ends"),
+    ("Two ends over two lines", "end_pair/specs/Laws"),
+    ("Key files", "key_store/specs/KeyFiles"),
+    ("Traces and their replay", "trace_model/specs/Replays"),
+    ("**The headline**: every list of steps, each link (`Holds`)", "drill_model/specs/Headline"),
+    ("What is printed of it", "drill_model/specs/Printing"),
+    ("All statuses of `run` on a file", "er_program/specs/Runs"),
+    ("The loop: `serve` and `dial`", "readiness_loop/specs/Claims"),
+    ("`serve` and `call` of `run`", "er_program/specs/LineRuns"),
+]
+KINDS = ("-- Representation:", "-- Contract:", "-- Lemmas:")
+BEGIN, END = "<!-- made by tests/closures.py -->", "<!-- end -->"
+IMPORT = re.compile(r"^\s*(?:pub )?use Rattle\.(\w+)\.specs\.([\w.]+?)(?:\.\{.*)?(?: as \w+)?$")
+
+
+def spec_files():
+    """Each definition file by its name `crate/specs/File`, as a list of lines."""
+    files = {}
+    for crate in sorted(os.listdir("crates")):
+        folder = f"crates/{crate}/specs"
+        for name in sorted(os.listdir(folder)) if os.path.isdir(folder) else []:
+            if name.endswith(".antt") and name != "Lib.antt":
+                with open(f"{folder}/{name}", encoding="utf-8") as it:
+                    files[f"{crate}/specs/{name[:-5]}"] = it.read().split("\n")
+    return files
+
+
+def imports_of(lines, files):
+    """The definition files of this repository that a file imports, without what the prover declares of code."""
+    found = set()
+    for line in lines:
+        match = IMPORT.match(line)
+        if match and not match[2].startswith("declared"):
+            name = f"{match[1]}/specs/{match[2].split('.')[0]}"
+            if name in files:
+                found.add(name)
+    return found
+
+
+def closure(start, imports):
+    """All files that a file needs, itself among them."""
+    seen, left = set(), [start]
+    while left:
+        name = left.pop()
+        if name not in seen:
+            seen.add(name)
+            left += imports[name]
+    return seen
+
+
+def counted(lines):
+    """The number of lines that say something."""
+    return sum(1 for it in lines if it.strip() and not it.lstrip().startswith(("--", "use ", "pub use ", "pub mod ", "mod ")))
+
+
+def kind_of(lines):
+    return next((it for it in KINDS if lines[0].startswith(it)), None)
+
+
+def table(files, imports):
+    """The lines of the table."""
+    rows = ["| Claim | Begin with | Lines | Files |", "|---|---|---|---|"]
+    for claim, start in CLAIMS:
+        needed = closure(start, imports)
+        lines = sum(counted(files[it]) for it in needed)
+        rows.append(f"| {claim} | `{start}` | {lines:,} | {len(needed)} |")
+    return rows
+
+
+def skipped(files, imports):
+    """Each import of a file that readers may skip by one that is to be believed."""
+    return [
+        f"{name} is to be believed, and imports {it}, whose first line begins with `{kind_of(files[it])}`"
+        for name in files
+        if kind_of(files[name]) is None
+        for it in sorted(imports[name])
+        if kind_of(files[it]) in (KINDS[0], KINDS[2])
+    ]
+
+
+def main():
+    os.chdir(f"{os.path.dirname(os.path.abspath(__file__))}/..")
+    files = spec_files()
+    imports = {name: imports_of(lines, files) for name, lines in files.items()}
+    made = [BEGIN, *table(files, imports), END]
+    faults = skipped(files, imports)
+    with open("docs/CLAIMS.md", encoding="utf-8") as it:
+        text = it.read()
+    begin, end = text.find(BEGIN), text.find(END)
+    if begin < 0 or end < begin:
+        faults.append("docs/CLAIMS.md has no place for the table")
+    elif "--write" in sys.argv[1:]:
+        with open("docs/CLAIMS.md", "w", encoding="utf-8") as it:
+            it.write(text[:begin] + "\n".join(made) + text[end + len(END) :])
+    elif text[begin : end + len(END)] != "\n".join(made):
+        old = set(text[begin:end].split("\n"))
+        faults += [f"docs/CLAIMS.md hasn't this row: {it}" for it in made[1:-1] if it not in old] or ["docs/CLAIMS.md has rows too many"]
+    print("\n".join(faults + [f"{len(CLAIMS)} claims, {len(faults)} failed"]))
+    return 1 if faults else 0
+
+
+if __name__ == "__main__":
+    sys.exit(main())
