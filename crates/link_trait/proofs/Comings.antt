@@ -8,7 +8,7 @@ use Rattle.link_trait.specs.declared.memory_line.MemoryLine.{MemoryLine}
 use Rattle.link_trait.specs.declared.memory_wires.Coming.{Coming}
 use Rattle.link_trait.specs.declared.wires.Conn.{Conn}
 use Rattle.link_trait.specs.declared.wires.Happening.TheVariants as happening
-use Rattle.link_trait.specs.WiresMemory.{WiresState, open_at, line_at, first_open, first_act, happening_of, comes, coming, changed_at}
+use Rattle.link_trait.specs.WiresMemory.{KeptWires, open_at, line_at, first_open, first_act, happening_of, comes, coming, changed_at}
 use Rattle.link_trait.specs.KeptCalls.{IsComing, StaysOpen, advanced, opening, act_of, put_in}
 use Rattle.link_trait.proofs.KeptLists.{if_open_some}
 
@@ -36,7 +36,7 @@ act_stays lines (act.Room conn room) = stays lines conn (λ line. record line { 
 act_stays lines (act.Shut conn) = stays lines conn (λ line. record line { is_shut = true }) (open_at lines conn) (λ line. refl) refl
 act_stays lines act.Quiet = tt
 
-abbrev by_act : WiresState → ℕ → ℕ → Act → Coming
+abbrev by_act : KeptWires → ℕ → ℕ → Act → Coming
 by_act s passed count one = record { happening = (act_of s.lines one).0; passed = passed; acts = count; change = (act_of s.lines one).1 }
 
 act_happens : (lines : List MemoryLine) (one : Act) → (act_of lines one).0 ≡ happening_of (length lines) (Some one)
@@ -46,7 +46,7 @@ act_happens lines (act.Room conn room) = refl
 act_happens lines (act.Shut conn) = refl
 act_happens lines act.Quiet = refl
 
-act_state : (s : WiresState) (passed count : ℕ) (one : Act)
+act_state : (s : KeptWires) (passed count : ℕ) (one : Act)
     → opening (act_of s.lines one).0 (advanced s (by_act s passed count one)) ≡ (coming s (passed, None) (count, Some one)).state
 act_state s passed count act.Accept = refl
 act_state s passed count (act.Bring conn octets) = refl
@@ -60,7 +60,7 @@ act_state s passed count act.Quiet = refl
 within : (at passed n : ℕ) → at < 2 ^ 64 → passed ≤ n - at → n < 2 ^ 64 → at + passed < 2 ^ 64
 within at passed n small less all = omega arith
 
-pub comes_act : (s : WiresState) (first : ℕ × Option ℕ) (passed count : ℕ) (one : Act)
+pub comes_act : (s : KeptWires) (first : ℕ × Option ℕ) (passed count : ℕ) (one : Act)
     → first ≡ first_open s.lines (drop s.heard s.again) → first.1 ≡ None → first.0 ≡ passed
     → count ≡ (first_act s.listening (drop s.done s.acts)).0 → Some one ≡ (first_act s.listening (drop s.done s.acts)).1
     → s.heard < 2 ^ 64 → s.done < 2 ^ 64 → passed ≤ length (drop s.heard s.again) → count ≤ length (drop s.done s.acts) → length s.again < 2 ^ 64 → length s.acts < 2 ^ 64
@@ -78,7 +78,7 @@ comes_act s first passed count one is none same counted found heard done most_pa
       change = act_stays s.lines one;
     }
 
-pub comes_end : (s : WiresState) (first : ℕ × Option ℕ) (passed count : ℕ)
+pub comes_end : (s : KeptWires) (first : ℕ × Option ℕ) (passed count : ℕ)
     → first ≡ first_open s.lines (drop s.heard s.again) → first.1 ≡ None → first.0 ≡ passed
     → count ≡ (first_act s.listening (drop s.done s.acts)).0 → None ≡ (first_act s.listening (drop s.done s.acts)).1
     → s.heard < 2 ^ 64 → s.done < 2 ^ 64 → passed ≤ length (drop s.heard s.again) → count ≤ length (drop s.done s.acts) → length s.again < 2 ^ 64 → length s.acts < 2 ^ 64
@@ -96,7 +96,7 @@ comes_end s first passed count is none same counted found heard done most_passed
       change = tt;
     }
 
-pub comes_again : (s : WiresState) (first : ℕ × Option ℕ) (passed conn : ℕ)
+pub comes_again : (s : KeptWires) (first : ℕ × Option ℕ) (passed conn : ℕ)
     → first ≡ first_open s.lines (drop s.heard s.again) → first.1 ≡ Some conn → first.0 ≡ passed
     → s.heard < 2 ^ 64 → s.done < 2 ^ 64 → passed ≤ length (drop s.heard s.again) → length s.again < 2 ^ 64
     → IsComing s (record { happening = happening.Readable (record { 0 = conn }); passed = passed; acts = 0; change = None })
@@ -123,7 +123,7 @@ act_listens false (act.Room conn room ∷ more) there = cc there
 act_listens false (act.Shut conn ∷ more) there = cc there
 act_listens false (act.Quiet ∷ more) there = cc there
 
-coming_listens : (s : WiresState) (first : ℕ × Option ℕ) (next : ℕ × Option Act) (conn : Conn) → (next.1 ≡ Some act.Accept → s.listening ≡ true)
+coming_listens : (s : KeptWires) (first : ℕ × Option ℕ) (next : ℕ × Option Act) (conn : Conn) → (next.1 ≡ Some act.Accept → s.listening ≡ true)
     → (coming s first next).happening ≡ happening.Accepted conn → s.listening ≡ true
 coming_listens s (passed, Some at) next conn listens is = cc is
 coming_listens s (passed, None) (count, None) conn listens is = cc is
@@ -133,6 +133,6 @@ coming_listens s (passed, None) (count, Some (act.Room at room)) conn listens is
 coming_listens s (passed, None) (count, Some (act.Shut at)) conn listens is = cc is
 coming_listens s (passed, None) (count, Some act.Quiet) conn listens is = cc is
 
-pub comes_listens : (s : WiresState) (c : Coming) (conn : Conn) → IsComing s c → c.happening ≡ happening.Accepted conn → s.listening ≡ true
+pub comes_listens : (s : KeptWires) (c : Coming) (conn : Conn) → IsComing s c → c.happening ≡ happening.Accepted conn → s.listening ≡ true
 comes_listens s c conn coming_is is =
     coming_listens s (first_open s.lines (drop s.heard s.again)) (first_act s.listening (drop s.done s.acts)) conn (act_listens s.listening (drop s.done s.acts)) (sym coming_is.happening ∙ is)

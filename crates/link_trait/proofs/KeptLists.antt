@@ -10,7 +10,7 @@ use Rattle.link_trait.specs.declared.call_record.KeptCall.{KeptCall}
 use Rattle.link_trait.specs.declared.call_record.CallRecord.{CallRecord}
 use Rattle.link_trait.specs.Wires.{Call, Reading, Gave, NotNow, End, Failed, Reads, taken_of, taken_by, given_of, given_by}
 use Rattle.link_trait.specs.KeptCalls.{told, total, opens, call_of, Sound, Keeps, Stands, StaysOpen, IsUntouched}
-use Rattle.link_trait.specs.WiresMemory.{WiresState, fits, open_at, line_at, if_open}
+use Rattle.link_trait.specs.WiresMemory.{KeptWires, fits, open_at, line_at, if_open}
 use Rattle.link_trait.specs.declared.call_record.Note.{Note}
 
 none_some : {A : Type 0} {x : A} → None ≡ Some x → ⊥
@@ -212,7 +212,7 @@ not_below m n test = elim (cases_lt m n) [
 ]
 
 -- what fits has room
-pub fits_room : (s : WiresState) (places octets : ℕ) → fits s places octets ≡ true → (s.places + places ≤ s.call_places) × (s.octets + octets ≤ s.octet_places)
+pub fits_room : (s : KeptWires) (places octets : ℕ) → fits s places octets ≡ true → (s.places + places ≤ s.call_places) × (s.octets + octets ≤ s.octet_places)
 fits_room s places octets test =
     let parts : (not (nat_lt s.call_places (s.places + places)) ≡ true) × (not (nat_lt s.octet_places (s.octets + octets)) ≡ true) = and_parts _ _ test in
     (not_below s.call_places (s.places + places) parts.0, not_below s.octet_places (s.octets + octets) parts.1)

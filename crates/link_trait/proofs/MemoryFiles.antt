@@ -11,7 +11,7 @@ use Rattle.std.proofs.lemmas.Map.Text.{is_eq-slice_cmp, btree_map_updates_text}
 use Rattle.std.proofs.lemmas.Slice.Eq.{bytes_eq-Decides}
 use Rattle.std.proofs.lemmas.Bool.{cond-true, cond-false, false_from_ne_true}
 use Rattle.link_trait.specs.Outside.{file_of}
-use Rattle.link_trait.specs.OutsideMemory.{CabinetState, PutsFile, fetch_answer, is_listed}
+use Rattle.link_trait.specs.OutsideMemory.{KeptCabinet, PutsFile, fetch_answer, is_listed}
 
 -- the entries of a map as files, name and octets
 abbrev pub files_of : {Y Z : Type 0} → List (String Y × Vec ℕ Z) → List (List ℕ × List ℕ)
@@ -49,7 +49,7 @@ puts_file m n value name updates = record {
 }
 
 -- a fetch of a call that isn't listed gives what the map has
-pub fetch_answer-unlisted : {Y Z : Type 0} (m : BTreeMap (String Y) (Vec ℕ Z)) (s : CabinetState) (name : List ℕ) (found : Option (Vec ℕ Z))
+pub fetch_answer-unlisted : {Y Z : Type 0} (m : BTreeMap (String Y) (Vec ℕ Z)) (s : KeptCabinet) (name : List ℕ) (found : Option (Vec ℕ Z))
     → s.files ≡ files_of m.entries → is_listed s.failing s.calls ≡ false → found ≡ get_by_text m name
     → fetch_answer s name ≡ octets_of found
 fetch_answer-unlisted m s name found files unlisted is =
@@ -57,5 +57,5 @@ fetch_answer-unlisted m s name found files unlisted is =
     ∙ ap (λ fs. file_of fs name) files ∙ file_of-files_of m.entries name ∙ ap octets_of (sym is)
 
 -- a fetch of a listed call gives nothing
-pub fetch_answer-listed : (s : CabinetState) (name : List ℕ) → is_listed s.failing s.calls ≡ true → fetch_answer s name ≡ None
+pub fetch_answer-listed : (s : KeptCabinet) (name : List ℕ) → is_listed s.failing s.calls ≡ true → fetch_answer s name ≡ None
 fetch_answer-listed s name listed = cond-true (is_listed s.failing s.calls) None (file_of s.files name) listed

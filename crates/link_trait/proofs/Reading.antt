@@ -6,7 +6,7 @@ use Rattle.link_trait.specs.declared.memory_line.MemoryLine.{MemoryLine}
 use Rattle.link_trait.specs.declared.wires.ReadAnswer.{ReadAnswer}
 use Rattle.link_trait.specs.declared.wires.ReadAnswer.TheVariants as read_answer
 use Rattle.link_trait.specs.Wires.{Reads, Gave}
-use Rattle.link_trait.specs.WiresMemory.{WiresState, fits, kept, called, is_to_fail, open_at, waits_at, read_in, read_done, gives, after_read}
+use Rattle.link_trait.specs.WiresMemory.{KeptWires, fits, kept, called, is_to_fail, open_at, waits_at, read_in, read_done, gives, after_read}
 
 -- how many octets wait, and which were copied
 pub counted_waits : (size count taken : ℕ) (whole waits : List ℕ) → waits ≡ drop taken whole → count ≡ min size (length whole - taken) → count ≡ min size (length waits)
@@ -31,12 +31,12 @@ not_none : (n : ℕ) → 0 < n → (n == 0) ≡ false
 not_none n some = ne_eqb n 0 (λ same. absurd (omega (arith, same, some)))
 
 -- the answer
-pub read_answers : (s : WiresState) (conn size count waiting : ℕ) (line : MemoryLine) → fits s 1 0 ≡ true → is_to_fail s ≡ false → open_at s.lines conn ≡ Some line
+pub read_answers : (s : KeptWires) (conn size count waiting : ℕ) (line : MemoryLine) → fits s 1 0 ≡ true → is_to_fail s ≡ false → open_at s.lines conn ≡ Some line
     → waiting ≡ length (waits_at s conn) → 0 < waiting → count ≡ min size (length (waits_at s conn)) → read_answer.Some count ≡ read_in s conn size
 read_answers s conn size count waiting line room unlisted there waits some counted =
     rw (room, unlisted, there, not_none (length (waits_at s conn)) (subst (λ n. 0 < n) waits some), counted) refl
 
-read_state : (s : WiresState) (conn size count waiting : ℕ) (line : MemoryLine) → fits s 1 0 ≡ true → is_to_fail s ≡ false → open_at s.lines conn ≡ Some line
+read_state : (s : KeptWires) (conn size count waiting : ℕ) (line : MemoryLine) → fits s 1 0 ≡ true → is_to_fail s ≡ false → open_at s.lines conn ≡ Some line
     → waiting ≡ length (waits_at s conn) → 0 < waiting → count ≡ min size (length (waits_at s conn))
     → after_read s conn size ≡ record (kept (called s) (Reads conn size (length (waits_at s conn)) (Gave (take count (waits_at s conn)))) 1 0) {
       lines = slice_set s.lines (conn - 1) (record line { taken = line.taken + count });
@@ -50,22 +50,22 @@ read_state s conn size count waiting line room unlisted there waits some counted
     ∙ ap {A = ReadAnswer} (λ a. read_done (kept (called s) (Reads conn size (length (waits_at s conn)) (gives a (waits_at s conn))) 1 0) conn (length (waits_at s conn)) a) answer
     ∙ rw (there) refl
 
-kept_with : (s : WiresState) (conn size count waiting : ℕ) (line : MemoryLine) → waiting ≡ length (waits_at s conn)
+kept_with : (s : KeptWires) (conn size count waiting : ℕ) (line : MemoryLine) → waiting ≡ length (waits_at s conn)
     → record (kept (called s) (Reads conn size waiting (Gave (take count (waits_at s conn)))) 1 0) { lines = slice_set s.lines (conn - 1) (record line { taken = line.taken + count }) }
     ≡ record (kept (called s) (Reads conn size (length (waits_at s conn)) (Gave (take count (waits_at s conn)))) 1 0) { lines = slice_set s.lines (conn - 1) (record line { taken = line.taken + count }) }
 kept_with s conn size count waiting line waits =
     ap (λ n. record (kept (called s) (Reads conn size n (Gave (take count (waits_at s conn)))) 1 0) { lines = slice_set s.lines (conn - 1) (record line { taken = line.taken + count }) }) waits
 
 -- the state, where octets are left and where none is
-pub read_leaves : (s now kept_now : WiresState) (conn size count waiting : ℕ) (line : MemoryLine) → fits s 1 0 ≡ true → is_to_fail s ≡ false → open_at s.lines conn ≡ Some line
+pub read_leaves : (s now kept_now : KeptWires) (conn size count waiting : ℕ) (line : MemoryLine) → fits s 1 0 ≡ true → is_to_fail s ≡ false → open_at s.lines conn ≡ Some line
     → waiting ≡ length (waits_at s conn) → 0 < waiting → count ≡ min size (length (waits_at s conn)) → count < waiting
     → kept_now ≡ record (kept (called s) (Reads conn size waiting (Gave (take count (waits_at s conn)))) 1 0) { lines = slice_set s.lines (conn - 1) (record line { taken = line.taken + count }) }
     → now ≡ record kept_now { again = kept_now.again ++ conn ∷ [] } → now ≡ after_read s conn size
 read_leaves s now kept_now conn size count waiting line room unlisted there waits some counted left kept_is now_is =
     let below : nat_lt count (length (waits_at s conn)) ≡ true = lt-ltb count (length (waits_at s conn)) (omega (arith, waits, left)) in
-    now_is ∙ ap {A = WiresState} (λ t. record t { again = t.again ++ conn ∷ [] }) (kept_is ∙ kept_with s conn size count waiting line waits) ∙ sym (read_state s conn size count waiting line room unlisted there waits some counted ∙ rw (below) refl)
+    now_is ∙ ap {A = KeptWires} (λ t. record t { again = t.again ++ conn ∷ [] }) (kept_is ∙ kept_with s conn size count waiting line waits) ∙ sym (read_state s conn size count waiting line room unlisted there waits some counted ∙ rw (below) refl)
 
-pub read_takes_all : (s now : WiresState) (conn size count waiting : ℕ) (line : MemoryLine) → fits s 1 0 ≡ true → is_to_fail s ≡ false → open_at s.lines conn ≡ Some line
+pub read_takes_all : (s now : KeptWires) (conn size count waiting : ℕ) (line : MemoryLine) → fits s 1 0 ≡ true → is_to_fail s ≡ false → open_at s.lines conn ≡ Some line
     → waiting ≡ length (waits_at s conn) → 0 < waiting → count ≡ min size (length (waits_at s conn)) → waiting ≤ count
     → now ≡ record (kept (called s) (Reads conn size waiting (Gave (take count (waits_at s conn)))) 1 0) { lines = slice_set s.lines (conn - 1) (record line { taken = line.taken + count }) }
     → now ≡ after_read s conn size

@@ -1,7 +1,7 @@
 -- What each call of wires in memory leaves alone and what it changes of what is told.
 use Rattle.std.proofs.Common.{ℕ, ◌+◌, ◌-◌, ◌≤◌, ◌≡◌, ◌≢◌, ◌==◌, min, Bool, true, false, List, [], ◌∷◌, ◌++◌, length, take, drop, Option, None, Some, Result, Ok, Err, refl, sym, ap, subst, ◌∙◌, arith, if◌then◌else◌}
 use Rattle.std.specs.Prelude.{is_some, unwrap_or, IfSome, IfOk}
-use Rattle.std.proofs.lemmas.Bool.{cond-true, cond-false, ne_eqb, eq-eqb, eqb-true, cases_Bool}
+use Rattle.std.proofs.lemmas.Bool.{cond-true, cond-false, ne_eqb, eq-eqb, eqb-true}
 use Rattle.std.proofs.lemmas.List.{nil_from_length}
 use Rattle.link_trait.specs.declared.act.Act.{Act}
 use Rattle.link_trait.specs.declared.memory_line.MemoryLine.{MemoryLine}
@@ -13,14 +13,14 @@ use Rattle.link_trait.specs.declared.wires.ReadAnswer.TheVariants as read_answer
 use Rattle.link_trait.specs.declared.wires.WriteAnswer.{WriteAnswer}
 use Rattle.link_trait.specs.declared.wires.WriteAnswer.TheVariants as write_answer
 use Rattle.link_trait.specs.Outside.{Grew}
-use Rattle.link_trait.specs.Wires.{Call, Listens, Dials, Turns, Reads, Writes, Closes, Reading, Gave, NotNow, End, Failed, Line, Lines, Told, AllStay, OnlyAdds, KeepsOctets, IsNew, Takes, Gives, StaysAtRead, StaysAtWrite, waiting, reading_of, taken_of, taken_by, given_of, given_by}
+use Rattle.link_trait.specs.Wires.{Call, Listens, Dials, Turns, Reads, Writes, Closes, Gave, NotNow, End, Failed, Lines, Told, AllStay, OnlyAdds, KeepsOctets, IsNew, Takes, Gives, StaysAtRead, StaysAtWrite, waiting, reading_of, taken_of, taken_by, given_of, given_by}
 use Rattle.link_trait.specs.KeptCalls.{IsUntouched}
-use Rattle.link_trait.specs.WiresMemory.{WiresState, is_to_fail, fits, places_of, octets_to, between, brought, line_at, open_at, changed, waits_of, waits_at, gives, line_told, told_lines, told_calls, room_of, shut_of, called, kept, failed, comes, coming, first_open, first_act, after_listen, after_dial, after_turn, after_read, after_write_to, after_close, reads_of, read_in, read_done, writes_of, written_in, write_done, new_line}
+use Rattle.link_trait.specs.WiresMemory.{KeptWires, is_to_fail, fits, places_of, octets_to, between, brought, line_at, open_at, changed, waits_of, waits_at, gives, line_told, told_lines, told_calls, room_of, shut_of, called, kept, comes, coming, first_open, first_act, after_listen, after_dial, after_turn, after_read, after_write_to, after_close, reads_of, read_in, read_done, writes_of, written_in, write_done, new_line}
 use Rattle.link_trait.proofs.ToldLines.{told_still, told_spent, told_if, line_at-more, line_at-changed, line_at-changed_other, line_at-open, changed_here, changed_any, drop_twice, taken_stays, given_stays, line_kept, line_stays, Grows, grows_same, next_grows}
 use Rattle.link_trait.proofs.KeptLists.{taken_of-more, given_of-more}
 
 -- a call that neither takes nor gives was kept, and the lines stay
-stay : (s t : WiresState) (call : Call) → t.spent ≡ s.spent → t.calls ≡ s.calls ++ call ∷ [] → t.acts ≡ s.acts → t.done ≡ s.done
+stay : (s t : KeptWires) (call : Call) → t.spent ≡ s.spent → t.calls ≡ s.calls ++ call ∷ [] → t.acts ≡ s.acts → t.done ≡ s.done
     → ((conn : ℕ) → conn ≤ length s.lines → line_at t.lines conn ≡ line_at s.lines conn)
     → ((conn : ℕ) → taken_by conn call ≡ []) → ((conn : ℕ) → given_by conn call ≡ []) → Told (told_lines s) (told_lines t) (λ before now. AllStay (length s.lines) before now)
 stay s t call spent calls acts done lines no_taking no_giving =
@@ -29,7 +29,7 @@ stay s t call spent calls acts done lines no_taking no_giving =
 
 -- listen and dial -----------------------------------------------------------------------------------------------------------------
 
-pub listen_stays : (s : WiresState) (address : List ℕ) → Told (told_lines s) (told_lines (after_listen s address)) (λ before now. AllStay (length s.lines) before now)
+pub listen_stays : (s : KeptWires) (address : List ℕ) → Told (told_lines s) (told_lines (after_listen s address)) (λ before now. AllStay (length s.lines) before now)
 listen_stays s address =
     told_if (fits s 1 (length address)) s _ _ (λ before now. AllStay (length s.lines) before now)
     (told_if (is_to_fail s) s _ _ (λ before now. AllStay (length s.lines) before now)
@@ -37,7 +37,7 @@ listen_stays s address =
     (stay s _ (Listens address true) refl refl refl refl (λ conn within. refl) (λ conn. refl) (λ conn. refl)))
     (told_spent s _ _ refl)
 
-pub dial_stays : (s : WiresState) (address : List ℕ) → Told (told_lines s) (told_lines (after_dial s address)) (λ before now. AllStay (length s.lines) before now)
+pub dial_stays : (s : KeptWires) (address : List ℕ) → Told (told_lines s) (told_lines (after_dial s address)) (λ before now. AllStay (length s.lines) before now)
 dial_stays s address =
     told_if (is_to_fail s) s _ _ (λ before now. AllStay (length s.lines) before now)
     (told_if (fits s 1 (length address)) s _ _ (λ before now. AllStay (length s.lines) before now)
@@ -47,20 +47,20 @@ dial_stays s address =
     (stay s _ (Dials address (Some (length s.lines + 1))) refl refl refl refl (λ conn within. line_at-more s.lines (new_line s.done s.room) conn within) (λ conn. refl) (λ conn. refl))
     (told_spent s _ _ refl))
 
-spent_if : (b : Bool) (s x y : WiresState) → (s.spent ≡ true → x.spent ≡ true) → (s.spent ≡ true → y.spent ≡ true) → s.spent ≡ true → (if b then x else y).spent ≡ true
+spent_if : (b : Bool) (s x y : KeptWires) → (s.spent ≡ true → x.spent ≡ true) → (s.spent ≡ true → y.spent ≡ true) → s.spent ≡ true → (if b then x else y).spent ≡ true
 spent_if true s x y first second is = first is
 spent_if false s x y first second is = second is
 
-dial_spent : (s : WiresState) (address : List ℕ) → s.spent ≡ true → (after_dial s address).spent ≡ true
+dial_spent : (s : KeptWires) (address : List ℕ) → s.spent ≡ true → (after_dial s address).spent ≡ true
 dial_spent s address =
     spent_if (is_to_fail s) s _ _ (spent_if (fits s 1 (length address)) s _ _ (λ is. is) (λ is. refl)) (spent_if (fits s 2 (length address)) s _ _ (λ is. is) (λ is. refl))
 
 -- a connection that is untouched is new
-is_new : (t : WiresState) (conn : ℕ) → IsUntouched conn t.calls → IsNew (line_told t conn)
+is_new : (t : KeptWires) (conn : ℕ) → IsUntouched conn t.calls → IsNew (line_told t conn)
 unfolding line_told
 is_new t conn untouched = record { taken = untouched.taken; given = untouched.given }
 
-pub dial_new : {E : Type 0} (s t : WiresState) (address : List ℕ) (result : Result Conn E) → t ≡ after_dial s address → IfOk result (λ conn. IsUntouched conn.0 t.calls)
+pub dial_new : {E : Type 0} (s t : KeptWires) (address : List ℕ) (result : Result Conn E) → t ≡ after_dial s address → IfOk result (λ conn. IsUntouched conn.0 t.calls)
     → Told (told_lines s) (told_lines t) (λ before now. IfOk result (λ conn. IsNew (now conn.0)))
 dial_new s t address (Ok conn) is untouched =
     told_still s t (λ before now. IsNew (now conn.0)) (λ spent. ap (λ u. u.spent) is ∙ dial_spent s address spent) (is_new t conn.0 untouched)
@@ -69,14 +69,14 @@ dial_new s t address (Err fault) is untouched =
 
 -- turn ----------------------------------------------------------------------------------------------------------------------------
 
-next_spent : (s : WiresState) (first : ℕ × Option ℕ) (next : ℕ × Option Act) → s.spent ≡ true → (coming (called s) first next).state.spent ≡ true
+next_spent : (s : KeptWires) (first : ℕ × Option ℕ) (next : ℕ × Option Act) → s.spent ≡ true → (coming (called s) first next).state.spent ≡ true
 next_spent s (passed, Some at) next is = is
 next_spent s (passed, None) (count, one) is = is
 
 abbrev GrowsAll : ℕ → Lines → Lines → Type 0
 GrowsAll opened before now = (conn : ℕ) → conn ≤ opened → Grows (before conn) (now conn)
 
-turn_grows : (s : WiresState) (until : Option ℕ) → Told (told_lines s) (told_lines (after_turn s until)) (λ before now. GrowsAll (length s.lines) before now)
+turn_grows : (s : KeptWires) (until : Option ℕ) → Told (told_lines s) (told_lines (after_turn s until)) (λ before now. GrowsAll (length s.lines) before now)
 turn_grows s until =
     told_if (is_to_fail s) s _ _ (λ before now. GrowsAll (length s.lines) before now)
     (told_if (fits s 1 0) s _ _ (λ before now. GrowsAll (length s.lines) before now)
@@ -95,25 +95,25 @@ told_weaker None (Some now) Strong Weak gives told = told
 told_weaker (Some before) None Strong Weak gives told = tt
 told_weaker (Some before) (Some now) Strong Weak gives told = gives before now told
 
-pub turn_adds : (s : WiresState) (until : Option ℕ)
+pub turn_adds : (s : KeptWires) (until : Option ℕ)
     → Told (told_lines s) (told_lines (after_turn s until)) (λ before now. (conn : ℕ) → conn ≤ length s.lines → OnlyAdds (before conn) (now conn))
 turn_adds s until =
     told_weaker (told_lines s) (told_lines (after_turn s until)) (λ before now. GrowsAll (length s.lines) before now)
     (λ before now. (conn : ℕ) → conn ≤ length s.lines → OnlyAdds (before conn) (now conn)) (λ before now grows conn within. (grows conn within).adds) (turn_grows s until)
 
-pub turn_keeps : (s : WiresState) (until : Option ℕ)
+pub turn_keeps : (s : KeptWires) (until : Option ℕ)
     → Told (told_lines s) (told_lines (after_turn s until)) (λ before now. (conn : ℕ) → conn ≤ length s.lines → KeepsOctets (before conn) (now conn))
 turn_keeps s until =
     told_weaker (told_lines s) (told_lines (after_turn s until)) (λ before now. GrowsAll (length s.lines) before now)
     (λ before now. (conn : ℕ) → conn ≤ length s.lines → KeepsOctets (before conn) (now conn)) (λ before now grows conn within. (grows conn within).keeps) (turn_grows s until)
 
-turn_spent : (s : WiresState) (until : Option ℕ) → s.spent ≡ true → (after_turn s until).spent ≡ true
+turn_spent : (s : KeptWires) (until : Option ℕ) → s.spent ≡ true → (after_turn s until).spent ≡ true
 turn_spent s until =
     spent_if (is_to_fail s) s _ _ (spent_if (fits s 1 0) s _ _ (λ is. is) (λ is. refl))
     (spent_if (fits s (places_of (comes (called s)).happening) 0) s _ _
     (next_spent s (first_open s.lines (drop s.heard s.again)) (first_act s.listening (drop s.done s.acts))) (λ is. refl))
 
-pub turn_new : (s t : WiresState) (until : Option ℕ) (result : Happening) → t ≡ after_turn s until
+pub turn_new : (s t : KeptWires) (until : Option ℕ) (result : Happening) → t ≡ after_turn s until
     → ((conn : Conn) → result ≡ happening.Accepted conn → IsUntouched conn.0 t.calls)
     → Told (told_lines s) (told_lines t) (λ before now. (conn : Conn) → result ≡ happening.Accepted conn → IsNew (now conn.0))
 turn_new s t until result is untouched =
@@ -181,29 +181,29 @@ if_either : (b : Bool) (f : Lines) (Holds : Lines → Type 0) → Holds f → If
 if_either true f Holds holds = tt
 if_either false f Holds holds = holds
 
-if_told : (s : WiresState) (Holds : Lines → Type 0) → Holds (line_told s) → IfSome (told_lines s) Holds
+if_told : (s : KeptWires) (Holds : Lines → Type 0) → Holds (line_told s) → IfSome (told_lines s) Holds
 unfolding told_lines
 if_told s Holds holds = if_either s.spent (line_told s) Holds holds
 
-found_none : (s : WiresState) (conn : ℕ) (shut : Bool) → GaveNone (open_at s.lines conn) (length (waits_at s conn)) shut
+found_none : (s : KeptWires) (conn : ℕ) (shut : Bool) → GaveNone (open_at s.lines conn) (length (waits_at s conn)) shut
     → IfSome (told_lines s) (λ before. ((before conn).waits ≡ []) × ((before conn).shut ≡ shut))
 unfolding line_told
 found_none s conn shut gave =
     if_told s (λ before. ((before conn).waits ≡ []) × ((before conn).shut ≡ shut))
     (nil_from_length (waits_at s conn) gave.none, ap shut_of (line_at-open s.lines conn gave.line gave.there) ∙ gave.shut)
 
-pub read_not_now : (s : WiresState) (conn size : ℕ) (result : ReadAnswer) → result ≡ read_in s conn size → result ≡ read_answer.NotNow
+pub read_not_now : (s : KeptWires) (conn size : ℕ) (result : ReadAnswer) → result ≡ read_in s conn size → result ≡ read_answer.NotNow
     → IfSome (told_lines s) (λ before. ((before conn).waits ≡ []) × ((before conn).shut ≡ false))
 read_not_now s conn size result answer is =
     found_none s conn false (gave_not_now (fits s 1 0) (is_to_fail s) (open_at s.lines conn) (length (waits_at s conn)) size (sym answer ∙ is))
 
-pub read_end : (s : WiresState) (conn size : ℕ) (result : ReadAnswer) → result ≡ read_in s conn size → result ≡ read_answer.End
+pub read_end : (s : KeptWires) (conn size : ℕ) (result : ReadAnswer) → result ≡ read_in s conn size → result ≡ read_answer.End
     → IfSome (told_lines s) (λ before. ((before conn).waits ≡ []) × ((before conn).shut ≡ true))
 read_end s conn size result answer is =
     found_none s conn true (gave_end (fits s 1 0) (is_to_fail s) (open_at s.lines conn) (length (waits_at s conn)) size (sym answer ∙ is))
 
 -- what a read changes, for each of its answers
-abbrev read_by : WiresState → ℕ → ℕ → ℕ → ReadAnswer → WiresState
+abbrev read_by : KeptWires → ℕ → ℕ → ℕ → ReadAnswer → KeptWires
 read_by s conn size waits answer = read_done (kept (called s) (Reads conn size waits (gives answer (waits_at s conn))) 1 0) conn waits answer
 
 took_else : (conn other : ℕ) (octets : List ℕ) → other ≢ conn → (if conn == other then octets else []) ≡ []
@@ -212,7 +212,7 @@ took_else conn other octets differs = cond-false (conn == other) octets [] (ne_e
 took_here : (conn : ℕ) (octets : List ℕ) → (if conn == conn then octets else []) ≡ octets
 took_here conn octets = cond-true (conn == conn) octets [] (eq-eqb conn conn refl)
 
-stays_by : (s : WiresState) (conn size waits : ℕ) (answer : ReadAnswer)
+stays_by : (s : KeptWires) (conn size waits : ℕ) (answer : ReadAnswer)
     → Told (told_lines s) (told_lines (read_by s conn size waits answer)) (λ before now. StaysAtRead answer (length s.lines) conn before now)
 unfolding line_told
 stays_by s conn size waits (read_answer.Some n) =
@@ -230,7 +230,7 @@ stays_by s conn size waits read_answer.NotNow = stay s _ (Reads conn size waits 
 stays_by s conn size waits read_answer.End = stay s _ (Reads conn size waits End) refl refl refl refl (λ at within. refl) (λ at. refl) (λ at. refl)
 stays_by s conn size waits read_answer.Failed = stay s _ (Reads conn size waits Failed) refl refl refl refl (λ at within. refl) (λ at. refl) (λ at. refl)
 
-pub read_stays : (s t : WiresState) (conn size : ℕ) (result : ReadAnswer) → result ≡ read_in s conn size → t ≡ after_read s conn size
+pub read_stays : (s t : KeptWires) (conn size : ℕ) (result : ReadAnswer) → result ≡ read_in s conn size → t ≡ after_read s conn size
     → Told (told_lines s) (told_lines t) (λ before now. StaysAtRead result (length s.lines) conn before now)
 read_stays s t conn size result answer state =
     let all : Told (told_lines s) (told_lines (after_read s conn size)) (λ before now. StaysAtRead (read_in s conn size) (length s.lines) conn before now) =
@@ -242,7 +242,7 @@ read_stays s t conn size result answer state =
 same_octets : (xs ys : List ℕ) → Gave xs ≡ Gave ys → xs ≡ ys
 same_octets xs ys same = cc same
 
-takes_by : (s : WiresState) (conn size waits : ℕ) (into : List ℕ) (answer : ReadAnswer)
+takes_by : (s : KeptWires) (conn size waits : ℕ) (into : List ℕ) (answer : ReadAnswer)
     → ((n : ℕ) → answer ≡ read_answer.Some n → GaveSome (open_at s.lines conn) (length (waits_at s conn)) n) → reading_of answer into ≡ gives answer (waits_at s conn)
     → Told (told_lines s) (told_lines (read_by s conn size waits answer)) (λ before now. Takes answer (before conn) (now conn) into)
 unfolding line_told
@@ -261,7 +261,7 @@ takes_by s conn size waits into read_answer.NotNow some gave = told_still s _ (�
 takes_by s conn size waits into read_answer.End some gave = told_still s _ (λ before now. Unit {0}) (λ is. is) tt
 takes_by s conn size waits into read_answer.Failed some gave = told_still s _ (λ before now. Unit {0}) (λ is. is) tt
 
-pub read_takes : (s t : WiresState) (conn size : ℕ) (into : List ℕ) (result : ReadAnswer) → result ≡ read_in s conn size → t ≡ after_read s conn size
+pub read_takes : (s t : KeptWires) (conn size : ℕ) (into : List ℕ) (result : ReadAnswer) → result ≡ read_in s conn size → t ≡ after_read s conn size
     → reading_of result into ≡ gives result (waits_at s conn) → Told (told_lines s) (told_lines t) (λ before now. Takes result (before conn) (now conn) into)
 read_takes s t conn size into result answer state gave =
     let all : Told (told_lines s) (told_lines (after_read s conn size)) (λ before now. Takes (read_in s conn size) (before conn) (now conn) into) =
@@ -285,28 +285,28 @@ grew_spent true false xs ys more spent = absurd (cc spent)
 grew_spent false true xs ys more spent = tt
 grew_spent false false xs ys more spent = absurd (cc spent)
 
-grew_if : (b : Bool) (s x y : WiresState) (more : List Call) → Grew (told_calls s) (told_calls x) more → Grew (told_calls s) (told_calls y) more
+grew_if : (b : Bool) (s x y : KeptWires) (more : List Call) → Grew (told_calls s) (told_calls x) more → Grew (told_calls s) (told_calls y) more
     → Grew (told_calls s) (told_calls (if b then x else y)) more
 grew_if true s x y more first second = first
 grew_if false s x y more first second = second
 
-done_calls : (s : WiresState) (conn waits : ℕ) (answer : ReadAnswer) → (read_done s conn waits answer).calls ≡ s.calls
+done_calls : (s : KeptWires) (conn waits : ℕ) (answer : ReadAnswer) → (read_done s conn waits answer).calls ≡ s.calls
 done_calls s conn waits (read_answer.Some n) = refl
 done_calls s conn waits read_answer.NotNow = refl
 done_calls s conn waits read_answer.End = refl
 done_calls s conn waits read_answer.Failed = refl
 
-done_spent : (s : WiresState) (conn waits : ℕ) (answer : ReadAnswer) → (read_done s conn waits answer).spent ≡ s.spent
+done_spent : (s : KeptWires) (conn waits : ℕ) (answer : ReadAnswer) → (read_done s conn waits answer).spent ≡ s.spent
 done_spent s conn waits (read_answer.Some n) = refl
 done_spent s conn waits read_answer.NotNow = refl
 done_spent s conn waits read_answer.End = refl
 done_spent s conn waits read_answer.Failed = refl
 
-waiting_told : (s : WiresState) (conn : ℕ) → s.spent ≡ false → waiting (told_lines s) conn ≡ length (waits_at s conn)
+waiting_told : (s : KeptWires) (conn : ℕ) → s.spent ≡ false → waiting (told_lines s) conn ≡ length (waits_at s conn)
 unfolding told_lines line_told
 waiting_told s conn tells = ap (λ told. waiting told conn) (cond-false s.spent None (Some (line_told s)) tells)
 
-pub read_told : (s t : WiresState) (conn size : ℕ) (into : List ℕ) (result : ReadAnswer) → result ≡ read_in s conn size → t ≡ after_read s conn size
+pub read_told : (s t : KeptWires) (conn size : ℕ) (into : List ℕ) (result : ReadAnswer) → result ≡ read_in s conn size → t ≡ after_read s conn size
     → reading_of result into ≡ gives result (waits_at s conn)
     → Grew (told_calls s) (told_calls t) (Reads conn size (waiting (told_lines s) conn) (reading_of result into) ∷ [])
 read_told s t conn size into result answer state gave =
@@ -314,7 +314,7 @@ read_told s t conn size into result answer state gave =
     let same : s.spent ≡ false → Reads conn size (length (waits_at s conn)) (gives (read_in s conn size) (waits_at s conn)) ≡ call =
     λ tells. ap (λ a. Reads conn size (length (waits_at s conn)) (gives a (waits_at s conn))) (sym answer) ∙ ap (Reads conn size (length (waits_at s conn))) (sym gave)
     ∙ ap (λ n. Reads conn size n (reading_of result into)) (sym (waiting_told s conn tells)) in
-    let before : WiresState = kept (called s) (Reads conn size (length (waits_at s conn)) (gives (read_in s conn size) (waits_at s conn))) 1 0 in
+    let before : KeptWires = kept (called s) (Reads conn size (length (waits_at s conn)) (gives (read_in s conn size) (waits_at s conn))) 1 0 in
     subst (λ u. Grew (told_calls s) (told_calls u) (call ∷ [])) (sym state)
     (grew_if (fits s 1 0) s _ _ (call ∷ [])
     (grew_by s.spent (read_done before conn (length (waits_at s conn)) (read_in s conn size)).spent s.calls (read_done before conn (length (waits_at s conn)) (read_in s conn size)).calls (call ∷ [])
@@ -354,7 +354,7 @@ wrote_none true false (Some line) size is =
     (record { line = line; there = refl; room = omega arith }, eqb-true line.room 0 (no_room_by (line.room == 0) (min size line.room) is))
 wrote_none false listed found size is = absurd (cc is)
 
-pub write_not_now : (s : WiresState) (conn size : ℕ) (result : WriteAnswer) → result ≡ written_in s conn size → result ≡ write_answer.NotNow
+pub write_not_now : (s : KeptWires) (conn size : ℕ) (result : WriteAnswer) → result ≡ written_in s conn size → result ≡ write_answer.NotNow
     → IfSome (told_lines s) (λ before. (before conn).room ≡ 0)
 unfolding line_told
 write_not_now s conn size result answer is =
@@ -362,10 +362,10 @@ write_not_now s conn size result answer is =
     wrote_none (fits s 1 size) (is_to_fail s) (open_at s.lines conn) size (sym answer ∙ is) in
     if_told s (λ before. (before conn).room ≡ 0) (ap room_of (line_at-open s.lines conn none.0.line none.0.there) ∙ ap room_of (sym none.0.there) ∙ none.1)
 
-abbrev write_by : WiresState → ℕ → List ℕ → WriteAnswer → WiresState
+abbrev write_by : KeptWires → ℕ → List ℕ → WriteAnswer → KeptWires
 write_by s conn piece answer = write_done (kept (called s) (Writes conn piece answer) 1 (length piece)) conn answer
 
-stays_at : (s : WiresState) (conn : ℕ) (piece : List ℕ) (answer : WriteAnswer)
+stays_at : (s : KeptWires) (conn : ℕ) (piece : List ℕ) (answer : WriteAnswer)
     → Told (told_lines s) (told_lines (write_by s conn piece answer)) (λ before now. StaysAtWrite answer (length s.lines) conn before now)
 unfolding line_told
 stays_at s conn piece (write_answer.Some n) =
@@ -383,7 +383,7 @@ stays_at s conn piece (write_answer.Some n) =
 stays_at s conn piece write_answer.NotNow = stay s _ (Writes conn piece write_answer.NotNow) refl refl refl refl (λ at within. refl) (λ at. refl) (λ at. refl)
 stays_at s conn piece write_answer.Failed = stay s _ (Writes conn piece write_answer.Failed) refl refl refl refl (λ at within. refl) (λ at. refl) (λ at. refl)
 
-pub write_stays : (s t : WiresState) (conn : ℕ) (piece : List ℕ) (result : WriteAnswer) → result ≡ written_in s conn (length piece) → t ≡ after_write_to s conn piece
+pub write_stays : (s t : KeptWires) (conn : ℕ) (piece : List ℕ) (result : WriteAnswer) → result ≡ written_in s conn (length piece) → t ≡ after_write_to s conn piece
     → Told (told_lines s) (told_lines t) (λ before now. StaysAtWrite result (length s.lines) conn before now)
 write_stays s t conn piece result answer state =
     let all : Told (told_lines s) (told_lines (after_write_to s conn piece)) (λ before now. StaysAtWrite (written_in s conn (length piece)) (length s.lines) conn before now) =
@@ -392,7 +392,7 @@ write_stays s t conn piece result answer state =
     subst (λ u. Told (told_lines s) (told_lines u) (λ before now. StaysAtWrite result (length s.lines) conn before now)) (sym state)
     (subst (λ a. Told (told_lines s) (told_lines (after_write_to s conn piece)) (λ before now. StaysAtWrite a (length s.lines) conn before now)) (sym answer) all)
 
-gives_by : (s : WiresState) (conn : ℕ) (piece : List ℕ) (answer : WriteAnswer) → ((n : ℕ) → answer ≡ write_answer.Some n → WroteSome (open_at s.lines conn) n)
+gives_by : (s : KeptWires) (conn : ℕ) (piece : List ℕ) (answer : WriteAnswer) → ((n : ℕ) → answer ≡ write_answer.Some n → WroteSome (open_at s.lines conn) n)
     → Told (told_lines s) (told_lines (write_by s conn piece answer)) (λ before now. Gives answer (before conn) (now conn) piece)
 unfolding line_told
 gives_by s conn piece (write_answer.Some n) some =
@@ -407,7 +407,7 @@ gives_by s conn piece (write_answer.Some n) some =
 gives_by s conn piece write_answer.NotNow some = told_still s _ (λ before now. Unit {0}) (λ is. is) tt
 gives_by s conn piece write_answer.Failed some = told_still s _ (λ before now. Unit {0}) (λ is. is) tt
 
-pub write_gives : (s t : WiresState) (conn : ℕ) (piece : List ℕ) (result : WriteAnswer) → result ≡ written_in s conn (length piece) → t ≡ after_write_to s conn piece
+pub write_gives : (s t : KeptWires) (conn : ℕ) (piece : List ℕ) (result : WriteAnswer) → result ≡ written_in s conn (length piece) → t ≡ after_write_to s conn piece
     → Told (told_lines s) (told_lines t) (λ before now. Gives result (before conn) (now conn) piece)
 write_gives s t conn piece result answer state =
     let all : Told (told_lines s) (told_lines (after_write_to s conn piece)) (λ before now. Gives (written_in s conn (length piece)) (before conn) (now conn) piece) =
@@ -428,7 +428,7 @@ record SameLine (acts : List Act) (done conn : ℕ) (before now : Option MemoryL
   room : room_of now ≡ room_of before
   shut : shut_of now ≡ shut_of before
 
-pub close_stays : (s : WiresState) (conn : ℕ) → Told (told_lines s) (told_lines (after_close s conn)) (λ before now. AllStay (length s.lines) before now)
+pub close_stays : (s : KeptWires) (conn : ℕ) → Told (told_lines s) (told_lines (after_close s conn)) (λ before now. AllStay (length s.lines) before now)
 close_stays s conn =
     told_if (is_some (open_at s.lines conn)) s _ _ (λ before now. AllStay (length s.lines) before now)
     (told_still s _ (λ before now. AllStay (length s.lines) before now) (λ is. is) (λ at within.

@@ -1,5 +1,5 @@
 -- What wires in memory tell of each connection, from one state to the next.
-use Rattle.std.proofs.Common.{ℕ, zero, suc, ◌+◌, ◌-◌, ◌<◌, ◌≤◌, ◌≡◌, ◌≢◌, ◌==◌, min, inl, inr, Bool, true, false, List, [], ◌∷◌, ◌++◌, length, take, drop, Option, None, Some, refl, sym, ap, subst, ◌∙◌, arith, slice_set, if◌then◌else◌}
+use Rattle.std.proofs.Common.{ℕ, zero, suc, ◌+◌, ◌-◌, ◌<◌, ◌≤◌, ◌≡◌, ◌≢◌, ◌==◌, inl, inr, Bool, true, false, List, [], ◌∷◌, ◌++◌, length, take, drop, Option, None, Some, refl, sym, ap, subst, ◌∙◌, arith, slice_set, if◌then◌else◌}
 use Rattle.std.specs.Prelude.{is_some, slice_get, unwrap_or}
 use Rattle.std.proofs.lemmas.Bool.{cond-false, ne_eqb, cases_eq, cases_lt}
 use Rattle.std.proofs.lemmas.List.{append-nil, append_assoc, drop-append-le, drop_all}
@@ -8,8 +8,8 @@ use Rattle.link_trait.specs.declared.act.Act.{Act}
 use Rattle.link_trait.specs.declared.act.Act.TheVariants as act
 use Rattle.link_trait.specs.declared.memory_line.MemoryLine.{MemoryLine}
 use Rattle.link_trait.specs.Wires.{Call, Line, Lines, Told, taken_of, taken_by, given_of, given_by, OnlyAdds, KeepsOctets}
-use Rattle.link_trait.specs.WiresMemory.{WiresState, octets_to, brought_by, between, brought, waits_of, line_at, open_at, changed, changed_at, line_told, told_lines, room_of, shut_of, lines_after, new_line, coming, kept, called}
-use Rattle.link_trait.proofs.KeptLists.{taken_of-more, given_of-more, if_open_some, open_place, is_open_by, IsOpen}
+use Rattle.link_trait.specs.WiresMemory.{KeptWires, octets_to, brought_by, between, waits_of, line_at, open_at, changed, changed_at, line_told, told_lines, room_of, shut_of, lines_after, new_line, coming, kept, called}
+use Rattle.link_trait.proofs.KeptLists.{taken_of-more, given_of-more, if_open_some, open_place}
 
 -- what is told, where a capacity was found spent and where it wasn't --------------------------------------------------------------
 
@@ -27,17 +27,17 @@ told_never before false f g Holds spent = absurd (cc spent)
 told_never false true f g Holds spent = tt
 
 -- it is told still
-pub told_still : (s t : WiresState) (Holds : Lines → Lines → Type 0) → (s.spent ≡ true → t.spent ≡ true) → Holds (line_told s) (line_told t)
+pub told_still : (s t : KeptWires) (Holds : Lines → Lines → Type 0) → (s.spent ≡ true → t.spent ≡ true) → Holds (line_told s) (line_told t)
     → Told (told_lines s) (told_lines t) Holds
 unfolding told_lines
 told_still s t Holds later holds = told_later s.spent t.spent (line_told s) (line_told t) Holds later holds
 
 -- it is told no more
-pub told_spent : (s t : WiresState) (Holds : Lines → Lines → Type 0) → t.spent ≡ true → Told (told_lines s) (told_lines t) Holds
+pub told_spent : (s t : KeptWires) (Holds : Lines → Lines → Type 0) → t.spent ≡ true → Told (told_lines s) (told_lines t) Holds
 unfolding told_lines
 told_spent s t Holds spent = told_never s.spent t.spent (line_told s) (line_told t) Holds spent
 
-pub told_if : (b : Bool) (s x y : WiresState) (Holds : Lines → Lines → Type 0) → Told (told_lines s) (told_lines x) Holds → Told (told_lines s) (told_lines y) Holds
+pub told_if : (b : Bool) (s x y : KeptWires) (Holds : Lines → Lines → Type 0) → Told (told_lines s) (told_lines x) Holds → Told (told_lines s) (told_lines y) Holds
     → Told (told_lines s) (told_lines (if b then x else y)) Holds
 told_if true s x y Holds yes_holds no_holds = yes_holds
 told_if false s x y Holds yes_holds no_holds = no_holds
@@ -181,23 +181,23 @@ same_line : (taken given waits taken' given' waits' : List ℕ) (room room' : �
 same_line taken given waits taken' given' waits' room room' shut shut' a b c d e = cc (a, b, c, d, e)
 
 -- the octets taken and given, where a call takes none and gives none
-pub taken_stays : (s t : WiresState) (call : Call) (conn : ℕ) → t.calls ≡ s.calls ++ call ∷ [] → taken_by conn call ≡ [] → taken_of conn t.calls ≡ taken_of conn s.calls
+pub taken_stays : (s t : KeptWires) (call : Call) (conn : ℕ) → t.calls ≡ s.calls ++ call ∷ [] → taken_by conn call ≡ [] → taken_of conn t.calls ≡ taken_of conn s.calls
 taken_stays s t call conn calls none =
     ap (taken_of conn) calls ∙ taken_of-more conn s.calls call ∙ ap (λ os. taken_of conn s.calls ++ os) none ∙ append-nil (taken_of conn s.calls)
 
-pub given_stays : (s t : WiresState) (call : Call) (conn : ℕ) → t.calls ≡ s.calls ++ call ∷ [] → given_by conn call ≡ [] → given_of conn t.calls ≡ given_of conn s.calls
+pub given_stays : (s t : KeptWires) (call : Call) (conn : ℕ) → t.calls ≡ s.calls ++ call ∷ [] → given_by conn call ≡ [] → given_of conn t.calls ≡ given_of conn s.calls
 given_stays s t call conn calls none =
     ap (given_of conn) calls ∙ given_of-more conn s.calls call ∙ ap (λ os. given_of conn s.calls ++ os) none ∙ append-nil (given_of conn s.calls)
 
 -- it stays, where a call takes nothing from it and gives nothing to it, and what waits, the room and the peer's side stay
-pub line_kept : (s t : WiresState) (call : Call) (conn : ℕ) → t.calls ≡ s.calls ++ call ∷ [] → waits_of t.acts t.done conn (line_at t.lines conn) ≡ waits_of s.acts s.done conn (line_at s.lines conn)
+pub line_kept : (s t : KeptWires) (call : Call) (conn : ℕ) → t.calls ≡ s.calls ++ call ∷ [] → waits_of t.acts t.done conn (line_at t.lines conn) ≡ waits_of s.acts s.done conn (line_at s.lines conn)
     → room_of (line_at t.lines conn) ≡ room_of (line_at s.lines conn) → shut_of (line_at t.lines conn) ≡ shut_of (line_at s.lines conn)
     → taken_by conn call ≡ [] → given_by conn call ≡ [] → line_told t conn ≡ line_told s conn
 unfolding line_told
 line_kept s t call conn calls waits room shut no_taking no_giving =
     same_line _ _ _ _ _ _ _ _ _ _ (taken_stays s t call conn calls no_taking) (given_stays s t call conn calls no_giving) waits room shut
 
-pub line_stays : (s t : WiresState) (call : Call) (conn : ℕ) → t.calls ≡ s.calls ++ call ∷ [] → t.acts ≡ s.acts → t.done ≡ s.done → line_at t.lines conn ≡ line_at s.lines conn
+pub line_stays : (s t : KeptWires) (call : Call) (conn : ℕ) → t.calls ≡ s.calls ++ call ∷ [] → t.acts ≡ s.acts → t.done ≡ s.done → line_at t.lines conn ≡ line_at s.lines conn
     → taken_by conn call ≡ [] → given_by conn call ≡ [] → line_told t conn ≡ line_told s conn
 line_stays s t call conn calls acts done line no_taking no_giving =
     let waits : waits_of t.acts t.done conn (line_at t.lines conn) ≡ waits_of s.acts s.done conn (line_at s.lines conn) =
@@ -274,7 +274,7 @@ grows_same before now same = record {
   keeps = record { taken = ap (λ l. l.taken) same; given = ap (λ l. l.given) same };
 }
 
-grows_by : (s t : WiresState) (call : Call) (count conn : ℕ) → t.calls ≡ s.calls ++ call ∷ [] → t.acts ≡ s.acts → t.done ≡ s.done + count
+grows_by : (s t : KeptWires) (call : Call) (count conn : ℕ) → t.calls ≡ s.calls ++ call ∷ [] → t.acts ≡ s.acts → t.done ≡ s.done + count
     → Later (line_at s.lines conn) (line_at t.lines conn) → taken_by conn call ≡ [] → given_by conn call ≡ [] → Grows (line_told s conn) (line_told t conn)
 unfolding line_told
 grows_by s t call count conn calls acts done later no_taking no_giving =
@@ -290,7 +290,7 @@ grows_by s t call count conn calls acts done later no_taking no_giving =
     }
 
 -- what comes next adds octets, sets room or closes the peer's side, at the connections that are opened
-pub next_grows : (s : WiresState) (first : ℕ × Option ℕ) (next : ℕ × Option Act) (call : Call) (places conn : ℕ) → conn ≤ length s.lines → taken_by conn call ≡ [] → given_by conn call ≡ []
+pub next_grows : (s : KeptWires) (first : ℕ × Option ℕ) (next : ℕ × Option Act) (call : Call) (places conn : ℕ) → conn ≤ length s.lines → taken_by conn call ≡ [] → given_by conn call ≡ []
     → Grows (line_told s conn) (line_told (kept (coming (called s) first next).state call places 0) conn)
 next_grows s (passed, Some at) next call places conn within no_taking no_giving =
     grows_same (line_told s conn) _ (line_stays s _ call conn refl refl refl refl no_taking no_giving)

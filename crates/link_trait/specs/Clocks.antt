@@ -11,10 +11,10 @@ answers_of moments zero = []
 answers_of moments (suc asked) = answers_of moments asked ++ answer_after moments asked ∷ []
 
 -- a clock: its moments, and how often it was asked
-pub record ClockState : Type 0 where
+pub record KeptClock : Type 0 where
   pub moments : List ℕ
   pub asked : ℕ
 
 -- a clock tells its answers until it was asked 2^64 - 1 times
-abbrev pub told_answers : ClockState → Option (List ℕ)
+abbrev pub told_answers : KeptClock → Option (List ℕ)
 told_answers s = if nat_lt s.asked (2 ^ 64 - 1) then Some (answers_of s.moments s.asked) else None

@@ -1,7 +1,7 @@
 -- Representation: the record of wires in memory as they keep it, octets of addresses and pieces in one list.
 use Rattle.std.specs.Prelude.{◌≡◌, ◌≤◌, ◌<◌, ℕ, ◌+◌, ◌-◌, ◌^◌, true, false, List, [], ◌∷◌, ◌++◌, length, take, drop, slice_set, Option, None, Some, IfSome, is_some, option_map, if◌then◌else◌, Vec, vec_len, vec_capacity}
 use Rattle.link_trait.specs.Wires.{Call, Listens, Dials, Turns, Reads, Writes, Closes, given_of, taken_of}
-use Rattle.link_trait.specs.WiresMemory.{WiresState, octets_to, between, gives, open_at, new_line, happening_of, comes}
+use Rattle.link_trait.specs.WiresMemory.{KeptWires, octets_to, between, gives, open_at, new_line, happening_of, comes}
 use Rattle.link_trait.specs.declared.act.Act.TheVariants as act
 use Rattle.link_trait.specs.declared.memory_wires.Coming.{Coming}
 use Rattle.link_trait.specs.declared.wires.Happening.{Happening}
@@ -100,11 +100,11 @@ put_in lines None = lines
 put_in lines (Some (conn, line)) = slice_set lines (conn - 1) line
 
 -- what a turn passes was passed, and what it changes was changed
-abbrev pub advanced : WiresState → Coming → WiresState
+abbrev pub advanced : KeptWires → Coming → KeptWires
 advanced s c = record s { heard = s.heard + c.passed; done = s.done + c.acts; lines = put_in s.lines c.change }
 
 -- a connection is opened where it was accepted
-abbrev pub opening : Happening → WiresState → WiresState
+abbrev pub opening : Happening → KeptWires → KeptWires
 opening (happening.Accepted conn) s = record s { lines = s.lines ++ new_line s.done s.room ∷ [] }
 opening (happening.Readable conn) s = s
 opening (happening.Writable conn) s = s
@@ -113,7 +113,7 @@ opening happening.Ended s = s
 opening happening.Failed s = s
 
 -- what a turn brings next, as it is found
-pub record IsComing (s : WiresState) (c : Coming) : Type 0 where
+pub record IsComing (s : KeptWires) (c : Coming) : Type 0 where
   pub happening : c.happening ≡ (comes s).happening
   pub state : opening c.happening (advanced s c) ≡ (comes s).state
   pub passed : s.heard + c.passed < 2 ^ 64

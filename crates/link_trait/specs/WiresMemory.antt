@@ -15,7 +15,7 @@ use Rattle.link_trait.specs.declared.wires.WriteAnswer.{WriteAnswer}
 use Rattle.link_trait.specs.declared.wires.WriteAnswer.TheVariants as write_answer
 
 -- what wires in memory hold
-pub record WiresState : Type 0 where
+pub record KeptWires : Type 0 where
   -- the script, and how many of its acts were done
   pub acts : List Act
   pub done : ℕ
@@ -41,7 +41,7 @@ pub record WiresState : Type 0 where
   pub turn_faults : ℕ
 
 -- wires as they are made
-abbrev pub new_wires : List Act → ℕ → ℕ → ℕ → WiresState
+abbrev pub new_wires : List Act → ℕ → ℕ → ℕ → KeptWires
 new_wires acts room calls octets = record {
   acts = acts;
   done = 0;
@@ -102,7 +102,7 @@ waits_of acts done conn None = []
 waits_of acts done conn (Some line) = drop line.taken (brought acts done conn line)
 
 -- the octets that wait at a connection: of those brought to it, those that weren't taken
-abbrev pub waits_at : WiresState → ℕ → List ℕ
+abbrev pub waits_at : KeptWires → ℕ → List ℕ
 waits_at s conn = waits_of s.acts s.done conn (line_at s.lines conn)
 
 -- a connection as it is opened, behind so many acts
@@ -110,7 +110,7 @@ abbrev pub new_line : ℕ → ℕ → MemoryLine
 new_line done room = record { from = done; closed = None; taken = 0; room = room; is_shut = false }
 
 -- they tell until a call finds a capacity spent
-abbrev pub told_calls : WiresState → Option (List Call)
+abbrev pub told_calls : KeptWires → Option (List Call)
 told_calls s = if s.spent then None else Some s.calls
 
 -- what is told of a connection; of one that wasn't opened nothing waits, and it has no room
@@ -122,7 +122,7 @@ abbrev pub shut_of : Option MemoryLine → Bool
 shut_of None = false
 shut_of (Some line) = line.is_shut
 
-unfoldable pub line_told : WiresState → ℕ → Line
+unfoldable pub line_told : KeptWires → ℕ → Line
 line_told s conn = record {
   taken = taken_of conn s.calls;
   given = given_of conn s.calls;
@@ -131,43 +131,43 @@ line_told s conn = record {
   shut = shut_of (line_at s.lines conn);
 }
 
-unfoldable pub told_lines : WiresState → Option Lines
+unfoldable pub told_lines : KeptWires → Option Lines
 told_lines s = if s.spent then None else Some (line_told s)
 
 -- calls ---------------------------------------------------------------------------------------------------------------------------
 
 -- whether so many places and octets more fit
-abbrev pub fits : WiresState → ℕ → ℕ → Bool
+abbrev pub fits : KeptWires → ℕ → ℕ → Bool
 fits s places octets = not (nat_lt s.call_places (s.places + places)) && not (nat_lt s.octet_places (s.octets + octets))
 
 -- a call was kept, which takes so many places, and whose address or piece has so many octets
-abbrev pub kept : WiresState → Call → ℕ → ℕ → WiresState
+abbrev pub kept : KeptWires → Call → ℕ → ℕ → KeptWires
 kept s call places octets = record s { calls = s.calls ++ call ∷ []; places = s.places + places; octets = s.octets + octets }
 
 -- whether the next call that can fail is listed to fail, and that one such call was made
-abbrev pub is_to_fail : WiresState → Bool
+abbrev pub is_to_fail : KeptWires → Bool
 is_to_fail s = is_listed s.failing s.asked
 
-abbrev pub called : WiresState → WiresState
+abbrev pub called : KeptWires → KeptWires
 called s = record s { asked = counted s.asked }
 
 -- a read or write failed; a listen, dial or turn failed
-abbrev pub failed : WiresState → WiresState
+abbrev pub failed : KeptWires → KeptWires
 failed s = record s { faults = counted s.faults }
 
-abbrev pub turn_failed : WiresState → WiresState
+abbrev pub turn_failed : KeptWires → KeptWires
 turn_failed s = record s { faults = counted s.faults; turn_faults = counted s.turn_faults }
 
 -- a call found a capacity spent
-abbrev pub spends : WiresState → WiresState
+abbrev pub spends : KeptWires → KeptWires
 spends s = record s { spent = true }
 
 -- listen and dial: they fail where a capacity is spent, and where the call is listed. A connection that is opened takes a second
 -- place, for its close
-abbrev pub is_listen_ok : WiresState → List ℕ → Bool
+abbrev pub is_listen_ok : KeptWires → List ℕ → Bool
 is_listen_ok s address = fits s 1 (length address) && not (is_to_fail s)
 
-abbrev pub after_listen : WiresState → List ℕ → WiresState
+abbrev pub after_listen : KeptWires → List ℕ → KeptWires
 after_listen s address =
     if fits s 1 (length address)
     then (if is_to_fail s
@@ -176,11 +176,11 @@ after_listen s address =
     else turn_failed (spends (called s))
 
 -- the number of the connection that a dial opens
-abbrev pub dialled_in : WiresState → List ℕ → Option ℕ
+abbrev pub dialled_in : KeptWires → List ℕ → Option ℕ
 dialled_in s address =
     if is_to_fail s then None else if fits s 2 (length address) then Some (length s.lines + 1) else None
 
-abbrev pub after_dial : WiresState → List ℕ → WiresState
+abbrev pub after_dial : KeptWires → List ℕ → KeptWires
 after_dial s address =
     if is_to_fail s
     then (if fits s 1 (length address)
@@ -240,9 +240,9 @@ lines_after lines done room (Some act.Quiet) = lines
 -- what a turn brings: the happening, and the wires then
 pub record Coming : Type 0 where
   pub happening : Happening
-  pub state : WiresState
+  pub state : KeptWires
 
-abbrev pub coming : WiresState → ℕ × Option ℕ → ℕ × Option Act → Coming
+abbrev pub coming : KeptWires → ℕ × Option ℕ → ℕ × Option Act → Coming
 coming s (passed, Some conn) next = record { happening = happening.Readable (record { 0 = conn }); state = record s { heard = s.heard + passed } }
 coming s (passed, None) (count, one) = record {
   happening = happening_of (length s.lines) one;
@@ -250,7 +250,7 @@ coming s (passed, None) (count, one) = record {
 }
 
 -- connections whose reads left octets come first, then the acts
-abbrev pub comes : WiresState → Coming
+abbrev pub comes : KeptWires → Coming
 comes s = coming s (first_open s.lines (drop s.heard s.again)) (first_act s.listening (drop s.done s.acts))
 
 -- the places that a happening takes: an accepted connection takes a second one for its close
@@ -263,12 +263,12 @@ places_of happening.Ended = 1
 places_of happening.Failed = 1
 
 -- a turn fails where the call is listed and where a capacity is spent; then nothing of the script is done
-abbrev pub happening_in : WiresState → Happening
+abbrev pub happening_in : KeptWires → Happening
 happening_in s =
     if is_to_fail s then happening.Failed
     else if fits s (places_of (comes (called s)).happening) 0 then (comes (called s)).happening else happening.Failed
 
-abbrev pub after_turn : WiresState → Option ℕ → WiresState
+abbrev pub after_turn : KeptWires → Option ℕ → KeptWires
 after_turn s until =
     if is_to_fail s
     then (if fits s 1 0 then turn_failed (kept (called s) (Turns until happening.Failed) 1 0) else turn_failed (spends (called s)))
@@ -284,7 +284,7 @@ reads_of None waiting size = read_answer.Failed
 reads_of (Some line) waiting size =
     if waiting == 0 then (if line.is_shut then read_answer.End else read_answer.NotNow) else read_answer.Some (min size waiting)
 
-abbrev pub read_in : WiresState → ℕ → ℕ → ReadAnswer
+abbrev pub read_in : KeptWires → ℕ → ℕ → ReadAnswer
 read_in s conn size =
     if fits s 1 0
     then (if is_to_fail s then read_answer.Failed else reads_of (open_at s.lines conn) (length (waits_at s conn)) size)
@@ -298,7 +298,7 @@ gives read_answer.End waits = End
 gives read_answer.Failed waits = Failed
 
 -- what an answered read changes beside its place in the record. Where octets are left, a turn tells of the connection once more
-abbrev pub read_done : WiresState → ℕ → ℕ → ReadAnswer → WiresState
+abbrev pub read_done : KeptWires → ℕ → ℕ → ReadAnswer → KeptWires
 read_done s conn waiting (read_answer.Some n) = record s {
   lines = changed s.lines conn (λ line. record line { taken = line.taken + n });
   again = if nat_lt n waiting then s.again ++ conn ∷ [] else s.again;
@@ -307,7 +307,7 @@ read_done s conn waiting read_answer.NotNow = s
 read_done s conn waiting read_answer.End = s
 read_done s conn waiting read_answer.Failed = failed s
 
-abbrev pub after_read : WiresState → ℕ → ℕ → WiresState
+abbrev pub after_read : KeptWires → ℕ → ℕ → KeptWires
 after_read s conn size =
     if fits s 1 0
     then read_done (kept (called s) (Reads conn size (length (waits_at s conn)) (gives (read_in s conn size) (waits_at s conn))) 1 0)
@@ -319,25 +319,25 @@ abbrev pub writes_of : Option MemoryLine → ℕ → WriteAnswer
 writes_of None size = write_answer.Failed
 writes_of (Some line) size = if line.room == 0 then write_answer.NotNow else write_answer.Some (min size line.room)
 
-abbrev pub written_in : WiresState → ℕ → ℕ → WriteAnswer
+abbrev pub written_in : KeptWires → ℕ → ℕ → WriteAnswer
 written_in s conn size =
     if fits s 1 size
     then (if is_to_fail s then write_answer.Failed else writes_of (open_at s.lines conn) size)
     else write_answer.Failed
 
-abbrev pub write_done : WiresState → ℕ → WriteAnswer → WiresState
+abbrev pub write_done : KeptWires → ℕ → WriteAnswer → KeptWires
 write_done s conn (write_answer.Some n) = record s { lines = changed s.lines conn (λ line. record line { room = line.room - n }) }
 write_done s conn write_answer.NotNow = s
 write_done s conn write_answer.Failed = failed s
 
-abbrev pub after_write_to : WiresState → ℕ → List ℕ → WiresState
+abbrev pub after_write_to : KeptWires → ℕ → List ℕ → KeptWires
 after_write_to s conn piece =
     if fits s 1 (length piece)
     then write_done (kept (called s) (Writes conn piece (written_in s conn (length piece))) 1 (length piece)) conn (written_in s conn (length piece))
     else failed (spends (called s))
 
 -- the close of an open connection has its place; another close that finds none is a fault
-abbrev pub after_close : WiresState → ℕ → WiresState
+abbrev pub after_close : KeptWires → ℕ → KeptWires
 after_close s conn =
     if is_some (open_at s.lines conn)
     then record (kept s (Closes conn) 0 0) { lines = changed s.lines conn (λ line. record line { closed = Some s.done }) }

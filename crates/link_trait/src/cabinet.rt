@@ -2,6 +2,7 @@
 ghost use Rattle.std.specs.Prelude.{◌≡◌, ℕ, ◌-◌, ◌^◌, ◌≤◌, List, Option, Some, None, IfOk};
 ghost use Rattle.link_trait.specs.declared.cabinet.FetchFault.TheVariants as fault;
 ghost use Rattle.link_trait.specs.Outside.{HasFile, Kept, Notes, Rose};
+ghost use Rattle.link_trait.specs.States.{CabinetState};
 
 use er_base::NoMemory;
 use std::alloc::Global;
@@ -29,23 +30,18 @@ impl From<NoMemory> for FetchFault {
 /// one doesn't. One that tells nothing never begins to tell, and it may cease to tell. Its faults are
 /// counted, up to 2^64 - 1, and the count never falls.
 pub trait Cabinet {
-    // Its files, name and octets, of which a name means the first; and the names asked for, in their order.
-    ghost files: { Self → Option (List (List ℕ × List ℕ)) };
-
-    ghost asked: { Self → Option (List (List ℕ)) };
-
-    // How often it failed.
-    ghost faults: { Self → ℕ };
+    // Its files, the names asked for, and how often it failed.
+    ghost state: { Self → CabinetState };
 
     /// The octets of the file of that name.
     ///
     /// A fetch changes no file. The name is noted among those asked for, save where memory ran out: then
     /// it may be noted or not.
     fn fetch(&mut self, alloc: Global, name: &str) -> Result<Vec<u8>, FetchFault>
-        ensures ok { IfOk result (λ octets. HasFile (files self.old) name.now octets.items) }
-        ensures kept { Kept (files self.old) (files self.new) }
-        ensures noted { Notes result (asked self.old) (asked self.new) name.now }
-        ensures count { faults self.old ≤ faults self.new }
-        ensures most { faults self.new ≤ 2 ^ 64 - 1 }
-        ensures failed { result ≡ Err FetchFault.Failed → Rose (faults self.old) (faults self.new) };
+        ensures ok { IfOk result (λ octets. HasFile (state self.old).files name.now octets.items) }
+        ensures kept { Kept (state self.old).files (state self.new).files }
+        ensures noted { Notes result (state self.old).asked (state self.new).asked name.now }
+        ensures count { (state self.old).faults ≤ (state self.new).faults }
+        ensures most { (state self.new).faults ≤ 2 ^ 64 - 1 }
+        ensures failed { result ≡ Err FetchFault.Failed → Rose (state self.old).faults (state self.new).faults };
 }

@@ -25,9 +25,9 @@ pub struct MemoryCabinet {
 
 impl Model for MemoryCabinet {
     ghost use Rattle.std.specs.Prelude.{map, string_bytes};
-    ghost use Rattle.link_trait.specs.OutsideMemory.{CabinetState};
+    ghost use Rattle.link_trait.specs.OutsideMemory.{KeptCabinet};
 
-    ghost Value = { CabinetState };
+    ghost Value = { KeptCabinet };
 
     ghost view = { λ c. record {
       files = map (λ e. (string_bytes e.0, e.1.items)) c.files.entries;
@@ -91,11 +91,7 @@ fn copied(alloc: Global, octets: &[u8]) -> Result<Vec<u8>, NoMemory>
 }
 
 impl Cabinet for MemoryCabinet {
-    ghost files = { λ c. Some c.files };
-
-    ghost asked = { λ c. Some c.asked };
-
-    ghost faults = { λ c. c.faults };
+    ghost state = { λ c. record { files = Some c.files; asked = Some c.asked; faults = c.faults } };
 
     fn fetch(&mut self, alloc: Global, name: &str) -> Result<Vec<u8>, FetchFault>
         ensures given { IfOk result (λ octets. fetch_answer self.old name.now ≡ Some octets.items) }

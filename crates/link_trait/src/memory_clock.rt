@@ -17,9 +17,9 @@ pub struct MemoryClock {
 
 impl Model for MemoryClock {
     ghost use Rattle.std.specs.Prelude.{◌≤◌, ◌<◌, ◌^◌, All, vec_len};
-    ghost use Rattle.link_trait.specs.Clocks.{ClockState};
+    ghost use Rattle.link_trait.specs.Clocks.{KeptClock};
 
-    ghost Value = { ClockState };
+    ghost Value = { KeptClock };
 
     ghost view = { λ c. record { moments = c.moments.items; asked = c.asked } };
 
@@ -39,7 +39,7 @@ impl MemoryClock {
 }
 
 impl Clock for MemoryClock {
-    ghost answers = { λ c. told_answers c };
+    ghost state = { λ c. record { answers = told_answers c } };
 
     fn now(&mut self) -> u64
         ensures answer { result ≡ answer_after self.old.moments self.old.asked }

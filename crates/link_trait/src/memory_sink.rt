@@ -23,9 +23,9 @@ pub struct MemorySink {
 
 impl Model for MemorySink {
     ghost use Rattle.std.specs.Prelude.{◌≤◌, vec_capacity, vec_len};
-    ghost use Rattle.link_trait.specs.OutsideMemory.{SinkState};
+    ghost use Rattle.link_trait.specs.OutsideMemory.{KeptSink};
 
-    ghost Value = { SinkState };
+    ghost Value = { KeptSink };
 
     ghost view = { λ s. record {
       held = s.octets.items;
@@ -69,9 +69,7 @@ impl MemorySink {
 }
 
 impl Sink for MemorySink {
-    ghost held = { λ s. Some s.held };
-
-    ghost faults = { λ s. s.faults };
+    ghost state = { λ s. record { held = Some s.held; faults = s.faults } };
 
     fn write(&mut self, piece: &[u8]) -> Result<(), Failed>
         ensures answer { is_err result ≡ is_refused self.old piece.now }

@@ -42,9 +42,9 @@ pub struct MemoryWires {
 impl Model for MemoryWires {
     ghost use Rattle.std.specs.Prelude.{◌≤◌, ◌-◌, ◌^◌, vec_len};
     ghost use Rattle.link_trait.specs.KeptCalls.{told, Stands};
-    ghost use Rattle.link_trait.specs.WiresMemory.{WiresState};
+    ghost use Rattle.link_trait.specs.WiresMemory.{KeptWires};
 
-    ghost Value = { WiresState };
+    ghost Value = { KeptWires };
 
     ghost view = { λ w. record {
       acts = w.acts.items;
@@ -419,17 +419,14 @@ fn read_note(conn: u64, size: usize, waiting: u128, answer: ReadAnswer) -> Note
 }
 
 impl Wires for MemoryWires {
-    ghost calls = { λ s. told_calls s };
-
-    ghost lines = { λ s. told_lines s };
-
-    ghost opened = { λ s. length s.lines };
-
-    ghost listening = { λ s. s.listening };
-
-    ghost faults = { λ s. s.faults };
-
-    ghost turn_faults = { λ s. s.turn_faults };
+    ghost state = { λ s. record {
+      calls = told_calls s;
+      lines = told_lines s;
+      opened = length s.lines;
+      listening = s.listening;
+      faults = s.faults;
+      turn_faults = s.turn_faults;
+    } };
 
     fn listen(&mut self, address: &str) -> Result<(), Failed>
         ensures answer { is_ok result ≡ is_listen_ok self.old address.now }

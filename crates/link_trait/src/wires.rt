@@ -2,6 +2,7 @@
 ghost use Rattle.std.specs.Prelude.{◌≡◌, ◌<◌, ◌≤◌, ◌+◌, ◌-◌, ◌^◌, ◌||◌, ℕ, Bool, true, false, List, ◌∷◌, [], Option, length, IfOk, IfSome, OnErr};
 ghost use Rattle.std.specs.Result.{is_ok};
 ghost use Rattle.link_trait.specs.Outside.{Grew, Rose};
+ghost use Rattle.link_trait.specs.States.{WiresState};
 ghost use Rattle.link_trait.specs.Wires.{Line, Lines, Told, opened_by_dial, opened_by_turn, AllStay, IsNew, OnlyAdds, KeepsOctets, Takes, Gives, StaysAtRead, StaysAtWrite, waiting};
 ghost use Rattle.link_trait.specs.Wires.{Call, Listens, Dials, Turns, Reads, Writes, Closes, reading_of, dialled};
 
@@ -61,115 +62,100 @@ pub enum WriteAnswer {
 /// Two counts of faults, each at most 2^64 - 1, never fall. One rises in each call that answers Failed. The other rises in
 /// each listen, dial and turn that answers Failed, and in no other call.
 pub trait Wires {
-    // The calls made so far, in their order.
-    ghost calls: { Self → Option (List Call) };
-
-    // What is told of each connection, by its number.
-    ghost lines: { Self → Option Lines };
-
-    // The number of the newest connection, 0 where there was none.
-    ghost opened: { Self → ℕ };
-
-    // Whether a listen was Ok.
-    ghost listening: { Self → Bool };
-
-    // How often a call failed.
-    ghost faults: { Self → ℕ };
-
-    // How often a listen, dial or turn failed.
-    ghost turn_faults: { Self → ℕ };
+    // The calls, the connections, whether they listen, and the counts of faults.
+    ghost state: { Self → WiresState };
 
     /// Listens at this address, so that peers are accepted.
     fn listen(&mut self, address: &str) -> Result<(), Failed>
-        ensures told { Grew (calls self.old) (calls self.new) (Listens address.now (is_ok result) ∷ []) }
-        ensures stays { Told (lines self.old) (lines self.new) (λ before now. AllStay (opened self.old) before now) }
-        ensures opened { opened self.new ≡ opened self.old }
-        ensures listening { listening self.new ≡ (listening self.old || is_ok result) }
+        ensures told { Grew (state self.old).calls (state self.new).calls (Listens address.now (is_ok result) ∷ []) }
+        ensures stays { Told (state self.old).lines (state self.new).lines (λ before now. AllStay (state self.old).opened before now) }
+        ensures opened { (state self.new).opened ≡ (state self.old).opened }
+        ensures listening { (state self.new).listening ≡ ((state self.old).listening || is_ok result) }
 
-        ensures count { faults self.old ≤ faults self.new }
-        ensures cause { OnErr result (Rose (faults self.old) (faults self.new)) }
-        ensures most { faults self.new ≤ 2 ^ 64 - 1 }
-        ensures turn_count { turn_faults self.old ≤ turn_faults self.new }
-        ensures turn_cause { OnErr result (Rose (turn_faults self.old) (turn_faults self.new)) }
-        ensures turn_most { turn_faults self.new ≤ 2 ^ 64 - 1 };
+        ensures count { (state self.old).faults ≤ (state self.new).faults }
+        ensures cause { OnErr result (Rose (state self.old).faults (state self.new).faults) }
+        ensures most { (state self.new).faults ≤ 2 ^ 64 - 1 }
+        ensures turn_count { (state self.old).turn_faults ≤ (state self.new).turn_faults }
+        ensures turn_cause { OnErr result (Rose (state self.old).turn_faults (state self.new).turn_faults) }
+        ensures turn_most { (state self.new).turn_faults ≤ 2 ^ 64 - 1 };
 
     /// Begins a connection to the peer at this address.
     fn dial(&mut self, address: &str) -> Result<Conn, Failed>
-        ensures told { Grew (calls self.old) (calls self.new) (Dials address.now (dialled result) ∷ []) }
-        ensures stays { Told (lines self.old) (lines self.new) (λ before now. AllStay (opened self.old) before now) }
-        ensures new { Told (lines self.old) (lines self.new) (λ before now. IfOk result (λ conn. IsNew (now conn.0))) }
-        ensures number { IfOk result (λ conn. conn.0 ≡ opened self.old + 1) }
-        ensures opened { opened self.new ≡ opened_by_dial result (opened self.old) }
-        ensures listening { listening self.new ≡ listening self.old }
+        ensures told { Grew (state self.old).calls (state self.new).calls (Dials address.now (dialled result) ∷ []) }
+        ensures stays { Told (state self.old).lines (state self.new).lines (λ before now. AllStay (state self.old).opened before now) }
+        ensures new { Told (state self.old).lines (state self.new).lines (λ before now. IfOk result (λ conn. IsNew (now conn.0))) }
+        ensures number { IfOk result (λ conn. conn.0 ≡ (state self.old).opened + 1) }
+        ensures opened { (state self.new).opened ≡ opened_by_dial result (state self.old).opened }
+        ensures listening { (state self.new).listening ≡ (state self.old).listening }
 
-        ensures count { faults self.old ≤ faults self.new }
-        ensures cause { OnErr result (Rose (faults self.old) (faults self.new)) }
-        ensures most { faults self.new ≤ 2 ^ 64 - 1 }
-        ensures turn_count { turn_faults self.old ≤ turn_faults self.new }
-        ensures turn_cause { OnErr result (Rose (turn_faults self.old) (turn_faults self.new)) }
-        ensures turn_most { turn_faults self.new ≤ 2 ^ 64 - 1 };
+        ensures count { (state self.old).faults ≤ (state self.new).faults }
+        ensures cause { OnErr result (Rose (state self.old).faults (state self.new).faults) }
+        ensures most { (state self.new).faults ≤ 2 ^ 64 - 1 }
+        ensures turn_count { (state self.old).turn_faults ≤ (state self.new).turn_faults }
+        ensures turn_cause { OnErr result (Rose (state self.old).turn_faults (state self.new).turn_faults) }
+        ensures turn_most { (state self.new).turn_faults ≤ 2 ^ 64 - 1 };
 
     /// Waits for what happens next. Real wires answer Quiet at the latest at the moment `until`, in milliseconds since
     /// the start of 1970, where there is one; no clause says so.
     fn turn(&mut self, until: Option<u64>) -> Happening
-        ensures told { Grew (calls self.old) (calls self.new) (Turns until result ∷ []) }
-        ensures only_adds { Told (lines self.old) (lines self.new) (λ before now. (conn : ℕ) → conn ≤ opened self.old → OnlyAdds (before conn) (now conn)) }
-        ensures stays { Told (lines self.old) (lines self.new) (λ before now. (conn : ℕ) → conn ≤ opened self.old → KeepsOctets (before conn) (now conn)) }
-        ensures new { Told (lines self.old) (lines self.new) (λ before now. (conn : Conn) → result ≡ Happening.Accepted conn → IsNew (now conn.0)) }
-        ensures number { (conn : Conn) → result ≡ Happening.Accepted conn → conn.0 ≡ opened self.old + 1 }
-        ensures accepted { (conn : Conn) → result ≡ Happening.Accepted conn → listening self.old ≡ true }
-        ensures opened { opened self.new ≡ opened_by_turn result (opened self.old) }
-        ensures listening { listening self.new ≡ listening self.old }
+        ensures told { Grew (state self.old).calls (state self.new).calls (Turns until result ∷ []) }
+        ensures only_adds { Told (state self.old).lines (state self.new).lines (λ before now. (conn : ℕ) → conn ≤ (state self.old).opened → OnlyAdds (before conn) (now conn)) }
+        ensures stays { Told (state self.old).lines (state self.new).lines (λ before now. (conn : ℕ) → conn ≤ (state self.old).opened → KeepsOctets (before conn) (now conn)) }
+        ensures new { Told (state self.old).lines (state self.new).lines (λ before now. (conn : Conn) → result ≡ Happening.Accepted conn → IsNew (now conn.0)) }
+        ensures number { (conn : Conn) → result ≡ Happening.Accepted conn → conn.0 ≡ (state self.old).opened + 1 }
+        ensures accepted { (conn : Conn) → result ≡ Happening.Accepted conn → (state self.old).listening ≡ true }
+        ensures opened { (state self.new).opened ≡ opened_by_turn result (state self.old).opened }
+        ensures listening { (state self.new).listening ≡ (state self.old).listening }
 
-        ensures count { faults self.old ≤ faults self.new }
-        ensures cause { result ≡ Happening.Failed → Rose (faults self.old) (faults self.new) }
-        ensures most { faults self.new ≤ 2 ^ 64 - 1 }
-        ensures turn_count { turn_faults self.old ≤ turn_faults self.new }
-        ensures turn_cause { result ≡ Happening.Failed → Rose (turn_faults self.old) (turn_faults self.new) }
-        ensures turn_most { turn_faults self.new ≤ 2 ^ 64 - 1 };
+        ensures count { (state self.old).faults ≤ (state self.new).faults }
+        ensures cause { result ≡ Happening.Failed → Rose (state self.old).faults (state self.new).faults }
+        ensures most { (state self.new).faults ≤ 2 ^ 64 - 1 }
+        ensures turn_count { (state self.old).turn_faults ≤ (state self.new).turn_faults }
+        ensures turn_cause { result ≡ Happening.Failed → Rose (state self.old).turn_faults (state self.new).turn_faults }
+        ensures turn_most { (state self.new).turn_faults ≤ 2 ^ 64 - 1 };
 
     /// Reads octets that wait at this connection into the slice, which isn't empty.
     fn read(&mut self, conn: Conn, into: &mut [u8]) -> ReadAnswer
         requires { 0 < length into.old }
-        ensures told { Grew (calls self.old) (calls self.new) (Reads conn.0 (length into.old) (waiting (lines self.old) conn.0) (reading_of result into.new) ∷ []) }
+        ensures told { Grew (state self.old).calls (state self.new).calls (Reads conn.0 (length into.old) (waiting (state self.old).lines conn.0) (reading_of result into.new) ∷ []) }
         ensures length { length into.new ≡ length into.old }
         ensures fits { (n : ℕ) → result ≡ ReadAnswer.Some n → (1 ≤ n) × (n ≤ length into.old) }
-        ensures taken { Told (lines self.old) (lines self.new) (λ before now. Takes result (before conn.0) (now conn.0) into.new) }
-        ensures stays { Told (lines self.old) (lines self.new) (λ before now. StaysAtRead result (opened self.old) conn.0 before now) }
-        ensures not_now { result ≡ ReadAnswer.NotNow → IfSome (lines self.old) (λ before. ((before conn.0).waits ≡ []) × ((before conn.0).shut ≡ false)) }
-        ensures end { result ≡ ReadAnswer.End → IfSome (lines self.old) (λ before. ((before conn.0).waits ≡ []) × ((before conn.0).shut ≡ true)) }
-        ensures opened { opened self.new ≡ opened self.old }
-        ensures listening { listening self.new ≡ listening self.old }
+        ensures taken { Told (state self.old).lines (state self.new).lines (λ before now. Takes result (before conn.0) (now conn.0) into.new) }
+        ensures stays { Told (state self.old).lines (state self.new).lines (λ before now. StaysAtRead result (state self.old).opened conn.0 before now) }
+        ensures not_now { result ≡ ReadAnswer.NotNow → IfSome (state self.old).lines (λ before. ((before conn.0).waits ≡ []) × ((before conn.0).shut ≡ false)) }
+        ensures end { result ≡ ReadAnswer.End → IfSome (state self.old).lines (λ before. ((before conn.0).waits ≡ []) × ((before conn.0).shut ≡ true)) }
+        ensures opened { (state self.new).opened ≡ (state self.old).opened }
+        ensures listening { (state self.new).listening ≡ (state self.old).listening }
 
-        ensures count { faults self.old ≤ faults self.new }
-        ensures cause { result ≡ ReadAnswer.Failed → Rose (faults self.old) (faults self.new) }
-        ensures most { faults self.new ≤ 2 ^ 64 - 1 }
-        ensures turn_count { turn_faults self.new ≡ turn_faults self.old };
+        ensures count { (state self.old).faults ≤ (state self.new).faults }
+        ensures cause { result ≡ ReadAnswer.Failed → Rose (state self.old).faults (state self.new).faults }
+        ensures most { (state self.new).faults ≤ 2 ^ 64 - 1 }
+        ensures turn_count { (state self.new).turn_faults ≡ (state self.old).turn_faults };
 
     /// Writes to this connection from the head of the piece, which isn't empty.
     fn write(&mut self, conn: Conn, piece: &[u8]) -> WriteAnswer
         requires { 0 < length piece.now }
-        ensures told { Grew (calls self.old) (calls self.new) (Writes conn.0 piece.now result ∷ []) }
+        ensures told { Grew (state self.old).calls (state self.new).calls (Writes conn.0 piece.now result ∷ []) }
         ensures fits { (n : ℕ) → result ≡ WriteAnswer.Some n → (1 ≤ n) × (n ≤ length piece.now) }
-        ensures given { Told (lines self.old) (lines self.new) (λ before now. Gives result (before conn.0) (now conn.0) piece.now) }
-        ensures stays { Told (lines self.old) (lines self.new) (λ before now. StaysAtWrite result (opened self.old) conn.0 before now) }
-        ensures not_now { result ≡ WriteAnswer.NotNow → IfSome (lines self.old) (λ before. (before conn.0).room ≡ 0) }
-        ensures opened { opened self.new ≡ opened self.old }
-        ensures listening { listening self.new ≡ listening self.old }
+        ensures given { Told (state self.old).lines (state self.new).lines (λ before now. Gives result (before conn.0) (now conn.0) piece.now) }
+        ensures stays { Told (state self.old).lines (state self.new).lines (λ before now. StaysAtWrite result (state self.old).opened conn.0 before now) }
+        ensures not_now { result ≡ WriteAnswer.NotNow → IfSome (state self.old).lines (λ before. (before conn.0).room ≡ 0) }
+        ensures opened { (state self.new).opened ≡ (state self.old).opened }
+        ensures listening { (state self.new).listening ≡ (state self.old).listening }
 
-        ensures count { faults self.old ≤ faults self.new }
-        ensures cause { result ≡ WriteAnswer.Failed → Rose (faults self.old) (faults self.new) }
-        ensures most { faults self.new ≤ 2 ^ 64 - 1 }
-        ensures turn_count { turn_faults self.new ≡ turn_faults self.old };
+        ensures count { (state self.old).faults ≤ (state self.new).faults }
+        ensures cause { result ≡ WriteAnswer.Failed → Rose (state self.old).faults (state self.new).faults }
+        ensures most { (state self.new).faults ≤ 2 ^ 64 - 1 }
+        ensures turn_count { (state self.new).turn_faults ≡ (state self.old).turn_faults };
 
     /// Closes this connection. Nothing more happens at it.
     fn close(&mut self, conn: Conn)
-        ensures told { Grew (calls self.old) (calls self.new) (Closes conn.0 ∷ []) }
-        ensures stays { Told (lines self.old) (lines self.new) (λ before now. AllStay (opened self.old) before now) }
-        ensures opened { opened self.new ≡ opened self.old }
-        ensures listening { listening self.new ≡ listening self.old }
+        ensures told { Grew (state self.old).calls (state self.new).calls (Closes conn.0 ∷ []) }
+        ensures stays { Told (state self.old).lines (state self.new).lines (λ before now. AllStay (state self.old).opened before now) }
+        ensures opened { (state self.new).opened ≡ (state self.old).opened }
+        ensures listening { (state self.new).listening ≡ (state self.old).listening }
 
-        ensures count { faults self.old ≤ faults self.new }
-        ensures most { faults self.new ≤ 2 ^ 64 - 1 }
-        ensures turn_count { turn_faults self.new ≡ turn_faults self.old };
+        ensures count { (state self.old).faults ≤ (state self.new).faults }
+        ensures most { (state self.new).faults ≤ 2 ^ 64 - 1 }
+        ensures turn_count { (state self.new).turn_faults ≡ (state self.old).turn_faults };
 }

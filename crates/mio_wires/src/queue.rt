@@ -21,10 +21,12 @@ impl Seen {
     }
 }
 
-// Each happening stands here once.
+// Each happening stands here once; whoever adds one of a connection sees to it.
 #[derive(Drop)]
 pub struct Queue {
     seen: VecDeque<Seen>,
+    // Whether the listener stands in it.
+    is_heard: bool,
 }
 
 impl Queue {
@@ -32,6 +34,7 @@ impl Queue {
     pub fn with_capacity(alloc: Global, happenings: usize) -> Result<Queue, NoMemory> {
         Ok(Queue {
             seen: VecDeque::with_capacity(alloc, happenings)?,
+            is_heard: false,
         })
     }
 
@@ -39,17 +42,26 @@ impl Queue {
         self.seen.is_empty()
     }
 
-    // Adds a happening at the end, where it doesn't stand here already. The memory for each happening once was
-    // reserved, so there is always room.
-    pub fn add(&mut self, seen: Seen) {
-        if !self.seen.contains(&seen) {
-            let _room = self.seen.push_back(seen);
+    // Adds the listener at the end, where it doesn't stand here already.
+    pub fn add_listener(&mut self) {
+        if !self.is_heard {
+            self.is_heard = true;
+            self.add(Seen::Listener);
         }
+    }
+
+    // Adds a happening at the end. The memory for each happening once was reserved, so there is always room.
+    pub fn add(&mut self, seen: Seen) {
+        let _room = self.seen.push_back(seen);
     }
 
     // Takes the first happening.
     pub fn next(&mut self) -> Option<Seen> {
-        self.seen.pop_front()
+        let seen = self.seen.pop_front()?;
+        if seen == Seen::Listener {
+            self.is_heard = false;
+        }
+        Some(seen)
     }
 
     // Takes out the happenings of the connection of this number.

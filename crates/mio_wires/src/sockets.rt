@@ -22,11 +22,20 @@ const MOST_SEEN: usize = 2 * MOST_CONNECTIONS + 1;
 // A connection's token is its slot, which is below this.
 const LISTENER: Token = Token(MOST_CONNECTIONS);
 
-// A connection: its number and its socket.
+// A connection: its number and its socket, and whether a happening of either kind stands in the queue.
 #[derive(Drop)]
 struct Line {
     number: u64,
     stream: TcpStream,
+    is_readable: bool,
+    is_writable: bool,
+}
+
+// Where the connection of a number is.
+#[derive(Clone, Copy)]
+struct Place {
+    number: u64,
+    slot: usize,
 }
 
 #[derive(Drop)]
@@ -37,6 +46,8 @@ pub struct Sockets<R: Net + Clock + Drop> {
     events: Events,
     listener: Option<TcpListener>,
     lines: Slab<Line>,
+    // The open connections by their numbers, which rise: the newest stands last.
+    places: Vec<Place>,
     queue: Queue,
     // Whether peers may wait at the listener until a connection is closed.
     is_held_back: bool,
@@ -54,6 +65,7 @@ impl<R: Net + Clock + Drop> Sockets<R> {
             events: Events::with_capacity(alloc, MOST_CONNECTIONS + 1)?,
             listener: None,
             lines: Slab::with_capacity(alloc, MOST_CONNECTIONS)?,
+            places: Vec::with_capacity(alloc, MOST_CONNECTIONS)?,
             queue: Queue::with_capacity(alloc, MOST_SEEN)?,
             is_held_back: false,
             moment: 0,
@@ -109,7 +121,7 @@ impl<R: Net + Clock + Drop> Sockets<R> {
         }
         match self.listener.as_ref()?.accept() {
             Ok((stream, _)) => {
-                self.queue.add(Seen::Listener);
+                self.queue.add_listener();
                 self.open(stream, number).ok()
             }
             Err(error) if error.kind() == ErrorKind::WouldBlock => None,
@@ -131,19 +143,22 @@ impl<R: Net + Clock + Drop> Sockets<R> {
         }
         for event in self.events.iter() {
             if event.token() == LISTENER {
-                self.queue.add(Seen::Listener);
+                self.queue.add_listener();
             }
-            let Some(line) = self.lines.get(event.token().0) else {
+            let Some(line) = self.lines.get_mut(event.token().0) else {
                 continue;
             };
-            if event.is_readable() || event.is_read_closed() || event.is_error() {
+            let is_readable = event.is_readable() || event.is_read_closed() || event.is_error();
+            if is_readable && !line.is_readable {
+                line.is_readable = true;
                 self.queue.add(Seen::Readable(line.number));
             }
-            if event.is_writable() {
+            if event.is_writable() && !line.is_writable {
+                line.is_writable = true;
                 self.queue.add(Seen::Writable(line.number));
             }
         }
-        Ok(self.queue.next())
+        Ok(self.take())
     }
 
     // Reads from the connection of this number.
@@ -160,7 +175,10 @@ impl<R: Net + Clock + Drop> Sockets<R> {
         match line.stream.read(into) {
             Ok(0) => ReadAnswer::End,
             Ok(count) => {
-                self.queue.add(Seen::Readable(number));
+                if !line.is_readable {
+                    line.is_readable = true;
+                    self.queue.add(Seen::Readable(number));
+                }
                 ReadAnswer::Some(count)
             }
             Err(error) if error.kind() == ErrorKind::WouldBlock => ReadAnswer::NotNow,
@@ -193,9 +211,10 @@ impl<R: Net + Clock + Drop> Sockets<R> {
             return;
         };
         let _closed = self.lines.try_remove(slot);
+        self.places.retain(|place| place.number != number);
         if self.is_held_back {
             self.is_held_back = false;
-            self.queue.add(Seen::Listener);
+            self.queue.add_listener();
         }
     }
 
@@ -203,7 +222,12 @@ impl<R: Net + Clock + Drop> Sockets<R> {
     fn open(&mut self, stream: TcpStream, number: u64) -> Result<u64, Failed>
         ensures { IfOk result (λ opened. opened ≡ number) }
     {
-        let mut line = Line { number, stream };
+        let mut line = Line {
+            number,
+            stream,
+            is_readable: false,
+            is_writable: false,
+        };
         let Some(poll) = &self.poll else {
             return Err(Failed);
         };
@@ -216,10 +240,31 @@ impl<R: Net + Clock + Drop> Sockets<R> {
         {
             return Err(Failed);
         }
-        match self.lines.insert(line) {
-            Ok(_) => Ok(number),
-            Err(_) => Err(Failed),
+        let Ok(slot) = self.lines.insert(line) else {
+            return Err(Failed);
+        };
+        // The memory for each connection was reserved.
+        let _room = self.places.push(Place { number, slot });
+        Ok(number)
+    }
+
+    // Takes the first of what happened, which may come to stand in the queue again then.
+    fn take(&mut self) -> Option<Seen> {
+        let seen = self.queue.next()?;
+        match seen {
+            Seen::Listener => {}
+            Seen::Readable(number) => {
+                if let Some(line) = self.line_at(number) {
+                    line.is_readable = false;
+                }
+            }
+            Seen::Writable(number) => {
+                if let Some(line) = self.line_at(number) {
+                    line.is_writable = false;
+                }
+            }
         }
+        Some(seen)
     }
 
     // How long to wait for a happening: not at all where one stands in the queue.
@@ -241,12 +286,17 @@ impl<R: Net + Clock + Drop> Sockets<R> {
 
     // The slot of the connection of this number.
     fn slot_of(&self, number: u64) -> Option<usize> {
-        for (slot, line) in self.lines.iter() {
-            if line.number == number {
-                return Some(slot);
-            }
-        }
-        None
+        let at = self
+            .places
+            .binary_search_by_key(&number, |place| place.number)
+            .ok()?;
+        Some(self.places.get(at)?.slot)
+    }
+
+    // The connection of this number.
+    fn line_at(&mut self, number: u64) -> Option<&mut Line> {
+        let slot = self.slot_of(number)?;
+        self.lines.get_mut(slot)
     }
 }
 

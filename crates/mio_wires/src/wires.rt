@@ -57,17 +57,14 @@ impl<R: Net + Clock + Drop> MioWires<R> {
 }
 
 impl<R: Net + Clock + Drop> Wires for MioWires<R> {
-    ghost calls = { λ _. None };
-
-    ghost lines = { λ _. None };
-
-    ghost opened = { λ w. w.opened };
-
-    ghost listening = { λ w. w.listening };
-
-    ghost faults = { λ w. w.faults };
-
-    ghost turn_faults = { λ w. w.turn_faults };
+    ghost state = { λ w. record {
+      calls = None;
+      lines = None;
+      opened = w.opened;
+      listening = w.listening;
+      faults = w.faults;
+      turn_faults = w.turn_faults;
+    } };
 
     fn listen(&mut self, address: &str) -> Result<(), Failed> {
         match self.sockets.listen(address) {

@@ -23,10 +23,10 @@ use trace_model::ReplayFault;
 // Writes lines, where there are any.
 #[tactic(auto, using(crate::proofs::Written::nothing_written))]
 fn write_lines<S: Sink>(lines: &[u8], sink: &mut S) -> Result<(), Failed>
-    ensures ok { OnOk result (Grew (S.held sink.old) (S.held sink.new) lines.now) }
-    ensures err { OnErr result (GrewPart (S.held sink.old) (S.held sink.new) lines.now) }
-    ensures cause { OnErr result (Rose (S.faults sink.old) (S.faults sink.new)) }
-    ensures later { S.faults sink.old ≤ S.faults sink.new }
+    ensures ok { OnOk result (Grew (S.state sink.old).held (S.state sink.new).held lines.now) }
+    ensures err { OnErr result (GrewPart (S.state sink.old).held (S.state sink.new).held lines.now) }
+    ensures cause { OnErr result (Rose (S.state sink.old).faults (S.state sink.new).faults) }
+    ensures later { (S.state sink.old).faults ≤ (S.state sink.new).faults }
 {
     if lines.is_empty() {
         return Ok(());
@@ -47,8 +47,8 @@ fn replay_entry<K: KeyFinder, S: Sink>(
     requires settings { AllAllowed settings.now }
     requires entry { IsReadable entry.now }
     ensures replays { (before : List TraceEntry) → last ≡ last_moment before → Holds settings.now (key_at (K.entries keys.now)) before connections.old
-        → ReplaysOne settings.now (key_at (K.entries keys.now)) before entry.now connections.new (S.held sink.old) (S.held sink.new) (S.faults sink.old) (S.faults sink.new) result }
-    ensures later { S.faults sink.old ≤ S.faults sink.new }
+        → ReplaysOne settings.now (key_at (K.entries keys.now)) before entry.now connections.new (S.state sink.old).held (S.state sink.new).held (S.state sink.old).faults (S.state sink.new).faults result }
+    ensures later { (S.state sink.old).faults ≤ (S.state sink.new).faults }
 {
     if entry.moment < last {
         return Err(ReplayFault::MomentBack {
@@ -77,9 +77,9 @@ fn replay_entries<K: KeyFinder, S: Sink>(
     sink: &mut S,
 ) -> Result<(), ReplayFault>
     requires { CanBeRead trace.now }
-    ensures replays { (start : Option (List ℕ)) (count : ℕ) → Grew start (S.held sink.old) (line_text (header_words trace.now.settings)) → count ≤ S.faults sink.old
-        → Replays trace.now.settings (key_at (K.entries keys.now)) trace.now.entries start (S.held sink.new) count (S.faults sink.new) result }
-    ensures later { S.faults sink.old ≤ S.faults sink.new }
+    ensures replays { (start : Option (List ℕ)) (count : ℕ) → Grew start (S.state sink.old).held (line_text (header_words trace.now.settings)) → count ≤ (S.state sink.old).faults
+        → Replays trace.now.settings (key_at (K.entries keys.now)) trace.now.entries start (S.state sink.new).held count (S.state sink.new).faults result }
+    ensures later { (S.state sink.old).faults ≤ (S.state sink.new).faults }
 {
     let settings = &trace.settings;
     let mut connections = Connections::new(alloc);
@@ -104,8 +104,8 @@ pub fn replay<K: KeyFinder, S: Sink>(
     sink: &mut S,
 ) -> Result<(), ReplayFault>
     requires { CanBeRead trace.now }
-    ensures replays { Replays trace.now.settings (key_at (K.entries keys.now)) trace.now.entries (S.held sink.old) (S.held sink.new) (S.faults sink.old) (S.faults sink.new) result }
-    ensures later { S.faults sink.old ≤ S.faults sink.new }
+    ensures replays { Replays trace.now.settings (key_at (K.entries keys.now)) trace.now.entries (S.state sink.old).held (S.state sink.new).held (S.state sink.old).faults (S.state sink.new).faults result }
+    ensures later { (S.state sink.old).faults ≤ (S.state sink.new).faults }
 {
     let mut line = Vec::new(alloc);
     print_header(&trace.settings, &mut line)?;

@@ -11,7 +11,7 @@ item_at xs ys i x same inside is = subst (Î» (zs : List Entry). slice_get zs i â
 
 pub loop-entry-init : goal.loop-entry-init
 loop-entry-init g c =
-    went_none c.args.trace.now.settings _ c.args.trace.now.entries c.new-connections.result (g.S.Sink.held c.args.sink.now) (g.S.Sink.faults c.args.sink.now)
+    went_none c.args.trace.now.settings _ c.args.trace.now.entries c.new-connections.result (g.S.Sink.state c.args.sink.now).held (g.S.Sink.state c.args.sink.now).faults
     c.new-connections.ensures.live c.new-connections.ensures.over
 
 pub replay_entry-requires-clause-entry : goal.replay_entry-requires-clause-entry

@@ -5,5 +5,5 @@ use Rattle.trace_replay.proofs.run.replay_entries.Given as goal
 
 abbrev pub invariant-loop-entry : goal.invariant-loop-entry
 invariant-loop-entry g l =
-    Went l.trace.settings (key_at (g.K.KeyFinder.entries l.keys)) l.trace.entries l.entry-index l.connections l.last (g.S.Sink.held l.fn.sink) (g.S.Sink.held l.sink)
-    (g.S.Sink.faults l.fn.sink) (g.S.Sink.faults l.sink)
+    Went l.trace.settings (key_at (g.K.KeyFinder.entries l.keys)) l.trace.entries l.entry-index l.connections l.last (g.S.Sink.state l.fn.sink).held (g.S.Sink.state l.sink).held
+    (g.S.Sink.state l.fn.sink).faults (g.S.Sink.state l.sink).faults

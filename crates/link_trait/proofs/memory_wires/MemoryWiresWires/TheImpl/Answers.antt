@@ -1,5 +1,5 @@
 -- What wires in memory tell is what the trait says of each call.
-use Rattle.std.proofs.Common.{ℕ, arith, rules, ◌≤◌, ◌≡◌, length, sym, subst}
+use Rattle.std.proofs.Common.{ℕ, arith, rules, ◌≤◌, length, sym, subst}
 use Rattle.std.proofs.lemmas.Grind.{common_steps}
 use Rattle.link_trait.specs.Wires.{Told, AllStay, OnlyAdds, KeepsOctets}
 use Rattle.link_trait.specs.WiresMemory.{told_lines}
