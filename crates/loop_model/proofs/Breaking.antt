@@ -1,9 +1,9 @@
 -- Nothing is written to a session that broke off.
-use Rattle.std.proofs.Common.{◌≡◌, ℕ, inl, inr, Bool, true, false, ◌&&◌, ◌||◌, List, [], ◌∷◌, ◌++◌, length, drop, refl, sym, ◌∙◌, ap, subst, append-nil, append_assoc, true≢false}
+use Rattle.loop_model.specs.Ends.{ModelEnd, model_ends}
+use Rattle.std.proofs.Common.{◌≡◌, ℕ, inl, inr, Bool, true, false, ◌&&◌, ◌||◌, List, [], ◌∷◌, ◌++◌, length, drop, refl, sym, ◌∙◌, ap, subst, append-nil, true≢false}
 use Rattle.std.specs.Prelude.{◌==◌}
 use Rattle.std.proofs.lemmas.Bool.{cases_Bool}
-use Rattle.er_end.specs.KeptEnds.{deadline_of}
-use Rattle.er_end.specs.Keeping.{ReleaseStays, BreaksRelease}
+use Rattle.loop_model.proofs.EndKeepings.{ReleaseStays, BreaksRelease}
 use Rattle.er_trace.specs.declared.event.Event.{Event}
 use Rattle.er_trace.specs.declared.event.Event.TheVariants.{Call, Answer, Octets, Send, Take, Release, Tick as Ticked, Ended, Fault, Stalled, Full, Unserved}
 use Rattle.link_trait.specs.Wires as wires
@@ -12,9 +12,8 @@ use Rattle.link_trait.specs.declared.wires.WriteAnswer.{WriteAnswer}
 use Rattle.link_trait.specs.declared.wires.WriteAnswer.TheVariants as write
 use Rattle.loop_model.specs.Journals.{Entry}
 use Rattle.loop_model.specs.Outs.{acts, exactly, first_of}
-use Rattle.loop_model.specs.Sessions.{Rules, Session, Given, Ticks, is_released, Says, nothing_said, handled}
+use Rattle.loop_model.specs.Sessions.{Rules, Session, Ticks, is_released, Says, nothing_said, handled}
 use Rattle.loop_model.specs.Visits.{most_read, Flow, Going, PutOff, Failing, after_write, writes_once, writes, Wrote, flowed, written_unless, written, settled, rests, rests_behind, Visit, Tick, Read, Write, Expire, Met, is_due, came, read_once, served, visited}
-use Rattle.loop_model.specs.Laws.{is_failed}
 use Rattle.loop_model.specs.Points.{is_stalled}
 use Rattle.loop_model.specs.Turnings.{is_ended}
 use Rattle.loop_model.specs.Stalls.{IsBounded}
@@ -39,29 +38,29 @@ ends-append : (cs ds : List wires.Call) → EndAtFailure cs → WriteNone ds →
 ends-append [] ds p q = none_ends ds q
 ends-append (call ∷ cs) ds p q = (λ e. none-append cs ds (p.0 e) q, ends-append cs ds p.1 q)
 
-settled_none : (s : Session) → WriteNone (settled s).calls
+settled_none : (s : Session ModelEnd) → WriteNone (settled model_ends s).calls
 unfolding settled
-settled_none s = elim (cases_Bool (s.broken || (is_released s && (length s.output == 0)))) [ inl p ↦ rw p (tt, tt) | inr p ↦ rw p tt ]
+settled_none s = elim (cases_Bool (s.broken || (is_released model_ends s && (length s.output == 0)))) [ inl p ↦ rw p (tt, tt) | inr p ↦ rw p tt ]
 
 -- ---- writing
 
-put_off : (answers : List WriteAnswer) (s : Session) → (acts writes_once (s, PutOff) answers).calls ≡ []
+put_off : (answers : List WriteAnswer) (s : Session ModelEnd) → (acts writes_once (s, PutOff) answers).calls ≡ []
 unfolding acts writes_once
 put_off [] s = refl
 put_off (a ∷ answers) s = put_off answers s
 
-failing : (answers : List WriteAnswer) (s : Session) → (acts writes_once (s, Failing) answers).calls ≡ []
+failing : (answers : List WriteAnswer) (s : Session ModelEnd) → (acts writes_once (s, Failing) answers).calls ≡ []
 unfolding acts writes_once
 failing [] s = refl
 failing (a ∷ answers) s = failing answers s
 
-answer_ends : (s : Session) (a : WriteAnswer) (answers : List WriteAnswer) → ((t : Session) → EndAtFailure (acts writes_once (t, Going) answers).calls)
+answer_ends : (s : Session ModelEnd) (a : WriteAnswer) (answers : List WriteAnswer) → ((t : Session ModelEnd) → EndAtFailure (acts writes_once (t, Going) answers).calls)
     → EndAtFailure (Writes s.number s.output a ∷ (acts writes_once (after_write a s) answers).calls)
 answer_ends s (write.Some n) answers rest = (λ e. absurd (true≢false (sym e)), rest (record s { output = drop n s.output }))
 answer_ends s write.NotNow answers rest = subst (λ z. EndAtFailure (Writes s.number s.output write.NotNow ∷ z)) (sym (put_off answers s)) (λ e. tt, tt)
 answer_ends s write.Failed answers rest = subst (λ z. EndAtFailure (Writes s.number s.output write.Failed ∷ z)) (sym (failing answers s)) (λ e. tt, tt)
 
-going_ends : (answers : List WriteAnswer) (s : Session) → EndAtFailure (acts writes_once (s, Going) answers).calls
+going_ends : (answers : List WriteAnswer) (s : Session ModelEnd) → EndAtFailure (acts writes_once (s, Going) answers).calls
 unfolding acts writes_once
 going_ends [] s = tt
 going_ends (a ∷ answers) s =
@@ -71,12 +70,12 @@ going_ends (a ∷ answers) s =
     ]
 
 module _ (r : Rules) (m : ℕ) where
-  flowed_none : (flow : Flow) (s : Session) (says : Says) → (flowed r m (s, flow) says).calls ≡ []
+  flowed_none : (flow : Flow) (s : Session ModelEnd) (says : Says) → (flowed model_ends r m (s, flow) says).calls ≡ []
   flowed_none Going s says = refl
   flowed_none PutOff s says = refl
   flowed_none Failing s says = refl
 
-  unless_ends : (b : Bool) (s : Session) (a : Wrote) → EndAtFailure (written_unless b r m s a).calls
+  unless_ends : (b : Bool) (s : Session ModelEnd) (a : Wrote) → EndAtFailure (written_unless model_ends b r m s a).calls
   unfolding writes
   unless_ends true s a = tt
   unless_ends false s a =
@@ -84,34 +83,34 @@ module _ (r : Rules) (m : ℕ) where
       subst (λ z. EndAtFailure (x.calls ++ z)) (sym (flowed_none x.state.1 x.state.0 a.says))
       (subst EndAtFailure (sym (append-nil x.calls)) (going_ends (exactly (length s.output) write.NotNow a.answers) s))
 
-  rests_ends : (s : Session) (a : Wrote) → EndAtFailure (rests r m s a).calls
+  rests_ends : (s : Session ModelEnd) (a : Wrote) → EndAtFailure (rests model_ends r m s a).calls
   unfolding rests written
-  rests_ends s a = let w = written_unless s.broken r m s a in ends-append w.calls (settled w.state).calls (unless_ends s.broken s a) (settled_none w.state)
+  rests_ends s a = let w = written_unless model_ends s.broken r m s a in ends-append w.calls (settled model_ends w.state).calls (unless_ends s.broken s a) (settled_none w.state)
 
-  unless_silent : (b : Bool) (s : Session) (a : Wrote) → b ≡ true → WriteNone (written_unless b r m s a).calls
+  unless_silent : (b : Bool) (s : Session ModelEnd) (a : Wrote) → b ≡ true → WriteNone (written_unless model_ends b r m s a).calls
   unless_silent true s a p = tt
   unless_silent false s a p = absurd (true≢false (sym p))
 
   -- to a session that broke off nothing is written
-  rests_silent : (s : Session) (a : Wrote) → s.broken ≡ true → WriteNone (rests r m s a).calls
+  rests_silent : (s : Session ModelEnd) (a : Wrote) → s.broken ≡ true → WriteNone (rests model_ends r m s a).calls
   unfolding rests written
   rests_silent s a p =
-      let w = written_unless s.broken r m s a in none-append w.calls (settled w.state).calls (unless_silent s.broken s a p) (settled_none w.state)
+      let w = written_unless model_ends s.broken r m s a in none-append w.calls (settled model_ends w.state).calls (unless_silent s.broken s a p) (settled_none w.state)
 
-  behind_ends : (waits : ℕ) (reading : Reading) (s : Session) (says : List Says) (a : Wrote)
-      → EndAtFailure (Reads s.number most_read waits reading ∷ (rests_behind reading r m (came reading r m s says).0 a).calls)
-  behind_ends waits (Gave octets) s says a = (λ e. absurd (true≢false (sym e)), rests_ends (came (Gave octets) r m s says).0 a)
+  behind_ends : (waits : ℕ) (reading : Reading) (s : Session ModelEnd) (says : List Says) (a : Wrote)
+      → EndAtFailure (Reads s.number most_read waits reading ∷ (rests_behind model_ends reading r m (came model_ends reading r m s says).0 a).calls)
+  behind_ends waits (Gave octets) s says a = (λ e. absurd (true≢false (sym e)), rests_ends (came model_ends (Gave octets) r m s says).0 a)
   behind_ends waits NotNow s says a = (λ e. tt, tt)
-  behind_ends waits End s says a = (λ e. absurd (true≢false (sym e)), rests_ends (came End r m s says).0 a)
+  behind_ends waits End s says a = (λ e. absurd (true≢false (sym e)), rests_ends (came model_ends End r m s says).0 a)
   behind_ends waits Failed s says a =
       let h = handled_broken r m s (first_of nothing_said says) in
-      (λ e. rests_silent (came Failed r m s says).0 a h, rests_ends (came Failed r m s says).0 a)
+      (λ e. rests_silent (came model_ends Failed r m s says).0 a h, rests_ends (came model_ends Failed r m s says).0 a)
 
-  visit_ends : (visit : Visit) (s : Session) (a : Met) → EndAtFailure (visited r m visit s a).calls
+  visit_ends : (visit : Visit) (s : Session ModelEnd) (a : Met) → EndAtFailure (visited model_ends r m visit s a).calls
   unfolding visited served read_once
   visit_ends Tick s a =
-      elim (cases_Bool (is_due m (deadline_of s.end))) [ inl p ↦ rw p (rests_ends (handled r m s Ticks (first_of nothing_said a.says)).0 a.wrote) | inr p ↦ rw p tt ]
-  visit_ends Read s a = elim (cases_Bool (is_released s)) [ inl p ↦ rw p tt | inr p ↦ rw p (behind_ends a.waits a.reading s a.says a.wrote) ]
+      elim (cases_Bool (is_due m (model_ends.deadline s.end))) [ inl p ↦ rw p (rests_ends (handled model_ends r m s Ticks (first_of nothing_said a.says)).0 a.wrote) | inr p ↦ rw p tt ]
+  visit_ends Read s a = elim (cases_Bool (is_released model_ends s)) [ inl p ↦ rw p tt | inr p ↦ rw p (behind_ends a.waits a.reading s a.says a.wrote) ]
   visit_ends Write s a = rests_ends s a.wrote
   visit_ends Expire s a = elim (cases_Bool (is_due m s.closing)) [ inl p ↦ rw p (λ e. tt, tt) | inr p ↦ rw p tt ]
 
@@ -144,48 +143,48 @@ calm_of (x ∷ xs) p =
 
 module _ (stays : ReleaseStays) (breaks_release : BreaksRelease) (r : Rules) (m : ℕ) where
   -- events, and what is written behind them
-  stopped_rests : (s h : Session) (a : Wrote) (xs : List Entry) (ps : List wires.Call) → Off s h xs ps → WriteNone ps → IsBounded h
-      → has_stopped (xs ++ (rests r m h a).entries) ≡ true → WriteNone (ps ++ (rests r m h a).calls)
+  stopped_rests : (s h : Session ModelEnd) (a : Wrote) (xs : List Entry) (ps : List wires.Call) → Off s h xs ps → WriteNone ps → IsBounded h
+      → has_stopped (xs ++ (rests model_ends r m h a).entries) ≡ true → WriteNone (ps ++ (rests model_ends r m h a).calls)
   unfolding Off
   stopped_rests s h a xs ps off none b stopped =
       elim (cases_Bool h.broken) [
-        | inl p ↦ none-append ps (rests r m h a).calls none (rests_silent r m h a p)
+        | inl p ↦ none-append ps (rests model_ends r m h a).calls none (rests_silent r m h a p)
         | inr p ↦
             let whole : has_broken xs ≡ false = (neither (has_broken xs) (has_failed ps) (neither s.broken (has_broken xs || has_failed ps) (sym off ∙ p)).1).0 in
-            absurd (true≢false (sym stopped ∙ calm_two xs (rests r m h a).entries (calm_of xs whole) (rests_quietly stays breaks_release r m h a b).calm))
+            absurd (true≢false (sym stopped ∙ calm_two xs (rests model_ends r m h a).entries (calm_of xs whole) (rests_quietly stays breaks_release r m h a b).calm))
       ]
 
-  nothing_off : (s : Session) → Off s s [] []
+  nothing_off : (s : Session ModelEnd) → Off s s [] []
   nothing_off s = (off_steady r).none s
 
-  stopped_ticked : (s : Session) (a : Met) → IsBounded s → has_stopped (served r m s Ticks a).entries ≡ true → WriteNone (served r m s Ticks a).calls
+  stopped_ticked : (s : Session ModelEnd) (a : Met) → IsBounded s → has_stopped (served model_ends r m s Ticks a).entries ≡ true → WriteNone (served model_ends r m s Ticks a).calls
   unfolding served Bounds
   stopped_ticked s a b stopped =
       let says = first_of nothing_said a.says in
-      let h = handled r m s Ticks says in
+      let h = handled model_ends r m s Ticks says in
       stopped_rests s h.0 a.wrote h.1 [] (steady_handled r (λ g. Unit {0}) Off (off_steady r) givings.all_given.usual m s Ticks says tt) tt
       (steady_handled r (λ g. Unit {0}) Bounds (bounds r) givings.all_given.usual m s Ticks says tt b) stopped
 
-  stopped_behind : (waits : ℕ) (reading : Reading) (s : Session) (says : List Says) (a : Wrote) → IsBounded s
-      → has_stopped ((came reading r m s says).1 ++ (rests_behind reading r m (came reading r m s says).0 a).entries) ≡ true
-      → WriteNone (Reads s.number most_read waits reading ∷ (rests_behind reading r m (came reading r m s says).0 a).calls)
+  stopped_behind : (waits : ℕ) (reading : Reading) (s : Session ModelEnd) (says : List Says) (a : Wrote) → IsBounded s
+      → has_stopped ((came model_ends reading r m s says).1 ++ (rests_behind model_ends reading r m (came model_ends reading r m s says).0 a).entries) ≡ true
+      → WriteNone (Reads s.number most_read waits reading ∷ (rests_behind model_ends reading r m (came model_ends reading r m s says).0 a).calls)
   stopped_behind waits (Gave octets) s says a b stopped =
-      stopped_rests s (came (Gave octets) r m s says).0 a (came (Gave octets) r m s says).1 (Reads s.number most_read waits (Gave octets) ∷ []) (off_read r m s waits (Gave octets) says) (tt, tt)
+      stopped_rests s (came model_ends (Gave octets) r m s says).0 a (came model_ends (Gave octets) r m s says).1 (Reads s.number most_read waits (Gave octets) ∷ []) (off_read r m s waits (Gave octets) says) (tt, tt)
       (came_told stays breaks_release r m (Gave octets) s says b).bounded stopped
   stopped_behind waits NotNow s says a b stopped = (tt, tt)
   stopped_behind waits End s says a b stopped =
-      stopped_rests s (came End r m s says).0 a (came End r m s says).1 (Reads s.number most_read waits End ∷ []) (off_read r m s waits End says) (tt, tt)
+      stopped_rests s (came model_ends End r m s says).0 a (came model_ends End r m s says).1 (Reads s.number most_read waits End ∷ []) (off_read r m s waits End says) (tt, tt)
       (came_told stays breaks_release r m End s says b).bounded stopped
   stopped_behind waits Failed s says a b stopped =
-      stopped_rests s (came Failed r m s says).0 a (came Failed r m s says).1 (Reads s.number most_read waits Failed ∷ []) (off_read r m s waits Failed says) (tt, tt)
+      stopped_rests s (came model_ends Failed r m s says).0 a (came model_ends Failed r m s says).1 (Reads s.number most_read waits Failed ∷ []) (off_read r m s waits Failed says) (tt, tt)
       (came_told stays breaks_release r m Failed s says b).bounded stopped
 
-  visit_stopped : (visit : Visit) (s : Session) (a : Met) → IsBounded s → has_stopped (visited r m visit s a).entries ≡ true → WriteNone (visited r m visit s a).calls
+  visit_stopped : (visit : Visit) (s : Session ModelEnd) (a : Met) → IsBounded s → has_stopped (visited model_ends r m visit s a).entries ≡ true → WriteNone (visited model_ends r m visit s a).calls
   unfolding visited read_once
   visit_stopped Tick s a b stopped =
-      elim (cases_Bool (is_due m (deadline_of s.end))) [ inl p ↦ rw p (stopped_ticked s a b (rw p at stopped)) | inr p ↦ rw p tt ]
+      elim (cases_Bool (is_due m (model_ends.deadline s.end))) [ inl p ↦ rw p (stopped_ticked s a b (rw p at stopped)) | inr p ↦ rw p tt ]
   visit_stopped Read s a b stopped =
-      elim (cases_Bool (is_released s)) [ inl p ↦ rw p tt | inr p ↦ rw p (stopped_behind a.waits a.reading s a.says a.wrote b (rw p at stopped)) ]
+      elim (cases_Bool (is_released model_ends s)) [ inl p ↦ rw p tt | inr p ↦ rw p (stopped_behind a.waits a.reading s a.says a.wrote b (rw p at stopped)) ]
   visit_stopped Write s a b stopped = stopped_rests s s a.wrote [] [] (nothing_off s) tt b stopped
   visit_stopped Expire s a b stopped = elim (cases_Bool (is_due m s.closing)) [ inl p ↦ rw p (tt, tt) | inr p ↦ rw p tt ]
 

@@ -1,4 +1,5 @@
 -- No call is made on a connection that was closed.
+use Rattle.loop_model.specs.Ends.{ModelEnd, model_ends}
 use Rattle.std.proofs.Common.{◌≡◌, ℕ, max, false, List, [], ◌∷◌, ◌++◌, Option, Some, None, refl, true≢false, sym, ◌∙◌, append_assoc, subst}
 use Rattle.link_trait.specs.Wires.{Call, Reading, Reads, Closes}
 use Rattle.loop_model.specs.Journals.{Entry}
@@ -30,7 +31,7 @@ closed_ends : (cs : List Call) (n : ℕ) → NoClose cs → EndAtClose (cs ++ Cl
 closed_ends [] n p = (λ e. refl, tt)
 closed_ends (call ∷ cs) n p = (λ e. absurd (true≢false (sym e ∙ p.0)), closed_ends cs n p.1)
 
-Opens : Session → Session → List Entry → List Call → Type 0
+Opens : Session ModelEnd → Session ModelEnd → List Entry → List Call → Type 0
 Opens s t xs cs = NoClose cs
 
 steady : (r : Rules) → Steady r (λ g. Unit {0}) Opens
@@ -56,11 +57,11 @@ bare = record {
 all_given : AllGiven (λ g. Unit {0})
 all_given = record { usual = record { sends = λ text. tt; leaves = λ sub. tt; takes = tt }; hears = λ octets. tt; ticks = tt; ends = tt; faults = tt }
 
-reads : (s : Session) (waits : ℕ) (reading : Reading) → Opens s s [] (Reads s.number most_read waits reading ∷ [])
+reads : (s : Session ModelEnd) (waits : ℕ) (reading : Reading) → Opens s s [] (Reads s.number most_read waits reading ∷ [])
 unfolding Opens
 reads s waits reading = (refl, tt)
 
-abbrev Q : Session → Session → List Entry → List Call → Type 0
+abbrev Q : Session ModelEnd → Session ModelEnd → List Entry → List Call → Type 0
 Q = Both Own Opens
 
 q_steady : (r : Rules) → Steady r (λ g. Unit {0}) Q
@@ -72,7 +73,7 @@ q_calls r =
     (usual_calls r (λ g. Unit {0}) Q (q_steady r) all_given (bare_both Own Opens own_bare bare)
     (λ s n reading. (own_reads s n reading, reads s n reading)))
 
-abbrev Live : Session → List Entry → List Call → Type 0
+abbrev Live : Session ModelEnd → List Entry → List Call → Type 0
 Live s xs cs = NoClose cs
 
 abbrev Gone : List Entry → List Call → Type 0
@@ -89,23 +90,23 @@ keeps plan = record {
   unserved = λ m conn handed. (λ e. refl, tt);
 }
 
-closes_last : (plan : Plan) (s : Option Session) (conn : ℕ) (xs : List Entry) (cs : List Call)
+closes_last : (plan : Plan) (s : Option (Session ModelEnd)) (conn : ℕ) (xs : List Entry) (cs : List Call)
     → Fits plan Q (q_calls (rules_of plan)) (λ s t xs cs p. p.0) Live Gone (keeps plan) s conn xs cs → EndAtClose cs
 unfolding Fits
 closes_last plan None conn xs cs h = h
 closes_last plan (Some s) conn xs cs h = open_ends cs h.1
 
-all_so : (plan : Plan) (o : Out Course)
+all_so : (plan : Plan) (o : Out (Course ModelEnd))
     → Knows plan Q (q_calls (rules_of plan)) (λ s t xs cs p. p.0) Live Gone (keeps plan) o.entries o.calls o.state.loop.sessions → AreOnOpen o
 all_so plan o k conn = closes_last plan (session_of conn o.state.loop.sessions) conn (of conn o.entries) (calls_at conn o.calls) (k.fits conn)
 
 pub on_open : CallsAreOnOpen
 on_open = record {
   serving = λ plan c turns h.
-      all_so plan (run plan c turns)
+      all_so plan (run model_ends plan c turns)
       (knows_run plan Q (q_calls (rules_of plan)) (λ s t xs cs p. p.0) Live Gone (keeps plan) c turns h.none h.rises);
   dialling = λ plan caller c address a h.
-      all_so plan (dials plan caller c address a)
+      all_so plan (dials model_ends plan caller c address a)
       (knows_dial plan caller (λ g. Unit {0}) Q (q_steady (rules_of plan)) all_given.usual (q_calls (rules_of plan)) (λ s t xs cs p. p.0) Live Gone (keeps plan)
       (max c.loop.moment a.first) (λ l conn mind now. tt) c address a h.none refl h.rises);
 }

@@ -1,4 +1,5 @@
 -- Turns are counted, a loop halts by its last turn, and its moment is the greatest that the clock answered.
+use Rattle.loop_model.specs.Ends.{ModelEnd, model_ends}
 use Rattle.std.proofs.Common.{◌≡◌, ℕ, zero, suc, ◌+◌, ◌≤◌, max, inl, inr, ◌&&◌, List, [], ◌∷◌, ◌++◌, length, drop, Option, Some, None, refl, sym, ◌∙◌, ap, subst, append-nil, append_assoc, arith, length-append}
 use Rattle.std.specs.Prelude.{◌==◌, nat_lt}
 use Rattle.std.proofs.lemmas.Bool.{cases_Bool}
@@ -22,7 +23,7 @@ turns_of-append (call ∷ cs) ds = ap (λ z. turn_of call ++ z) (turns_of-append
 
 -- ---- visits make no turn
 
-NoTurn : Session → Session → List Entry → List Call → Type 0
+NoTurn : Session ModelEnd → Session ModelEnd → List Entry → List Call → Type 0
 NoTurn s t xs cs = turns_of cs ≡ []
 
 steady : (r : Rules) → Steady r (λ g. Unit {0}) NoTurn
@@ -43,19 +44,19 @@ bare = record { wrote = λ s n whole. refl; put_off = λ s. refl; failed = λ s.
 all_given : AllGiven (λ g. Unit {0})
 all_given = record { usual = record { sends = λ text. tt; leaves = λ sub. tt; takes = tt }; hears = λ octets. tt; ticks = tt; ends = tt; faults = tt }
 
-read_no_turn : (s : Session) (waits : ℕ) (reading : Reading) → NoTurn s s [] (Reads s.number most_read waits reading ∷ [])
+read_no_turn : (s : Session ModelEnd) (waits : ℕ) (reading : Reading) → NoTurn s s [] (Reads s.number most_read waits reading ∷ [])
 unfolding NoTurn turns_of
 read_no_turn s waits reading = refl
 
 calls : (r : Rules) → Calls r NoTurn
 calls r = usual_calls r (λ g. Unit {0}) NoTurn (steady r) all_given bare read_no_turn
 
-left_none : (s : Session) (ts : List Session) (xs : List Entry) (cs : List Call) → Left NoTurn s ts xs cs → turns_of cs ≡ []
+left_none : (s : Session ModelEnd) (ts : List (Session ModelEnd)) (xs : List Entry) (cs : List Call) → Left NoTurn s ts xs cs → turns_of cs ≡ []
 unfolding NoTurn turns_of
 left_none s ts xs cs (Stays t p q) = q
 left_none s ts xs cs (Closed t ds over p e q) = ap turns_of e ∙ turns_of-append ds (Closes t.number ∷ []) ∙ append-nil (turns_of ds) ∙ q
 
-visit_none : (r : Rules) (m : ℕ) (visit : Visit) (n : ℕ) (ss : List Session) (a : Met) → turns_of (visit_at (visited r m visit) n ss a).calls ≡ []
+visit_none : (r : Rules) (m : ℕ) (visit : Visit) (n : ℕ) (ss : List (Session ModelEnd)) (a : Met) → turns_of (visit_at (visited model_ends r m visit) n ss a).calls ≡ []
 unfolding visit_at turns_of
 visit_none r m visit n [] a = refl
 visit_none r m visit n (s ∷ ss) a =
@@ -64,38 +65,38 @@ visit_none r m visit n (s ∷ ss) a =
       | inr p ↦ rw p (visit_none r m visit n ss a)
     ]
 
-swept_none : (r : Rules) (m : ℕ) (visit : Visit) (ns : List ℕ) (ss : List Session) (answers : List Met) → turns_of (swept (visited r m visit) ns ss answers).calls ≡ []
+swept_none : (r : Rules) (m : ℕ) (visit : Visit) (ns : List ℕ) (ss : List (Session ModelEnd)) (answers : List Met) → turns_of (swept (visited model_ends r m visit) ns ss answers).calls ≡ []
 unfolding swept turns_of
 swept_none r m visit [] ss answers = refl
 swept_none r m visit (n ∷ ns) ss answers =
-    let o = visit_at (visited r m visit) n ss (first_of nothing_met answers) in
-    turns_of-append o.calls (swept (visited r m visit) ns o.state (drop 1 answers)).calls
-    ∙ ap (λ z. z ++ turns_of (swept (visited r m visit) ns o.state (drop 1 answers)).calls) (visit_none r m visit n ss (first_of nothing_met answers))
+    let o = visit_at (visited model_ends r m visit) n ss (first_of nothing_met answers) in
+    turns_of-append o.calls (swept (visited model_ends r m visit) ns o.state (drop 1 answers)).calls
+    ∙ ap (λ z. z ++ turns_of (swept (visited model_ends r m visit) ns o.state (drop 1 answers)).calls) (visit_none r m visit n ss (first_of nothing_met answers))
     ∙ swept_none r m visit ns o.state (drop 1 answers)
 
-readied_none : (plan : Plan) (c : Course) (a : Turn) → turns_of (readied plan c a).calls ≡ []
+readied_none : (plan : Plan) (c : Course ModelEnd) (a : Turn) → turns_of (readied model_ends plan c a).calls ≡ []
 unfolding readied before
 readied_none plan c a =
     let d = asks a.first c in
     let r = rules_of plan in
     let m = d.loop.moment in
-    let t = swept (visited r m Tick) (numbers d.loop.sessions) d.loop.sessions a.sweeps.ticks in
-    let u = swept (visited r m Expire) (numbers t.state) t.state a.sweeps.closings in
+    let t = swept (visited model_ends r m Tick) (numbers d.loop.sessions) d.loop.sessions a.sweeps.ticks in
+    let u = swept (visited model_ends r m Expire) (numbers t.state) t.state a.sweeps.closings in
     turns_of-append t.calls u.calls
     ∙ ap (λ z. z ++ turns_of u.calls) (swept_none r m Tick (numbers d.loop.sessions) d.loop.sessions a.sweeps.ticks)
     ∙ swept_none r m Expire (numbers t.state) t.state a.sweeps.closings
 
 -- what happened brings no turn, and leaves the moment
-record Brings (l : Loop) (o : Out Loop) : Type 0 where
+record Brings (l : Loop ModelEnd) (o : Out (Loop ModelEnd)) : Type 0 where
   none : turns_of o.calls ≡ []
   moment : o.state.moment ≡ l.moment
 
-answered_brings : (user : Option Mind) (plan : Plan) (l : Loop) (conn : ℕ) → Brings l (answered_by user plan l conn)
+answered_brings : (user : Option Mind) (plan : Plan) (l : Loop ModelEnd) (conn : ℕ) → Brings l (answered_by model_ends user plan l conn)
 unfolding turns_of
 answered_brings None plan l conn = record { none = refl; moment = refl }
 answered_brings (Some mind) plan l conn = record { none = refl; moment = refl }
 
-happened_brings : (plan : Plan) (l : Loop) (what : Happening) (a : Met) → Brings l (happened plan l what a)
+happened_brings : (plan : Plan) (l : Loop ModelEnd) (what : Happening) (a : Met) → Brings l (happened model_ends plan l what a)
 unfolding happened accepted turns_of
 happened_brings plan l (happening.Accepted conn) a =
     elim (cases_Bool (nat_lt (length l.sessions) most_live)) [
@@ -110,7 +111,7 @@ happened_brings plan l happening.Failed a = record { none = refl; moment = refl 
 
 -- ---- what a course keeps
 
-record Kept (c : Course) (whats : List Happening) : Type 0 where
+record Kept (c : Course ModelEnd) (whats : List Happening) : Type 0 where
   halts : HaltsBy c.halt whats
   turns : c.turns ≡ length whats
   moment : c.loop.moment ≡ greatest 0 c.asked
@@ -123,10 +124,10 @@ greatest-last : (m : ℕ) (ats : List ℕ) (at : ℕ) → greatest m (ats ++ at 
 greatest-last m [] at = refl
 greatest-last m (x ∷ ats) at = greatest-last (max m x) ats at
 
-closed_or_not : (plan : Plan) (ss : List Session) (whats : List Happening) → AllGoOn whats → HaltsBy (halt_by plan ss) whats
+closed_or_not : (plan : Plan) (ss : List (Session ModelEnd)) (whats : List Happening) → AllGoOn whats → HaltsBy (halt_by plan ss) whats
 closed_or_not plan ss whats p = elim (cases_Bool (plan.dials && (length ss == 0))) [ inl q ↦ rw q p | inr q ↦ rw q p ]
 
-halts_behind : (plan : Plan) (what : Happening) (ss : List Session) (whats : List Happening) → AllGoOn whats → HaltsBy (halt_behind plan what ss) (whats ++ what ∷ [])
+halts_behind : (plan : Plan) (what : Happening) (ss : List (Session ModelEnd)) (whats : List Happening) → AllGoOn whats → HaltsBy (halt_behind plan what ss) (whats ++ what ∷ [])
 halts_behind plan (happening.Accepted conn) ss whats p = closed_or_not plan ss (whats ++ happening.Accepted conn ∷ []) (all_on-last whats (happening.Accepted conn) p tt)
 halts_behind plan (happening.Readable conn) ss whats p = closed_or_not plan ss (whats ++ happening.Readable conn ∷ []) (all_on-last whats (happening.Readable conn) p tt)
 halts_behind plan (happening.Writable conn) ss whats p = closed_or_not plan ss (whats ++ happening.Writable conn ∷ []) (all_on-last whats (happening.Writable conn) p tt)
@@ -134,35 +135,35 @@ halts_behind plan happening.Quiet ss whats p = closed_or_not plan ss (whats ++ h
 halts_behind plan happening.Ended ss whats p = record { before = whats; is = refl; on = p }
 halts_behind plan happening.Failed ss whats p = record { before = whats; is = refl; on = p }
 
-asked_one : (c : Course) (whats : List Happening) (at : ℕ) → Kept c whats → max c.loop.moment at ≡ greatest 0 (c.asked ++ at ∷ [])
+asked_one : (c : Course ModelEnd) (whats : List Happening) (at : ℕ) → Kept c whats → max c.loop.moment at ≡ greatest 0 (c.asked ++ at ∷ [])
 asked_one c whats at k = ap (λ z. max z at) k.moment ∙ sym (greatest-last 0 c.asked at)
 
 -- a part of a run, from a course with these turns on
-record Runs (c : Course) (whats : List Happening) (count : ℕ) (o : Out Course) : Type 0 where
+record Runs (c : Course ModelEnd) (whats : List Happening) (count : ℕ) (o : Out (Course ModelEnd)) : Type 0 where
   kept : Kept o.state (whats ++ turns_of o.calls)
   most : o.state.turns ≤ c.turns + count
   all : o.state.halt ≡ None → o.state.turns ≡ c.turns + count
   back : o.state.halt ≡ None → c.halt ≡ None
 
-readied_kept : (plan : Plan) (c : Course) (a : Turn) (whats : List Happening) → AllGoOn whats → Kept c whats → Kept (readied plan c a).state whats
+readied_kept : (plan : Plan) (c : Course ModelEnd) (a : Turn) (whats : List Happening) → AllGoOn whats → Kept c whats → Kept (readied model_ends plan c a).state whats
 unfolding readied
 readied_kept plan c a whats on k =
     let d = asks a.first c in
     record {
-      halts = closed_or_not plan (before (rules_of plan) d.loop.moment d.loop.sessions a.sweeps).state whats on;
+      halts = closed_or_not plan (before model_ends (rules_of plan) d.loop.moment d.loop.sessions a.sweeps).state whats on;
       turns = k.turns;
       moment = asked_one c whats a.first k;
     }
 
-readied_turns : (plan : Plan) (c : Course) (a : Turn) → (readied plan c a).state.turns ≡ c.turns
+readied_turns : (plan : Plan) (c : Course ModelEnd) (a : Turn) → (readied model_ends plan c a).state.turns ≡ c.turns
 unfolding readied
 readied_turns plan c a = refl
 
 at_most : (a b n : ℕ) → a ≡ b → a ≤ b + n
 at_most a b n p = omega arith
 
-turned_runs : (halt : Option Halt) (plan : Plan) (d : Course) (a : Turn) (whats : List Happening) → d.halt ≡ halt → AllGoOn whats → Kept d whats
-    → Runs d whats 1 (turned_unless halt plan d a)
+turned_runs : (halt : Option Halt) (plan : Plan) (d : Course ModelEnd) (a : Turn) (whats : List Happening) → d.halt ≡ halt → AllGoOn whats → Kept d whats
+    → Runs d whats 1 (turned_unless model_ends halt plan d a)
 unfolding turns_of
 turned_runs (Some halt) plan d a whats is on k = record {
   kept = rw (append-nil whats) k;
@@ -173,7 +174,7 @@ turned_runs (Some halt) plan d a whats is on k = record {
 turned_runs None plan d a whats is on k =
     let l = (asks a.second d).loop in
     let b = happened_brings plan l a.happening a.met in
-    let o = happened plan l a.happening a.met in
+    let o = happened model_ends plan l a.happening a.met in
     record {
       kept = rw b.none (record {
         halts = halts_behind plan a.happening o.state.sessions whats on;
@@ -185,8 +186,8 @@ turned_runs None plan d a whats is on k =
       back = λ p. is;
     }
 
-went_runs : (halt : Option Halt) (plan : Plan) (c : Course) (a : Turn) (whats : List Happening) → c.halt ≡ halt → Kept c whats
-    → Runs c whats 1 (went_unless halt plan c a)
+went_runs : (halt : Option Halt) (plan : Plan) (c : Course ModelEnd) (a : Turn) (whats : List Happening) → c.halt ≡ halt → Kept c whats
+    → Runs c whats 1 (went_unless model_ends halt plan c a)
 unfolding turns_of
 went_runs (Some halt) plan c a whats is k = record {
   kept = rw (append-nil whats) k;
@@ -196,8 +197,8 @@ went_runs (Some halt) plan c a whats is k = record {
 }
 went_runs None plan c a whats is k =
     let on : AllGoOn whats = subst (λ z. HaltsBy z whats) is k.halts in
-    let d = readied plan c a in
-    let t = turned_unless d.state.halt plan d.state a in
+    let d = readied model_ends plan c a in
+    let t = turned_unless model_ends d.state.halt plan d.state a in
     let r = turned_runs d.state.halt plan d.state a whats refl on (readied_kept plan c a whats on k) in
     let same : d.state.turns ≡ c.turns = readied_turns plan c a in
     record {
@@ -207,7 +208,7 @@ went_runs None plan c a whats is k =
       back = λ p. is;
     }
 
-step_runs : (plan : Plan) (c : Course) (a : Turn) (whats : List Happening) → Kept c whats → Runs c whats 1 (went plan c a)
+step_runs : (plan : Plan) (c : Course ModelEnd) (a : Turn) (whats : List Happening) → Kept c whats → Runs c whats 1 (went model_ends plan c a)
 unfolding went
 step_runs plan c a whats k = went_runs c.halt plan c a whats refl k
 
@@ -217,7 +218,7 @@ chain_most a b c n p q = omega arith
 chain_all : (a b c n : ℕ) → a ≡ b + n → b ≡ c + 1 → a ≡ c + suc n
 chain_all a b c n p q = omega arith
 
-all_run : (plan : Plan) (answers : List Turn) (c : Course) (whats : List Happening) → Kept c whats → Runs c whats (length answers) (acts (went plan) c answers)
+all_run : (plan : Plan) (answers : List Turn) (c : Course ModelEnd) (whats : List Happening) → Kept c whats → Runs c whats (length answers) (acts (went model_ends plan) c answers)
 unfolding acts turns_of
 all_run plan [] c whats k = record {
   kept = rw (append-nil whats) k;
@@ -227,8 +228,8 @@ all_run plan [] c whats k = record {
 }
 all_run plan (a ∷ answers) c whats k =
     let s = step_runs plan c a whats k in
-    let o = went plan c a in
-    let t = acts (went plan) o.state answers in
+    let o = went model_ends plan c a in
+    let t = acts (went model_ends plan) o.state answers in
     let r = all_run plan answers o.state (whats ++ turns_of o.calls) s.kept in
     record {
       kept = subst (λ z. Kept t.state z) (append_assoc whats (turns_of o.calls) (turns_of t.calls) ∙ ap (λ z. whats ++ z) (sym (turns_of-append o.calls t.calls))) r.kept;
@@ -253,7 +254,7 @@ counted plan c turns b =
     record {
       halts = r.kept.halts;
       turns = r.kept.turns;
-      most = subst (λ z. (acts (went plan) c given).state.turns ≤ z) n r.most;
+      most = subst (λ z. (acts (went model_ends plan) c given).state.turns ≤ z) n r.most;
       all = λ p. r.all p ∙ n;
       moment = r.kept.moment;
     }

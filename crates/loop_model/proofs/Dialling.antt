@@ -1,4 +1,5 @@
 -- What is known of all connections of a run holds of a dial too: its one connection is opened by a call.
+use Rattle.loop_model.specs.Ends.{ModelEnd, model_ends}
 use Rattle.std.proofs.Common.{if◌then◌else◌, ◌≡◌, ℕ, ◌<◌, max, inl, inr, Bool, false, List, [], ◌∷◌, ◌++◌, Option, Some, None, refl, sym, ◌∙◌, subst, arith, eqb-true, ne_eqb}
 use Rattle.std.specs.Prelude.{◌==◌}
 use Rattle.std.proofs.lemmas.Bool.{cases_Bool}
@@ -21,20 +22,20 @@ any_usual : Usual (λ g. Unit {0})
 any_usual = record { sends = λ text. tt; leaves = λ sub. tt; takes = tt }
 
 -- the session that an opening leaves
-abbrev list_of : Option Session → List Session
+abbrev list_of : Option (Session ModelEnd) → List (Session ModelEnd)
 list_of None = []
 list_of (Some s) = s ∷ []
 
-abbrev IsNumbered : ℕ → Option Session → Type 0
+abbrev IsNumbered : ℕ → Option (Session ModelEnd) → Type 0
 IsNumbered conn None = Unit {0}
 IsNumbered conn (Some s) = s.number ≡ conn
 
-session_left : (conn n : ℕ) (left : Option Session) → IsNumbered conn left → session_of n (list_of left) ≡ (if conn == n then left else None)
+session_left : (conn n : ℕ) (left : Option (Session ModelEnd)) → IsNumbered conn left → session_of n (list_of left) ≡ (if conn == n then left else None)
 unfolding session_of
 session_left conn n None p = elim (cases_Bool (conn == n)) [ inl q ↦ rw q refl | inr q ↦ rw q refl ]
 session_left conn n (Some s) p = subst (λ z. (if s.number == n then Some s else None) ≡ (if z == n then Some s else None)) p refl
 
-apart_left : (left : Option Session) → Apart (list_of left)
+apart_left : (left : Option (Session ModelEnd)) → Apart (list_of left)
 unfolding Apart session_of
 apart_left None = tt
 apart_left (Some s) = (refl, tt)
@@ -42,15 +43,15 @@ apart_left (Some s) = (refl, tt)
 if_false : {A : Type 0} (b : Bool) (x y : A) → b ≡ false → (if b then x else y) ≡ y
 if_false b x y p = rw p refl
 
-module _ (plan : Plan) (caller : Caller) (Q : Session → Session → List Entry → List Call → Type 0)
-    (c : AllLeft (rules_of plan) Q) (own : (s t : Session) (xs : List Entry) (cs : List Call) → Q s t xs cs → Own s t xs cs)
-    (K : Session → List Entry → List Call → Type 0) (E : List Entry → List Call → Type 0) (k : Keeps plan Q K E)
+module _ (plan : Plan) (caller : Caller) (Q : Session ModelEnd → Session ModelEnd → List Entry → List Call → Type 0)
+    (c : AllLeft (rules_of plan) Q) (own : (s t : Session ModelEnd) (xs : List Entry) (cs : List Call) → Q s t xs cs → Own s t xs cs)
+    (K : Session ModelEnd → List Entry → List Call → Type 0) (E : List Entry → List Call → Type 0) (k : Keeps plan Q K E)
   where
-    abbrev Known : List Entry → List Call → List Session → Type 0
+    abbrev Known : List Entry → List Call → List (Session ModelEnd) → Type 0
     Known js bs ss = Knows plan Q c own K E k js bs ss
 
     -- what an opening leaves
-    knows_left : (conn : ℕ) (address : List ℕ) (t : Session) (xs ys : List Entry) (ds : List Call) (left : Option Session)
+    knows_left : (conn : ℕ) (address : List ℕ) (t : Session ModelEnd) (xs ys : List Entry) (ds : List Call) (left : Option (Session ModelEnd))
         → t.number ≡ conn → IsNumbered conn left → ((n : ℕ) → of n xs ≡ (if conn == n then xs else [])) → K t xs [] → LeftAt plan Q c own K E k t left ys ds
         → Known (xs ++ ys) (Dials address (Some conn) ∷ ds) (list_of left)
     unfolding calls_at opened_in Fits
@@ -75,7 +76,7 @@ module _ (plan : Plan) (caller : Caller) (Q : Session → Session → List Entry
               );
         }
 
-    left_of : (conn : ℕ) (address : List ℕ) (t : Session) (ts : List Session) (xs ys : List Entry) (ds : List Call)
+    left_of : (conn : ℕ) (address : List ℕ) (t : Session ModelEnd) (ts : List (Session ModelEnd)) (xs ys : List Entry) (ds : List Call)
         → t.number ≡ conn → ((n : ℕ) → of n xs ≡ (if conn == n then xs else [])) → K t xs [] → Left Q t ts ys ds
         → Known (xs ++ ys) (Dials address (Some conn) ∷ ds) ts
     unfolding LeftAt
@@ -101,73 +102,73 @@ module _ (plan : Plan) (caller : Caller) (Q : Session → Session → List Entry
     -- of the session that begins, where all that comes of its opening is known
     abbrev KnowsFirst : ℕ → Type 0
     KnowsFirst at =
-        (mind : Mind) (l : Loop) (conn : ℕ) (address : List ℕ) (a : Met) → l.sessions ≡ [] → l.moment ≡ at
-        → Known (called_by (Some mind) plan caller l conn a).entries (Dials address (Some conn) ∷ (called_by (Some mind) plan caller l conn a).calls) (called_by (Some mind) plan caller l conn a).state.sessions
+        (mind : Mind) (l : Loop ModelEnd) (conn : ℕ) (address : List ℕ) (a : Met) → l.sessions ≡ [] → l.moment ≡ at
+        → Known (called_by model_ends (Some mind) plan caller l conn a).entries (Dials address (Some conn) ∷ (called_by model_ends (Some mind) plan caller l conn a).calls) (called_by model_ends (Some mind) plan caller l conn a).state.sessions
 
     module _ (at : ℕ) (begins : KnowsFirst at) where
-      knows_by : (user : Option Mind) (l : Loop) (conn : ℕ) (address : List ℕ) (a : Met) → l.sessions ≡ [] → l.moment ≡ at
-          → Known (called_by user plan caller l conn a).entries (Dials address (Some conn) ∷ (called_by user plan caller l conn a).calls) (called_by user plan caller l conn a).state.sessions
+      knows_by : (user : Option Mind) (l : Loop ModelEnd) (conn : ℕ) (address : List ℕ) (a : Met) → l.sessions ≡ [] → l.moment ≡ at
+          → Known (called_by model_ends user plan caller l conn a).entries (Dials address (Some conn) ∷ (called_by model_ends user plan caller l conn a).calls) (called_by model_ends user plan caller l conn a).state.sessions
       knows_by None l conn address a none now = rw none (knows_away conn l.moment address)
       knows_by (Some mind) l conn address a none now = begins mind l conn address a none now
 
       -- a dial that opened its connection, and the run behind it
-      knows_opened : (d : Course) (conn : ℕ) (address : List ℕ) (a : Met) (turns : List Turn) → d.loop.sessions ≡ [] → d.loop.moment ≡ at
-          → Rises 0 (opened_in (Dials address (Some conn) ∷ ((opens plan caller d conn a).calls ++ (run plan (opens plan caller d conn a).state turns).calls)))
-          → Known ((opens plan caller d conn a).entries ++ (run plan (opens plan caller d conn a).state turns).entries)
-          (Dials address (Some conn) ∷ ((opens plan caller d conn a).calls ++ (run plan (opens plan caller d conn a).state turns).calls))
-          (run plan (opens plan caller d conn a).state turns).state.loop.sessions
+      knows_opened : (d : Course ModelEnd) (conn : ℕ) (address : List ℕ) (a : Met) (turns : List Turn) → d.loop.sessions ≡ [] → d.loop.moment ≡ at
+          → Rises 0 (opened_in (Dials address (Some conn) ∷ ((opens model_ends plan caller d conn a).calls ++ (run model_ends plan (opens model_ends plan caller d conn a).state turns).calls)))
+          → Known ((opens model_ends plan caller d conn a).entries ++ (run model_ends plan (opens model_ends plan caller d conn a).state turns).entries)
+          (Dials address (Some conn) ∷ ((opens model_ends plan caller d conn a).calls ++ (run model_ends plan (opens model_ends plan caller d conn a).state turns).calls))
+          (run model_ends plan (opens model_ends plan caller d conn a).state turns).state.loop.sessions
       unfolding called
       knows_opened d conn address a turns none now rises =
-          let o = opens plan caller d conn a in
-          let e = run plan o.state turns in
+          let o = opens model_ends plan caller d conn a in
+          let e = run model_ends plan o.state turns in
           let bs : List Call = Dials address (Some conn) ∷ o.calls in
           let r = subst (λ z. Rises 0 z) (opened_in-append bs e.calls) rises in
           knows_on plan Q c own K E k o.state turns o.entries bs (rises_rest 0 (opened_in bs) (opened_in e.calls) r)
           (knows_by (next_user d.loop.users) d.loop conn address a none now)
 
-      knows_to : (conn : Option ℕ) (d : Course) (address : List ℕ) (a : Dialled) → d.loop.sessions ≡ [] → max d.loop.moment a.first ≡ at
-          → Rises 0 (opened_in (dials_to conn plan caller d address a).calls)
-          → Known (dials_to conn plan caller d address a).entries (dials_to conn plan caller d address a).calls (dials_to conn plan caller d address a).state.loop.sessions
+      knows_to : (conn : Option ℕ) (d : Course ModelEnd) (address : List ℕ) (a : Dialled) → d.loop.sessions ≡ [] → max d.loop.moment a.first ≡ at
+          → Rises 0 (opened_in (dials_to model_ends conn plan caller d address a).calls)
+          → Known (dials_to model_ends conn plan caller d address a).entries (dials_to model_ends conn plan caller d address a).calls (dials_to model_ends conn plan caller d address a).state.loop.sessions
       unfolding calls_at opened_in Fits of session_of Apart
       knows_to None d address a none now rises = rw none (record { fits = λ n. k.never; apart = tt; low = λ n up. (refl, refl, refl) })
       knows_to (Some conn) d address a none now rises = knows_opened (asks a.first d) conn address a.met a.turns none now rises
 
-      knows_from : (d : Course) (address : List ℕ) (a : Dialled) → d.loop.sessions ≡ [] → max d.loop.moment a.first ≡ at
-          → Rises 0 (opened_in (dials plan caller d address a).calls)
-          → Known (dials plan caller d address a).entries (dials plan caller d address a).calls (dials plan caller d address a).state.loop.sessions
+      knows_from : (d : Course ModelEnd) (address : List ℕ) (a : Dialled) → d.loop.sessions ≡ [] → max d.loop.moment a.first ≡ at
+          → Rises 0 (opened_in (dials model_ends plan caller d address a).calls)
+          → Known (dials model_ends plan caller d address a).entries (dials model_ends plan caller d address a).calls (dials model_ends plan caller d address a).state.loop.sessions
       unfolding dials
       knows_from d address a none now rises = knows_to a.conn d address a none now rises
 
     -- where it holds behind the events of the opening
-    module _ (at : ℕ) (first : (l : Loop) (conn : ℕ) (mind : Mind) (says : Says) → l.moment ≡ at
-        → K (handled (rules_of plan) l.moment (begun conn (calling plan caller l) mind) (Begins caller.engine plan.rbc (next_u64 l.words).0) says).0
-        (handled (rules_of plan) l.moment (begun conn (calling plan caller l) mind) (Begins caller.engine plan.rbc (next_u64 l.words).0) says).1 [])
+    module _ (at : ℕ) (first : (l : Loop ModelEnd) (conn : ℕ) (mind : Mind) (says : Says) → l.moment ≡ at
+        → K (handled model_ends (rules_of plan) l.moment (begun conn (calling model_ends plan caller l) mind) (Begins caller.engine plan.rbc (next_u64 l.words).0) says).0
+        (handled model_ends (rules_of plan) l.moment (begun conn (calling model_ends plan caller l) mind) (Begins caller.engine plan.rbc (next_u64 l.words).0) says).1 [])
       where
         begins_handled : KnowsFirst at
         unfolding served
         begins_handled mind l conn address a none now =
             let r = rules_of plan in
             let m = l.moment in
-            let s = begun conn (calling plan caller l) mind in
+            let s = begun conn (calling model_ends plan caller l) mind in
             let g = Begins caller.engine plan.rbc (next_u64 l.words).0 in
             let says = first_of nothing_said a.says in
-            let h = handled r m s g says in
+            let h = handled model_ends r m s g says in
             let o = steady_handled r (λ g. Unit {0}) Own (own_steady r) any_usual m s g says tt in
-            left_of conn address h.0 (rests r m h.0 a.wrote).state h.1 (rests r m h.0 a.wrote).entries (rests r m h.0 a.wrote).calls
+            left_of conn address h.0 (rests model_ends r m h.0 a.wrote).state h.1 (rests model_ends r m h.0 a.wrote).entries (rests model_ends r m h.0 a.wrote).calls
             o.number o.entries (first l conn mind says now) (c.at_rest m h.0 a.wrote)
 
-        pub knows_called : (user : Option Mind) (l : Loop) (conn : ℕ) (address : List ℕ) (a : Met) → l.sessions ≡ [] → l.moment ≡ at
-            → Known (called_by user plan caller l conn a).entries (Dials address (Some conn) ∷ (called_by user plan caller l conn a).calls) (called_by user plan caller l conn a).state.sessions
+        pub knows_called : (user : Option Mind) (l : Loop ModelEnd) (conn : ℕ) (address : List ℕ) (a : Met) → l.sessions ≡ [] → l.moment ≡ at
+            → Known (called_by model_ends user plan caller l conn a).entries (Dials address (Some conn) ∷ (called_by model_ends user plan caller l conn a).calls) (called_by model_ends user plan caller l conn a).state.sessions
         knows_called user l conn address a none now = knows_by at begins_handled user l conn address a none now
 
-        pub knows_dial_of : (d : Course) (address : List ℕ) (a : Dialled) → d.loop.sessions ≡ [] → max d.loop.moment a.first ≡ at
-            → Rises 0 (opened_in (dials plan caller d address a).calls)
-            → Known (dials plan caller d address a).entries (dials plan caller d address a).calls (dials plan caller d address a).state.loop.sessions
+        pub knows_dial_of : (d : Course ModelEnd) (address : List ℕ) (a : Dialled) → d.loop.sessions ≡ [] → max d.loop.moment a.first ≡ at
+            → Rises 0 (opened_in (dials model_ends plan caller d address a).calls)
+            → Known (dials model_ends plan caller d address a).entries (dials model_ends plan caller d address a).calls (dials model_ends plan caller d address a).state.loop.sessions
         knows_dial_of d address a none now rises = knows_from at begins_handled d address a none now rises
 
     -- where it holds before the opening, of no events and no calls, and the opening is as a visit
-    module _ (new : (l : Loop) (conn : ℕ) (mind : Mind) → K (begun conn (calling plan caller l) mind) [] [])
-        (opening : (m : ℕ) (s : Session) (g : Given) (a : Met) → Left Q s (served (rules_of plan) m s g a).state (served (rules_of plan) m s g a).entries (served (rules_of plan) m s g a).calls)
+    module _ (new : (l : Loop ModelEnd) (conn : ℕ) (mind : Mind) → K (begun conn (calling model_ends plan caller l) mind) [] [])
+        (opening : (m : ℕ) (s : Session ModelEnd) (g : Given) (a : Met) → Left Q s (served model_ends (rules_of plan) m s g a).state (served model_ends (rules_of plan) m s g a).entries (served model_ends (rules_of plan) m s g a).calls)
       where
         none_of : (conn n : ℕ) → of n [] ≡ (if conn == n then [] else [])
         unfolding of
@@ -176,37 +177,37 @@ module _ (plan : Plan) (caller : Caller) (Q : Session → Session → List Entry
         begins_served : (at : ℕ) → KnowsFirst at
         begins_served at mind l conn address a none now =
             let r = rules_of plan in
-            let s = begun conn (calling plan caller l) mind in
+            let s = begun conn (calling model_ends plan caller l) mind in
             let g = Begins caller.engine plan.rbc (next_u64 l.words).0 in
-            let o = served r l.moment s g a in
+            let o = served model_ends r l.moment s g a in
             left_of conn address s o.state [] o.entries o.calls refl (none_of conn) (new l conn mind) (opening l.moment s g a)
 
-        pub knows_dial_served : (at : ℕ) (d : Course) (address : List ℕ) (a : Dialled) → d.loop.sessions ≡ [] → max d.loop.moment a.first ≡ at
-            → Rises 0 (opened_in (dials plan caller d address a).calls)
-            → Known (dials plan caller d address a).entries (dials plan caller d address a).calls (dials plan caller d address a).state.loop.sessions
+        pub knows_dial_served : (at : ℕ) (d : Course ModelEnd) (address : List ℕ) (a : Dialled) → d.loop.sessions ≡ [] → max d.loop.moment a.first ≡ at
+            → Rises 0 (opened_in (dials model_ends plan caller d address a).calls)
+            → Known (dials model_ends plan caller d address a).entries (dials model_ends plan caller d address a).calls (dials model_ends plan caller d address a).state.loop.sessions
         knows_dial_served at d address a none now rises = knows_from at (begins_served at) d address a none now rises
 
 -- the same, where what holds behind the first event is kept by all that follows it
-module _ (plan : Plan) (caller : Caller) (Allowed : Given → Type 0) (Q : Session → Session → List Entry → List Call → Type 0) (q : Steady (rules_of plan) Allowed Q) (usual : Usual Allowed)
-    (c : AllLeft (rules_of plan) Q) (own : (s t : Session) (xs : List Entry) (cs : List Call) → Q s t xs cs → Own s t xs cs)
-    (K : Session → List Entry → List Call → Type 0) (E : List Entry → List Call → Type 0) (k : Keeps plan Q K E)
-    (at : ℕ) (first : (l : Loop) (conn : ℕ) (mind : Mind) → l.moment ≡ at
-    → K (fed (rules_of plan) l.moment (begun conn (calling plan caller l) mind) (Begins caller.engine plan.rbc (next_u64 l.words).0)).0
-    (fed (rules_of plan) l.moment (begun conn (calling plan caller l) mind) (Begins caller.engine plan.rbc (next_u64 l.words).0)).1 [])
+module _ (plan : Plan) (caller : Caller) (Allowed : Given → Type 0) (Q : Session ModelEnd → Session ModelEnd → List Entry → List Call → Type 0) (q : Steady (rules_of plan) Allowed Q) (usual : Usual Allowed)
+    (c : AllLeft (rules_of plan) Q) (own : (s t : Session ModelEnd) (xs : List Entry) (cs : List Call) → Q s t xs cs → Own s t xs cs)
+    (K : Session ModelEnd → List Entry → List Call → Type 0) (E : List Entry → List Call → Type 0) (k : Keeps plan Q K E)
+    (at : ℕ) (first : (l : Loop ModelEnd) (conn : ℕ) (mind : Mind) → l.moment ≡ at
+    → K (fed model_ends (rules_of plan) l.moment (begun conn (calling model_ends plan caller l) mind) (Begins caller.engine plan.rbc (next_u64 l.words).0)).0
+    (fed model_ends (rules_of plan) l.moment (begun conn (calling model_ends plan caller l) mind) (Begins caller.engine plan.rbc (next_u64 l.words).0)).1 [])
   where
-    pub first_handled : (l : Loop) (conn : ℕ) (mind : Mind) (says : Says) → l.moment ≡ at
-        → K (handled (rules_of plan) l.moment (begun conn (calling plan caller l) mind) (Begins caller.engine plan.rbc (next_u64 l.words).0) says).0
-        (handled (rules_of plan) l.moment (begun conn (calling plan caller l) mind) (Begins caller.engine plan.rbc (next_u64 l.words).0) says).1 []
+    pub first_handled : (l : Loop ModelEnd) (conn : ℕ) (mind : Mind) (says : Says) → l.moment ≡ at
+        → K (handled model_ends (rules_of plan) l.moment (begun conn (calling model_ends plan caller l) mind) (Begins caller.engine plan.rbc (next_u64 l.words).0) says).0
+        (handled model_ends (rules_of plan) l.moment (begun conn (calling model_ends plan caller l) mind) (Begins caller.engine plan.rbc (next_u64 l.words).0) says).1 []
     first_handled l conn mind says now =
         let r = rules_of plan in
         let m = l.moment in
-        let s = begun conn (calling plan caller l) mind in
+        let s = begun conn (calling model_ends plan caller l) mind in
         let g = Begins caller.engine plan.rbc (next_u64 l.words).0 in
-        let h = handled r m s g says in
+        let h = handled model_ends r m s g says in
         let f = follows_handled r Allowed Q q usual m s g says in
-        subst (λ z. K h.0 z []) (sym f.is) (k.visit (fed r m s g).0 h.0 (fed r m s g).1 f.rest [] [] (first l conn mind now) f.holds)
+        subst (λ z. K h.0 z []) (sym f.is) (k.visit (fed model_ends r m s g).0 h.0 (fed model_ends r m s g).1 f.rest [] [] (first l conn mind now) f.holds)
 
-    pub knows_dial : (d : Course) (address : List ℕ) (a : Dialled) → d.loop.sessions ≡ [] → max d.loop.moment a.first ≡ at
-        → Rises 0 (opened_in (dials plan caller d address a).calls)
-        → Knows plan Q c own K E k (dials plan caller d address a).entries (dials plan caller d address a).calls (dials plan caller d address a).state.loop.sessions
+    pub knows_dial : (d : Course ModelEnd) (address : List ℕ) (a : Dialled) → d.loop.sessions ≡ [] → max d.loop.moment a.first ≡ at
+        → Rises 0 (opened_in (dials model_ends plan caller d address a).calls)
+        → Knows plan Q c own K E k (dials model_ends plan caller d address a).entries (dials model_ends plan caller d address a).calls (dials model_ends plan caller d address a).state.loop.sessions
     knows_dial d address a none now rises = knows_dial_of plan caller Q c own K E k at first_handled d address a none now rises

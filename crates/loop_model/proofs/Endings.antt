@@ -1,8 +1,8 @@
 -- An event `ended` comes exactly where a read answered that the line ended.
+use Rattle.loop_model.specs.Ends.{ModelEnd, model_ends}
 use Rattle.std.proofs.Common.{◌≡◌, ℕ, ◌+◌, inl, inr, false, List, [], ◌∷◌, ◌++◌, length, Option, Some, None, refl, sym, ◌∙◌, ap, append-nil, append_assoc}
 use Rattle.std.specs.Prelude.{nat_lt, ◌==◌}
 use Rattle.std.proofs.lemmas.Bool.{cases_Bool}
-use Rattle.er_end.specs.KeptEnds.{KEnd}
 use Rattle.er_users.specs.Users.{Mind}
 use Rattle.rand_core.specs.Stream.{next_u64}
 use Rattle.link_trait.specs.Wires.{Call, Reading, Gave, NotNow, End, Failed, Reads, Closes}
@@ -26,7 +26,7 @@ unfolding ends_of
 ends-append [] ds = refl
 ends-append (call ∷ cs) ds = ap (λ z. ended_by call ++ z) (ends-append cs ds) ∙ sym (append_assoc (ended_by call) (ends_of cs) (ends_of ds))
 
-Tells : Session → Session → List Entry → List Call → Type 0
+Tells : Session ModelEnd → Session ModelEnd → List Entry → List Call → Type 0
 Tells s t xs cs = ended xs ≡ ends_of cs
 
 -- every event but an end of the line
@@ -41,7 +41,7 @@ IsNoEnd Ends = ⊥
 IsNoEnd Faults = Unit {0}
 IsNoEnd Stalls = Unit {0}
 
-no_end : (k : KEnd) (g : Given) → IsNoEnd g → is_ended (written k g) ≡ false
+no_end : (k : ModelEnd) (g : Given) → IsNoEnd g → is_ended (written model_ends k g) ≡ false
 no_end k (Begins engine rbc rb) p = refl
 no_end k (Hears octets) p = refl
 no_end k (Sends text) p = refl
@@ -69,19 +69,19 @@ steady r = record {
 usual : Usual IsNoEnd
 usual = record { sends = λ text. tt; leaves = λ sub. tt; takes = tt }
 
-fed_end : (r : Rules) (m : ℕ) (s : Session) → ended (fed r m s Ends).1 ≡ s.number ∷ []
+fed_end : (r : Rules) (m : ℕ) (s : Session ModelEnd) → ended (fed model_ends r m s Ends).1 ≡ s.number ∷ []
 unfolding ended fed joined
 fed_end r m s =
-    elim (cases_Bool (nat_lt most_output (length s.output + length (octets_in (outcomes_of r m s.end Ends))))) [ inl p ↦ rw p refl | inr p ↦ rw p refl ]
+    elim (cases_Bool (nat_lt most_output (length s.output + length (octets_in (outcomes_of model_ends r m s.end Ends))))) [ inl p ↦ rw p refl | inr p ↦ rw p refl ]
 
-handled_end : (r : Rules) (m : ℕ) (s : Session) (says : Says) → ended (handled r m s Ends says).1 ≡ s.number ∷ []
+handled_end : (r : Rules) (m : ℕ) (s : Session ModelEnd) (says : Says) → ended (handled model_ends r m s Ends says).1 ≡ s.number ∷ []
 unfolding Tells ends_of
 handled_end r m s says =
     let f = follows_handled r IsNoEnd Tells (steady r) usual m s Ends says in
-    ap ended f.is ∙ ended-append (fed r m s Ends).1 f.rest ∙ ap (λ z. z ++ ended f.rest) (fed_end r m s) ∙ ap (λ z. s.number ∷ z) f.holds
+    ap ended f.is ∙ ended-append (fed model_ends r m s Ends).1 f.rest ∙ ap (λ z. z ++ ended f.rest) (fed_end r m s) ∙ ap (λ z. s.number ∷ z) f.holds
 
-read_told : (r : Rules) (m : ℕ) (s : Session) (waits : ℕ) (reading : Reading) (says : List Says)
-    → ended (came reading r m s says).1 ≡ ends_of (Reads s.number most_read waits reading ∷ [])
+read_told : (r : Rules) (m : ℕ) (s : Session ModelEnd) (waits : ℕ) (reading : Reading) (says : List Says)
+    → ended (came model_ends reading r m s says).1 ≡ ends_of (Reads s.number most_read waits reading ∷ [])
 unfolding Tells ended ends_of
 read_told r m s waits (Gave octets) says = steady_pours r IsNoEnd Tells (steady r) usual (λ octets. tt) m s octets says
 read_told r m s waits NotNow says = refl
@@ -104,13 +104,13 @@ calls : (r : Rules) → Calls r Tells
 unfolding Tells
 calls r = record { quiet = quiet r; read = λ m s a live. read_told r m s a.waits a.reading a.says }
 
-left_told : (s : Session) (ts : List Session) (xs : List Entry) (cs : List Call) → Left Tells s ts xs cs → ended xs ≡ ends_of cs
+left_told : (s : Session ModelEnd) (ts : List (Session ModelEnd)) (xs : List Entry) (cs : List Call) → Left Tells s ts xs cs → ended xs ≡ ends_of cs
 unfolding Tells ended ends_of
 left_told s ts xs cs (Stays t p q) = q
 left_told s ts xs cs (Closed t ds over p e q) = q ∙ sym (ap ends_of e ∙ ends-append ds (Closes t.number ∷ []) ∙ append-nil (ends_of ds))
 
-visit_told : (r : Rules) (m : ℕ) (visit : Visit) (n : ℕ) (ss : List Session) (a : Met)
-    → ended (visit_at (visited r m visit) n ss a).entries ≡ ends_of (visit_at (visited r m visit) n ss a).calls
+visit_told : (r : Rules) (m : ℕ) (visit : Visit) (n : ℕ) (ss : List (Session ModelEnd)) (a : Met)
+    → ended (visit_at (visited model_ends r m visit) n ss a).entries ≡ ends_of (visit_at (visited model_ends r m visit) n ss a).calls
 unfolding visit_at ended ends_of
 visit_told r m visit n [] a = refl
 visit_told r m visit n (s ∷ ss) a =
@@ -119,7 +119,7 @@ visit_told r m visit n (s ∷ ss) a =
       | inr p ↦ rw p (visit_told r m visit n ss a)
     ]
 
-Along : List Session → List Session → List Entry → List Call → Type 0
+Along : List (Session ModelEnd) → List (Session ModelEnd) → List Entry → List Call → Type 0
 Along ss ts xs cs = ended xs ≡ ends_of cs
 
 wise : (plan : Plan) → Loopwise plan Along
@@ -134,28 +134,28 @@ wise plan = record {
   unserved = λ ss m handed until conn. refl;
 }
 
-run_told : (plan : Plan) (c : Course) (turns : List Turn) → ended (run plan c turns).entries ≡ ends_of (run plan c turns).calls
+run_told : (plan : Plan) (c : Course ModelEnd) (turns : List Turn) → ended (run model_ends plan c turns).entries ≡ ends_of (run model_ends plan c turns).calls
 unfolding Along
 run_told plan c turns = wise_run plan Along (wise plan) c turns
 
-called_told : (user : Option Mind) (plan : Plan) (caller : Caller) (l : Loop) (conn : ℕ) (a : Met)
-    → ended (called_by user plan caller l conn a).entries ≡ ends_of (called_by user plan caller l conn a).calls
+called_told : (user : Option Mind) (plan : Plan) (caller : Caller) (l : Loop ModelEnd) (conn : ℕ) (a : Met)
+    → ended (called_by model_ends user plan caller l conn a).entries ≡ ends_of (called_by model_ends user plan caller l conn a).calls
 unfolding Tells ended ends_of
 called_told None plan caller l conn a = refl
 called_told (Some mind) plan caller l conn a =
     let r = rules_of plan in
-    let s = begun conn (calling plan caller l) mind in
+    let s = begun conn (calling model_ends plan caller l) mind in
     let g = Begins caller.engine plan.rbc (next_u64 l.words).0 in
     left_told s _ _ _ (left_served r Tells (quiet r) l.moment s g a (steady_handled r IsNoEnd Tells (steady r) usual l.moment s g (first_of nothing_said a.says) tt))
 
-dial_told : (conn : Option ℕ) (plan : Plan) (caller : Caller) (c : Course) (address : List ℕ) (a : Dialled)
-    → ended (dials_to conn plan caller c address a).entries ≡ ends_of (dials_to conn plan caller c address a).calls
+dial_told : (conn : Option ℕ) (plan : Plan) (caller : Caller) (c : Course ModelEnd) (address : List ℕ) (a : Dialled)
+    → ended (dials_to model_ends conn plan caller c address a).entries ≡ ends_of (dials_to model_ends conn plan caller c address a).calls
 unfolding called ended ends_of
 dial_told None plan caller c address a = refl
 dial_told (Some conn) plan caller c address a =
     let d = asks a.first c in
-    let o = opens plan caller d conn a.met in
-    let e = run plan o.state a.turns in
+    let o = opens model_ends plan caller d conn a.met in
+    let e = run model_ends plan o.state a.turns in
     both_told o.entries e.entries o.calls e.calls (called_told (next_user d.loop.users) plan caller d.loop conn a.met) (run_told plan o.state a.turns)
 
 pub ends_are_told : EndsAreTold

@@ -1,5 +1,6 @@
 -- A released connection is closed at the latest the set-up time behind the event that released it.
-use Rattle.std.proofs.Common.{if◌then◌else◌, ◌≡◌, ◌⊎◌, ℕ, ◌+◌, max, inl, inr, Bool, true, false, ◌&&◌, ◌||◌, List, [], ◌∷◌, ◌++◌, length, drop, Option, Some, None, refl, sym, ◌∙◌, ap, subst, append-nil, append_assoc, true≢false}
+use Rattle.loop_model.specs.Ends.{ModelEnd, model_ends}
+use Rattle.std.proofs.Common.{if◌then◌else◌, ◌≡◌, ◌⊎◌, ℕ, ◌+◌, max, inl, inr, Bool, true, false, ◌||◌, List, [], ◌∷◌, ◌++◌, length, drop, Option, Some, None, refl, sym, ◌∙◌, ap, subst, append-nil, append_assoc, true≢false}
 use Rattle.std.specs.Prelude.{◌==◌, nat_lt, is_some}
 use Rattle.std.proofs.lemmas.Bool.{cases_Bool}
 use Rattle.er_base.specs.declared.release.Release.{Release}
@@ -7,51 +8,50 @@ use Rattle.er_settings.specs.Ranges.{AllAllowed}
 use Rattle.safety_automaton.specs.Keys.{key_at}
 use Rattle.end_model.specs.Ends.{End as Ended_at}
 use Rattle.trace_model.specs.Connections.{happens}
-use Rattle.er_end.specs.KeptEnds.{KEnd, kept_opened, deadline_of}
-use Rattle.er_end.specs.Keeping.{ReleaseStays, BreaksRelease}
-use Rattle.er_end.specs.Standing.{StepsAlike, MadeStands, ShowsAlike}
+use Rattle.loop_model.proofs.EndKeepings.{ReleaseStays, BreaksRelease}
+use Rattle.loop_model.proofs.EndKeepings.{StepsAlike, MadeStands, ShowsAlike}
 use Rattle.er_users.specs.Users.{Mind, Heard, Said}
 use Rattle.rand_core.specs.Stream.{next_u64}
-use Rattle.link_trait.specs.Wires.{Call, Reading, Gave, NotNow, End, Failed, Reads, Writes, Closes}
+use Rattle.link_trait.specs.Wires.{Call, Reading, Gave, NotNow, End, Failed, Reads}
 use Rattle.link_trait.specs.declared.wires.WriteAnswer.{WriteAnswer}
 use Rattle.link_trait.specs.declared.wires.WriteAnswer.TheVariants as write
 use Rattle.loop_model.specs.Journals.{Entry}
 use Rattle.loop_model.specs.Outs.{Out, runs, acts, exactly, first_of}
-use Rattle.loop_model.specs.Sessions.{Rules, Session, Given, Begins, Hears, Takes, Ticks, Ends, Faults, Stalls, is_released, most_output, end_after, outcomes_of, entry_of, octets_in, joined, fed, heard_in, hears, silence, dealt, waiting, takes_all, parts, parted, Says, nothing_said, handled, poured, pours}
+use Rattle.loop_model.specs.Sessions.{Rules, Session, Given, Begins, Hears, Takes, Ticks, Ends, Faults, Stalls, is_released, most_output, end_after, outcomes_of, entry_of, octets_in, joined, fed, heard_in, hears, silence, dealt, waiting, takes_all, parts, Says, nothing_said, handled, poured, pours}
 use Rattle.loop_model.specs.Visits.{most_read, Flow, Going, PutOff, Failing, after_write, writes_if, writes_once, writes, Wrote, fault_unless, flowed, written_unless, written, settled, rests, rests_behind, Visit, Tick, Read, Write, Expire, Met, is_due, came, read_once, served, visited}
 use Rattle.loop_model.specs.Loops.{Plan, rules_of, Loop, begun, answering, Caller, calling, Course, Turn, run, Dialled, dials}
-use Rattle.loop_model.specs.Parts.{session_of, of, calls_at}
+use Rattle.loop_model.specs.Parts.{of, calls_at}
 use Rattle.loop_model.specs.Laws.{IsServing, IsDialling}
 use Rattle.loop_model.specs.Faulted.{is_gone}
 use Rattle.loop_model.specs.Expiries.{released_at, closing_at, ClosesInTime, ClosingsAreInTime}
 use Rattle.loop_model.proofs.Steadies.{Steady, Usual, handled_at, steady_handled, follows_handled, quiet_at, written_at, Calls, over_due, Left, Stays, Closed, AllLeft}
 use Rattle.loop_model.proofs.Lives.{Own, Keeps, Fits, Knows, knows_run}
-use Rattle.loop_model.proofs.Dialling.{first_handled, knows_dial_of}
-use Rattle.loop_model.proofs.Owns.{Bare, Both, steady_both, steady_less, calls_both, usual_calls}
+use Rattle.loop_model.proofs.Dialling.{knows_dial_of}
+use Rattle.loop_model.proofs.Owns.{Both, steady_both, calls_both, usual_calls}
 use Rattle.loop_model.proofs.Resting.{StaysGone, stays_gone, parts_end, stays_released, breaks_released}
 use Rattle.loop_model.proofs.Printings as printings
 use Rattle.loop_model.proofs.Printings.{IsOfEnd, all_of_end}
-use Rattle.loop_model.proofs.Replaying.{ArePlain, plain-append, Plainly, plainly, plain_calls, CallsSo, handled_so}
+use Rattle.loop_model.proofs.Replaying.{ArePlain, Plainly, plainly, plain_calls, handled_so}
 use Rattle.loop_model.proofs.Writing.{left_settled}
 
 -- ---- a session's user and closing moment
 
 -- one that isn't released has its user and no closing moment; one that is has none any more
-record Timed (s : Session) : Type 0 where
-  live : is_released s ≡ false → (s.closing ≡ None) × (is_some s.mind ≡ true)
-  gone : is_released s ≡ true → s.mind ≡ None
+record Timed (s : Session ModelEnd) : Type 0 where
+  live : is_released model_ends s ≡ false → (s.closing ≡ None) × (is_some s.mind ≡ true)
+  gone : is_released model_ends s ≡ true → s.mind ≡ None
 
 -- what happens at a moment: the closing moment is set where the session is released, and stays
-record Times (setup m : ℕ) (s t : Session) : Type 0 where
+record Times (setup m : ℕ) (s t : Session ModelEnd) : Type 0 where
   timed : Timed t
-  stays : is_released s ≡ true → is_released t ≡ true
-  gone : is_released s ≡ true → t.closing ≡ s.closing
-  live : is_released s ≡ false → t.closing ≡ (if is_released t then Some (m + setup) else None)
+  stays : is_released model_ends s ≡ true → is_released model_ends t ≡ true
+  gone : is_released model_ends s ≡ true → t.closing ≡ s.closing
+  live : is_released model_ends s ≡ false → t.closing ≡ (if is_released model_ends t then Some (m + setup) else None)
 
-Same : Session → Session → Type 0
+Same : Session ModelEnd → Session ModelEnd → Type 0
 Same s t = (t.closing ≡ s.closing) × (is_some t.mind ≡ is_some s.mind)
 
-same_then : (s t u : Session) → Same s t → Same t u → Same s u
+same_then : (s t u : Session ModelEnd) → Same s t → Same t u → Same s u
 unfolding Same
 same_then s t u p q = (q.0 ∙ p.0, q.1 ∙ p.1)
 
@@ -65,43 +65,43 @@ hears_same (Some mind) None free = refl
 hears_same (Some mind) (Some heard) free = refl
 
 module _ (r : Rules) (m : ℕ) where
-  abbrev So : Session → Session → Type 0
+  abbrev So : Session ModelEnd → Session ModelEnd → Type 0
   So s t = Timed s → Times r.setup m s t
 
-  fed_same : (s : Session) (g : Given) → Same s (fed r m s g).0
+  fed_same : (s : Session ModelEnd) (g : Given) → Same s (fed model_ends r m s g).0
   unfolding Same fed joined
   fed_same s g =
-      elim (cases_Bool (nat_lt most_output (length s.output + length (octets_in (outcomes_of r m s.end g))))) [ inl p ↦ rw p (refl, refl) | inr p ↦ rw p (refl, refl) ]
+      elim (cases_Bool (nat_lt most_output (length s.output + length (octets_in (outcomes_of model_ends r m s.end g))))) [ inl p ↦ rw p (refl, refl) | inr p ↦ rw p (refl, refl) ]
 
-  runs_same : (gs : List Given) (s : Session) → Same s (runs (fed r m) s gs).0
+  runs_same : (gs : List Given) (s : Session ModelEnd) → Same s (runs (fed model_ends r m) s gs).0
   unfolding Same runs
   runs_same [] s = (refl, refl)
-  runs_same (g ∷ gs) s = same_then s (fed r m s g).0 (runs (fed r m) (fed r m s g).0 gs).0 (fed_same s g) (runs_same gs (fed r m s g).0)
+  runs_same (g ∷ gs) s = same_then s (fed model_ends r m s g).0 (runs (fed model_ends r m) (fed model_ends r m s g).0 gs).0 (fed_same s g) (runs_same gs (fed model_ends r m s g).0)
 
-  dealt_same : (s : Session) (g : Given) (free : Said) → Same s (dealt r m s g free).0
+  dealt_same : (s : Session ModelEnd) (g : Given) (free : Said) → Same s (dealt model_ends r m s g free).0
   unfolding Same dealt
   dealt_same s g free =
-      let a = fed r m s g in
-      let b = hears s.mind (heard_in (outcomes_of r m s.end g)) free in
-      let t : Session = record a.0 { mind = b.0 } in
+      let a = fed model_ends r m s g in
+      let b = hears s.mind (heard_in (outcomes_of model_ends r m s.end g)) free in
+      let t : Session ModelEnd = record a.0 { mind = b.0 } in
       let c = runs_same b.1 t in
-      (c.0 ∙ (fed_same s g).0, c.1 ∙ hears_same s.mind (heard_in (outcomes_of r m s.end g)) free)
+      (c.0 ∙ (fed_same s g).0, c.1 ∙ hears_same s.mind (heard_in (outcomes_of model_ends r m s.end g)) free)
 
-  all_same : (frees : List Said) (s : Session) → Same s (runs (λ t free. dealt r m t Takes free) s frees).0
+  all_same : (frees : List Said) (s : Session ModelEnd) → Same s (runs (λ t free. dealt model_ends r m t Takes free) s frees).0
   unfolding Same runs
   all_same [] s = (refl, refl)
-  all_same (free ∷ frees) s = let t = (dealt r m s Takes free).0 in same_then s t (runs (λ t free. dealt r m t Takes free) t frees).0 (dealt_same s Takes free) (all_same frees t)
+  all_same (free ∷ frees) s = let t = (dealt model_ends r m s Takes free).0 in same_then s t (runs (λ t free. dealt model_ends r m t Takes free) t frees).0 (dealt_same s Takes free) (all_same frees t)
 
-  takes_same : (s : Session) (frees : List Said) → Same s (takes_all r m s frees).0
+  takes_same : (s : Session ModelEnd) (frees : List Said) → Same s (takes_all model_ends r m s frees).0
   unfolding takes_all
-  takes_same s frees = all_same (exactly (waiting s) silence frees) s
+  takes_same s frees = all_same (exactly (waiting model_ends s) silence frees) s
 
-  parts_timed : (release : Option Release) (mind : Option Mind) (b s : Session) → b.end.core.released ≡ release → b.mind ≡ mind → Timed s → Same s b
-      → (is_released s ≡ true → is_released b ≡ true) → Times r.setup m s (parts release mind (m + r.setup) b)
+  parts_timed : (release : Option Release) (mind : Option Mind) (b s : Session ModelEnd) → b.end.core.released ≡ release → b.mind ≡ mind → Timed s → Same s b
+      → (is_released model_ends s ≡ true → is_released model_ends b ≡ true) → Times r.setup m s (parts release mind (m + r.setup) b)
   unfolding Same
   parts_timed None mind b s e f h same on =
-      let out : is_released b ≡ false = ap is_some e in
-      let in_ : is_released s ≡ false = false_of (is_released s) (λ p. true≢false (sym (on p) ∙ out)) in
+      let out : is_released model_ends b ≡ false = ap is_some e in
+      let in_ : is_released model_ends s ≡ false = false_of (is_released model_ends s) (λ p. true≢false (sym (on p) ∙ out)) in
       record {
         timed = record { live = λ p. (same.0 ∙ (h.live in_).0, same.1 ∙ (h.live in_).1); gone = λ p. absurd (true≢false (sym p ∙ out)) };
         stays = on;
@@ -109,7 +109,7 @@ module _ (r : Rules) (m : ℕ) where
         live = λ p. same.0 ∙ (h.live p).0 ∙ ap (λ (z : Bool). if z then Some (m + r.setup) else None) (sym out);
       }
   parts_timed (Some release) None b s e f h same on =
-      let out : is_released b ≡ true = ap is_some e in
+      let out : is_released model_ends b ≡ true = ap is_some e in
       record {
         timed = record { live = λ p. absurd (true≢false (sym out ∙ p)); gone = λ p. f };
         stays = on;
@@ -117,7 +117,7 @@ module _ (r : Rules) (m : ℕ) where
         live = λ p. absurd (true≢false (sym (h.live p).1 ∙ sym same.1 ∙ ap is_some f));
       }
   parts_timed (Some release) (Some mind) b s e f h same on =
-      let out : is_released b ≡ true = ap is_some e in
+      let out : is_released model_ends b ≡ true = ap is_some e in
       record {
         timed = record { live = λ p. absurd (true≢false (sym out ∙ p)); gone = λ p. refl };
         stays = λ p. out;
@@ -125,18 +125,18 @@ module _ (r : Rules) (m : ℕ) where
         live = λ p. ap (λ (z : Bool). if z then Some (m + r.setup) else None) (sym out);
       }
 
-  handled_timed : (s : Session) (g : Given) (says : Says) → (is_released s ≡ true → is_released (handled r m s g says).0 ≡ true) → So s (handled r m s g says).0
+  handled_timed : (s : Session ModelEnd) (g : Given) (says : Says) → (is_released model_ends s ≡ true → is_released model_ends (handled model_ends r m s g says).0 ≡ true) → So s (handled model_ends r m s g says).0
   unfolding handled Same
   handled_timed s g says on h =
-      let a = dealt r m s g says.first in
-      let b = takes_all r m a.0 says.rest in
+      let a = dealt model_ends r m s g says.first in
+      let b = takes_all model_ends r m a.0 says.rest in
       parts_timed b.0.end.core.released b.0.mind b.0 s refl refl h (same_then s a.0 b.0 (dealt_same s g says.first) (takes_same a.0 says.rest))
-      (λ p. ap (λ (k : KEnd). is_some k.core.released) (sym (parts_end b.0.end.core.released b.0.mind (m + r.setup) b.0)) ∙ on p)
+      (λ p. ap (λ (k : ModelEnd). is_some k.core.released) (sym (parts_end b.0.end.core.released b.0.mind (m + r.setup) b.0)) ∙ on p)
 
   -- a session with the same end, user and closing moment
-  same_so : (s t : Session) → t.end ≡ s.end → t.mind ≡ s.mind → t.closing ≡ s.closing → So s t
+  same_so : (s t : Session ModelEnd) → t.end ≡ s.end → t.mind ≡ s.mind → t.closing ≡ s.closing → So s t
   same_so s t e f c h =
-      let out : is_released t ≡ is_released s = ap (λ (k : KEnd). is_some k.core.released) e in
+      let out : is_released model_ends t ≡ is_released model_ends s = ap (λ (k : ModelEnd). is_some k.core.released) e in
       record {
         timed = record { live = λ p. (c ∙ (h.live (sym out ∙ p)).0, ap is_some f ∙ (h.live (sym out ∙ p)).1); gone = λ p. f ∙ h.gone (sym out ∙ p) };
         stays = λ p. out ∙ p;
@@ -144,7 +144,7 @@ module _ (r : Rules) (m : ℕ) where
         live = λ p. c ∙ (h.live p).0 ∙ ap (λ (z : Bool). if z then Some (m + r.setup) else None) (sym (out ∙ p));
       }
 
-  so_then : (s t u : Session) → So s t → So t u → So s u
+  so_then : (s t u : Session ModelEnd) → So s t → So t u → So s u
   so_then s t u p q h =
       let a = p h in
       let b = q a.timed in
@@ -153,67 +153,67 @@ module _ (r : Rules) (m : ℕ) where
         stays = λ e. b.stays (a.stays e);
         gone = λ e. b.gone (a.stays e) ∙ a.gone e;
         live = λ e.
-            elim (cases_Bool (is_released t)) [
+            elim (cases_Bool (is_released model_ends t)) [
               | inl d ↦
                   b.gone d ∙ a.live e ∙ ap (λ (z : Bool). if z then Some (m + r.setup) else None) (d ∙ sym (b.stays d))
               | inr d ↦ b.live d
             ];
       }
 
-  module _ (stay : (s : Session) (g : Given) (says : Says) → is_released s ≡ true → is_released (handled r m s g says).0 ≡ true) where
-    handled_now : (s : Session) (g : Given) (says : Says) → So s (handled r m s g says).0
+  module _ (stay : (s : Session ModelEnd) (g : Given) (says : Says) → is_released model_ends s ≡ true → is_released model_ends (handled model_ends r m s g says).0 ≡ true) where
+    handled_now : (s : Session ModelEnd) (g : Given) (says : Says) → So s (handled model_ends r m s g says).0
     handled_now s g says = handled_timed s g says (stay s g says)
 
-    poured_so : (x : Session × List ℕ) (says : Says) → So x.0 (poured r m x says).0.0
+    poured_so : (x : Session ModelEnd × List ℕ) (says : Says) → So x.0 (poured model_ends r m x says).0.0
     unfolding poured
     poured_so x says =
         elim (cases_Bool ((length x.1 == 0) || x.0.broken)) [ inl p ↦ rw p (same_so x.0 x.0 refl refl refl) | inr p ↦ rw p (handled_now x.0 (Hears x.1) says) ]
 
-    all_poured : (says : List Says) (x : Session × List ℕ) → So x.0 (runs (poured r m) x says).0.0
+    all_poured : (says : List Says) (x : Session ModelEnd × List ℕ) → So x.0 (runs (poured model_ends r m) x says).0.0
     unfolding runs
     all_poured [] x = same_so x.0 x.0 refl refl refl
-    all_poured (a ∷ says) x = so_then x.0 (poured r m x a).0.0 (runs (poured r m) (poured r m x a).0 says).0.0 (poured_so x a) (all_poured says (poured r m x a).0)
+    all_poured (a ∷ says) x = so_then x.0 (poured model_ends r m x a).0.0 (runs (poured model_ends r m) (poured model_ends r m x a).0 says).0.0 (poured_so x a) (all_poured says (poured model_ends r m x a).0)
 
-    came_so : (s : Session) (reading : Reading) (says : List Says) → So s (came reading r m s says).0
+    came_so : (s : Session ModelEnd) (reading : Reading) (says : List Says) → So s (came model_ends reading r m s says).0
     unfolding pours
     came_so s (Gave octets) says = all_poured (exactly (length octets) nothing_said says) (s, octets)
     came_so s NotNow says = same_so s s refl refl refl
     came_so s End says = handled_now s Ends (first_of nothing_said says)
     came_so s Failed says = handled_now s Faults (first_of nothing_said says)
 
-    answered_so : (s : Session) (a : WriteAnswer) → So s (after_write a s).0
+    answered_so : (s : Session ModelEnd) (a : WriteAnswer) → So s (after_write a s).0
     answered_so s (write.Some n) = same_so s (record s { output = drop n s.output }) refl refl refl
     answered_so s write.NotNow = same_so s s refl refl refl
     answered_so s write.Failed = same_so s s refl refl refl
 
-    once_so : (flow : Flow) (s : Session) (a : WriteAnswer) → So s (writes_if flow s a).state.0
+    once_so : (flow : Flow) (s : Session ModelEnd) (a : WriteAnswer) → So s (writes_if flow s a).state.0
     once_so Going s a = elim (cases_Bool (length s.output == 0)) [ inl p ↦ rw p (same_so s s refl refl refl) | inr p ↦ rw p (answered_so s a) ]
     once_so PutOff s a = same_so s s refl refl refl
     once_so Failing s a = same_so s s refl refl refl
 
-    acts_so : (answers : List WriteAnswer) (x : Session × Flow) → So x.0 (acts writes_once x answers).state.0
+    acts_so : (answers : List WriteAnswer) (x : Session ModelEnd × Flow) → So x.0 (acts writes_once x answers).state.0
     unfolding acts writes_once
     acts_so [] x = same_so x.0 x.0 refl refl refl
     acts_so (a ∷ answers) x = so_then x.0 (writes_if x.1 x.0 a).state.0 (acts writes_once (writes_if x.1 x.0 a).state answers).state.0 (once_so x.1 x.0 a) (acts_so answers (writes_if x.1 x.0 a).state)
 
-    fault_so : (b : Bool) (s : Session) (says : Says) → So s (fault_unless b r m s says).0
+    fault_so : (b : Bool) (s : Session ModelEnd) (says : Says) → So s (fault_unless model_ends b r m s says).0
     fault_so true s says = same_so s (record s { broken = true }) refl refl refl
     fault_so false s says = handled_now s Faults says
 
-    flowed_so : (flow : Flow) (s : Session) (says : Says) → So s (flowed r m (s, flow) says).state
+    flowed_so : (flow : Flow) (s : Session ModelEnd) (says : Says) → So s (flowed model_ends r m (s, flow) says).state
     flowed_so Going s says = same_so s s refl refl refl
     flowed_so PutOff s says = same_so s s refl refl refl
-    flowed_so Failing s says = fault_so (is_released s) s says
+    flowed_so Failing s says = fault_so (is_released model_ends s) s says
 
-    unless_so : (b : Bool) (s : Session) (a : Wrote) → So s (written_unless b r m s a).state
+    unless_so : (b : Bool) (s : Session ModelEnd) (a : Wrote) → So s (written_unless model_ends b r m s a).state
     unfolding writes
     unless_so true s a = same_so s s refl refl refl
     unless_so false s a =
         let answers = exactly (length s.output) write.NotNow a.answers in
         let x = acts writes_once (s, Going) answers in
-        so_then s x.state.0 (flowed r m x.state a.says).state (acts_so answers (s, Going)) (flowed_so x.state.1 x.state.0 a.says)
+        so_then s x.state.0 (flowed model_ends r m x.state a.says).state (acts_so answers (s, Going)) (flowed_so x.state.1 x.state.0 a.says)
 
-    written_timed : (s : Session) (a : Wrote) → So s (written r m s a).state
+    written_timed : (s : Session ModelEnd) (a : Wrote) → So s (written model_ends r m s a).state
     unfolding written
     written_timed s a = unless_so s.broken s a
 
@@ -246,7 +246,7 @@ module _ (steps : StepsAlike) (made : MadeStands) (shows : ShowsAlike) (stays : 
   abbrev rules : Rules
   rules = rules_of plan
 
-  abbrev ToldTo : KEnd → List Entry → Type 0
+  abbrev ToldTo : ModelEnd → List Entry → Type 0
   ToldTo k xs = printings.ToldTo steps made plan allowed k xs
 
   abbrev Behind : Option Ended_at → List Entry → Option Ended_at
@@ -255,7 +255,7 @@ module _ (steps : StepsAlike) (made : MadeStands) (shows : ShowsAlike) (stays : 
   abbrev rel : Option Ended_at → List Entry → Option ℕ
   rel e xs = released_at plan.settings (key_at plan.keys) e xs
 
-  seen : (k : KEnd) (xs : List Entry) → ToldTo k xs → is_some k.core.released ≡ is_gone (Behind None xs)
+  seen : (k : ModelEnd) (xs : List Entry) → ToldTo k xs → is_some k.core.released ≡ is_gone (Behind None xs)
   seen k xs h = ap is_some (shows k h.now h.stands).1 ∙ sym (ap is_gone h.is)
 
   rel_first : (xs ys : List Entry) (e : Option Ended_at) (at : ℕ) → rel e xs ≡ Some at → rel e (xs ++ ys) ≡ Some at
@@ -297,25 +297,25 @@ module _ (steps : StepsAlike) (made : MadeStands) (shows : ShowsAlike) (stays : 
 
   -- ---- a session and its events so far
 
-  record Marked (s : Session) (xs : List Entry) : Type 0 where
+  record Marked (s : Session ModelEnd) (xs : List Entry) : Type 0 where
     told : ToldTo s.end xs
-    mark : is_some (rel None xs) ≡ is_released s
+    mark : is_some (rel None xs) ≡ is_released model_ends s
 
-  Marks : Session → Session → List Entry → List Call → Type 0
+  Marks : Session ModelEnd → Session ModelEnd → List Entry → List Call → Type 0
   Marks s t ys cs = (xs : List Entry) → Marked s xs → Marked t (xs ++ ys)
 
   some_kept : (xs ys : List Entry) (o : Option ℕ) → rel None xs ≡ o → is_some o ≡ true → is_some (rel None (xs ++ ys)) ≡ true
   some_kept xs ys None e p = absurd (true≢false (sym p))
   some_kept xs ys (Some at) e p = ap is_some (rel_first xs ys None at e)
 
-  marked_more : (s t : Session) (xs ys : List Entry) → Marked s xs → printings.Going steps made plan allowed s.end t.end ys → (is_released s ≡ true → is_released t ≡ true)
-      → ((e : Option Ended_at) → is_gone e ≡ false → is_gone (Behind e ys) ≡ is_released t → is_some (rel e ys) ≡ is_released t) → Marked t (xs ++ ys)
+  marked_more : (s t : Session ModelEnd) (xs ys : List Entry) → Marked s xs → printings.Going steps made plan allowed s.end t.end ys → (is_released model_ends s ≡ true → is_released model_ends t ≡ true)
+      → ((e : Option Ended_at) → is_gone e ≡ false → is_gone (Behind e ys) ≡ is_released model_ends t → is_some (rel e ys) ≡ is_released model_ends t) → Marked t (xs ++ ys)
   marked_more s t xs ys h going on step =
       let told : ToldTo t.end (xs ++ ys) = printings.more steps made plan allowed s.end t.end xs ys h.told going in
       record {
         told = told;
         mark =
-            elim (cases_Bool (is_released s)) [
+            elim (cases_Bool (is_released model_ends s)) [
               | inl p ↦ some_kept xs ys (rel None xs) refl (h.mark ∙ p) ∙ sym (on p)
               | inr p ↦
                   ap is_some (rel_second xs ys None (none_of (rel None xs) (h.mark ∙ p)))
@@ -324,13 +324,13 @@ module _ (steps : StepsAlike) (made : MadeStands) (shows : ShowsAlike) (stays : 
             ];
       }
 
-  marks_nothing : (s t : Session) → t.end ≡ s.end → Marks s t [] []
+  marks_nothing : (s t : Session ModelEnd) → t.end ≡ s.end → Marks s t [] []
   unfolding Marks
   marks_nothing s t e xs h =
       rw (append-nil xs)
-      (record { told = subst (λ k. ToldTo k xs) (sym e) h.told; mark = h.mark ∙ ap (λ (k : KEnd). is_some k.core.released) (sym e) })
+      (record { told = subst (λ k. ToldTo k xs) (sym e) h.told; mark = h.mark ∙ ap (λ (k : ModelEnd). is_some k.core.released) (sym e) })
 
-  marks_then : (s t u : Session) (xs ys : List Entry) (cs ds : List Call) → Marks s t xs cs → Marks t u ys ds → Marks s u (xs ++ ys) (cs ++ ds)
+  marks_then : (s t u : Session ModelEnd) (xs ys : List Entry) (cs ds : List Call) → Marks s t xs cs → Marks t u ys ds → Marks s u (xs ++ ys) (cs ++ ds)
   unfolding Marks
   marks_then s t u xs ys cs ds p q js h = rw (← append_assoc js xs ys) (q (js ++ xs) (p js h))
 
@@ -340,13 +340,13 @@ module _ (steps : StepsAlike) (made : MadeStands) (shows : ShowsAlike) (stays : 
     none = λ s. marks_nothing s s refl;
     then_ = marks_then;
     given = λ m s g p fits xs h.
-        marked_more s _ xs (entry_of rules m s g ∷ []) h ((printings.q_steady steps made plan allowed).given m s g p fits).1 (λ q. stays_released stays breaks_release rules m s.end g q)
-        (λ e live gone. mark_one (entry_of rules m s g) e ∙ gone);
+        marked_more s _ xs (entry_of model_ends rules m s g ∷ []) h ((printings.q_steady steps made plan allowed).given m s g p fits).1 (λ q. stays_released stays breaks_release rules m s.end g q)
+        (λ e live gone. mark_one (entry_of model_ends rules m s g) e ∙ gone);
     stalls = λ m s g p fits xs h.
-        let k = end_after rules m s.end g in
-        let out : is_some (end_after rules m k Stalls).core.released ≡ true = breaks_released stays breaks_release rules m k Stalls refl in
-        marked_more s _ xs (entry_of rules m s g ∷ entry_of rules m (record s { end = k }) Stalls ∷ []) h ((printings.q_steady steps made plan allowed).stalls m s g p fits).1 (λ q. out)
-        (λ e live gone. mark_some (entry_of rules m s g ∷ entry_of rules m (record s { end = k }) Stalls ∷ []) e live (gone ∙ out) ∙ sym out);
+        let k = end_after model_ends rules m s.end g in
+        let out : is_some (end_after model_ends rules m k Stalls).core.released ≡ true = breaks_released stays breaks_release rules m k Stalls refl in
+        marked_more s _ xs (entry_of model_ends rules m s g ∷ entry_of model_ends rules m (record s { end = k }) Stalls ∷ []) h ((printings.q_steady steps made plan allowed).stalls m s g p fits).1 (λ q. out)
+        (λ e live gone. mark_some (entry_of model_ends rules m s g ∷ entry_of model_ends rules m (record s { end = k }) Stalls ∷ []) e live (gone ∙ out) ∙ sym out);
     heard = λ s mind. marks_nothing s (record s { mind = mind }) refl;
     parts = λ s at gone. marks_nothing s (record s { mind = None; closing = Some at }) refl;
   }
@@ -361,7 +361,7 @@ module _ (steps : StepsAlike) (made : MadeStands) (shows : ShowsAlike) (stays : 
         breaks = λ s gone. marks_nothing s (record s { broken = true }) refl;
       }) (λ s waits reading. marks_nothing s s refl)
 
-  abbrev Each : Session → Session → List Entry → List Call → Type 0
+  abbrev Each : Session ModelEnd → Session ModelEnd → List Entry → List Call → Type 0
   Each = Both (printings.Q steps made plan allowed) Marks
 
   each_steady : Steady rules IsOfEnd Each
@@ -372,23 +372,23 @@ module _ (steps : StepsAlike) (made : MadeStands) (shows : ShowsAlike) (stays : 
 
   -- ---- visits
 
-  record Visited (s t : Session) (xs : List Entry) (cs : List Call) : Type 0 where
+  record Visited (s t : Session ModelEnd) (xs : List Entry) (cs : List Call) : Type 0 where
     each : Each s t xs cs
     moment : ℕ
     plain : Plainly moment s t xs cs
     so : So rules moment s t
 
   module _ (m : ℕ) where
-    stay : (s : Session) (g : Given) (says : Says) → is_released s ≡ true → is_released (handled rules m s g says).0 ≡ true
+    stay : (s : Session ModelEnd) (g : Given) (says : Says) → is_released model_ends s ≡ true → is_released model_ends (handled model_ends rules m s g says).0 ≡ true
     unfolding StaysGone
     stay s g says p = steady_handled rules (λ g. Unit {0}) StaysGone (stays_gone stays breaks_release rules) any_usual m s g says tt p
 
-    left_rests : (s h : Session) (a : Wrote) (xs : List Entry) (ps : List Call) → Each s h xs ps → Plainly m s h xs ps → So rules m s h
-        → Left Visited s (rests rules m h a).state (xs ++ (rests rules m h a).entries) (ps ++ (rests rules m h a).calls)
+    left_rests : (s h : Session ModelEnd) (a : Wrote) (xs : List Entry) (ps : List Call) → Each s h xs ps → Plainly m s h xs ps → So rules m s h
+        → Left Visited s (rests model_ends rules m h a).state (xs ++ (rests model_ends rules m h a).entries) (ps ++ (rests model_ends rules m h a).calls)
     unfolding rests
     left_rests s h a xs ps each plain so =
-        let w = written rules m h a in
-        rw (← append_assoc xs w.entries (settled w.state).entries, ← append_assoc ps w.calls (settled w.state).calls)
+        let w = written model_ends rules m h a in
+        rw (← append_assoc xs w.entries (settled model_ends w.state).entries, ← append_assoc ps w.calls (settled model_ends w.state).calls)
         (left_settled Visited s w.state (xs ++ w.entries) (ps ++ w.calls) (record {
           each = each_calls.then_ s h w.state xs w.entries ps w.calls each (written_at rules m Each (quiet_at rules Each each_calls.quiet m) h a);
           moment = m;
@@ -396,46 +396,46 @@ module _ (steps : StepsAlike) (made : MadeStands) (shows : ShowsAlike) (stays : 
           so = so_then rules m s h w.state so (written_timed rules m stay h a);
         }))
 
-    nothing : (s : Session) → Visited s s [] []
+    nothing : (s : Session ModelEnd) → Visited s s [] []
     nothing s = record { each = each_steady.none s; moment = m; plain = (plainly rules m).none s; so = same_so rules m s s refl refl refl }
 
-    left_ticked : (s : Session) (a : Met) → Left Visited s (served rules m s Ticks a).state (served rules m s Ticks a).entries (served rules m s Ticks a).calls
+    left_ticked : (s : Session ModelEnd) (a : Met) → Left Visited s (served model_ends rules m s Ticks a).state (served model_ends rules m s Ticks a).entries (served model_ends rules m s Ticks a).calls
     unfolding served
     left_ticked s a =
         let says = first_of nothing_said a.says in
-        let h = handled rules m s Ticks says in
+        let h = handled model_ends rules m s Ticks says in
         left_rests s h.0 a.wrote h.1 [] (steady_handled rules IsOfEnd Each each_steady all_of_end.usual m s Ticks says tt)
         (handled_at rules m IsOfEnd (Plainly m) (plainly rules m) all_of_end.usual s Ticks says tt) (handled_now rules m stay s Ticks says)
 
-    left_behind : (reading : Reading) (s : Session) (waits : ℕ) (says : List Says) (a : Wrote)
-        → Each s (came reading rules m s says).0 (came reading rules m s says).1 (Reads s.number most_read waits reading ∷ [])
-        → Plainly m s (came reading rules m s says).0 (came reading rules m s says).1 (Reads s.number most_read waits reading ∷ [])
-        → Left Visited s (rests_behind reading rules m (came reading rules m s says).0 a).state ((came reading rules m s says).1 ++ (rests_behind reading rules m (came reading rules m s says).0 a).entries)
-        (Reads s.number most_read waits reading ∷ (rests_behind reading rules m (came reading rules m s says).0 a).calls)
+    left_behind : (reading : Reading) (s : Session ModelEnd) (waits : ℕ) (says : List Says) (a : Wrote)
+        → Each s (came model_ends reading rules m s says).0 (came model_ends reading rules m s says).1 (Reads s.number most_read waits reading ∷ [])
+        → Plainly m s (came model_ends reading rules m s says).0 (came model_ends reading rules m s says).1 (Reads s.number most_read waits reading ∷ [])
+        → Left Visited s (rests_behind model_ends reading rules m (came model_ends reading rules m s says).0 a).state ((came model_ends reading rules m s says).1 ++ (rests_behind model_ends reading rules m (came model_ends reading rules m s says).0 a).entries)
+        (Reads s.number most_read waits reading ∷ (rests_behind model_ends reading rules m (came model_ends reading rules m s says).0 a).calls)
     left_behind (Gave octets) s waits says a each plain =
-        left_rests s (came (Gave octets) rules m s says).0 a (came (Gave octets) rules m s says).1 (Reads s.number most_read waits (Gave octets) ∷ []) each plain (came_so rules m stay s (Gave octets) says)
+        left_rests s (came model_ends (Gave octets) rules m s says).0 a (came model_ends (Gave octets) rules m s says).1 (Reads s.number most_read waits (Gave octets) ∷ []) each plain (came_so rules m stay s (Gave octets) says)
     left_behind NotNow s waits says a each plain = Stays s refl (record { each = each; moment = m; plain = plain; so = same_so rules m s s refl refl refl })
     left_behind End s waits says a each plain =
-        left_rests s (came End rules m s says).0 a (came End rules m s says).1 (Reads s.number most_read waits End ∷ []) each plain (came_so rules m stay s End says)
+        left_rests s (came model_ends End rules m s says).0 a (came model_ends End rules m s says).1 (Reads s.number most_read waits End ∷ []) each plain (came_so rules m stay s End says)
     left_behind Failed s waits says a each plain =
-        left_rests s (came Failed rules m s says).0 a (came Failed rules m s says).1 (Reads s.number most_read waits Failed ∷ []) each plain (came_so rules m stay s Failed says)
+        left_rests s (came model_ends Failed rules m s says).0 a (came model_ends Failed rules m s says).1 (Reads s.number most_read waits Failed ∷ []) each plain (came_so rules m stay s Failed says)
 
-    left_at_rest : (s : Session) (a : Wrote) → Left Visited s (rests rules m s a).state (rests rules m s a).entries (rests rules m s a).calls
+    left_at_rest : (s : Session ModelEnd) (a : Wrote) → Left Visited s (rests model_ends rules m s a).state (rests model_ends rules m s a).entries (rests model_ends rules m s a).calls
     left_at_rest s a = left_rests s s a [] [] (each_steady.none s) ((plainly rules m).none s) (same_so rules m s s refl refl refl)
 
-    left_at : (visit : Visit) (s : Session) (a : Met) → Left Visited s (visited rules m visit s a).state (visited rules m visit s a).entries (visited rules m visit s a).calls
+    left_at : (visit : Visit) (s : Session ModelEnd) (a : Met) → Left Visited s (visited model_ends rules m visit s a).state (visited model_ends rules m visit s a).entries (visited model_ends rules m visit s a).calls
     unfolding visited read_once
     left_at Tick s a =
-        elim (cases_Bool (is_due m (deadline_of s.end))) [ inl p ↦ rw p (left_ticked s a) | inr p ↦ rw p (Stays s refl (nothing s)) ]
+        elim (cases_Bool (is_due m (model_ends.deadline s.end))) [ inl p ↦ rw p (left_ticked s a) | inr p ↦ rw p (Stays s refl (nothing s)) ]
     left_at Read s a =
-        elim (cases_Bool (is_released s)) [
+        elim (cases_Bool (is_released model_ends s)) [
           | inl p ↦ rw p (Stays s refl (nothing s))
           | inr p ↦ rw p (left_behind a.reading s a.waits a.says a.wrote (each_calls.read m s a p) ((plain_calls rules m).read s a p))
         ]
     left_at Write s a = left_at_rest s a.wrote
     left_at Expire s a =
         elim (cases_Bool (is_due m s.closing)) [
-          | inl p ↦ rw p (Closed s [] (over_due m s.closing (s.broken || is_released s) p) refl refl (nothing s))
+          | inl p ↦ rw p (Closed s [] (over_due m s.closing (s.broken || is_released model_ends s) p) refl refl (nothing s))
           | inr p ↦ rw p (Stays s refl (nothing s))
         ]
 
@@ -444,10 +444,10 @@ module _ (steps : StepsAlike) (made : MadeStands) (shows : ShowsAlike) (stays : 
 
   -- ---- all connections
 
-  own : (s t : Session) (xs : List Entry) (cs : List Call) → Visited s t xs cs → Own s t xs cs
+  own : (s t : Session ModelEnd) (xs : List Entry) (cs : List Call) → Visited s t xs cs → Own s t xs cs
   own s t xs cs v = v.each.0.0
 
-  record Known_so (s : Session) (xs : List Entry) (cs : List Call) : Type 0 where
+  record Known_so (s : Session ModelEnd) (xs : List Entry) (cs : List Call) : Type 0 where
     marked : Marked s xs
     timed : Timed s
     closing : s.closing ≡ closing_at plan.settings.setup (rel None xs)
@@ -455,12 +455,12 @@ module _ (steps : StepsAlike) (made : MadeStands) (shows : ShowsAlike) (stays : 
   abbrev Gone : List Entry → List Call → Type 0
   Gone xs cs = Unit {0}
 
-  gone_more : (s t : Session) (xs ys : List Entry) (o : Option ℕ) → rel None xs ≡ o → is_some o ≡ true → t.closing ≡ closing_at plan.settings.setup (rel None xs)
+  gone_more : (s t : Session ModelEnd) (xs ys : List Entry) (o : Option ℕ) → rel None xs ≡ o → is_some o ≡ true → t.closing ≡ closing_at plan.settings.setup (rel None xs)
       → t.closing ≡ closing_at plan.settings.setup (rel None (xs ++ ys))
   gone_more s t xs ys None e p c = absurd (true≢false (sym p))
   gone_more s t xs ys (Some at) e p c = c ∙ ap (λ z. closing_at plan.settings.setup z) (e ∙ sym (rel_first xs ys None at e))
 
-  more : (s t : Session) (xs ys : List Entry) (cs ds : List Call) → Known_so s xs cs → Visited s t ys ds → Known_so t (xs ++ ys) (cs ++ ds)
+  more : (s t : Session ModelEnd) (xs ys : List Entry) (cs ds : List Call) → Known_so s xs cs → Visited s t ys ds → Known_so t (xs ++ ys) (cs ++ ds)
   unfolding Marks Plainly
   more s t xs ys cs ds h v =
       let marked = v.each.1 xs h.marked in
@@ -469,24 +469,22 @@ module _ (steps : StepsAlike) (made : MadeStands) (shows : ShowsAlike) (stays : 
         marked = marked;
         timed = time.timed;
         closing =
-            elim (cases_Bool (is_released s)) [
+            elim (cases_Bool (is_released model_ends s)) [
               | inl p ↦ gone_more s t xs ys (rel None xs) refl (h.marked.mark ∙ p) (time.gone p ∙ h.closing)
               | inr p ↦
                   let second = rel_second xs ys None (none_of (rel None xs) (h.marked.mark ∙ p)) in
-                  closing_now plan.settings.setup v.moment (is_released t) (rel None (xs ++ ys)) t.closing (time.live p) marked.mark
+                  closing_now plan.settings.setup v.moment (is_released model_ends t) (rel None (xs ++ ys)) t.closing (time.live p) marked.mark
                   (subst (λ z. (z ≡ None) ⊎ (z ≡ Some v.moment)) (sym second) (at_moment v.moment ys (Behind None xs) (plain_at v.moment s.number ys v.plain.1)))
             ];
       }
 
-  new_timed : (s : Session) → is_released s ≡ false → s.closing ≡ None → is_some s.mind ≡ true → Timed s
+  new_timed : (s : Session ModelEnd) → is_released model_ends s ≡ false → s.closing ≡ None → is_some s.mind ≡ true → Timed s
   new_timed s p c f = record { live = λ q. (c, f); gone = λ q. absurd (true≢false (sym q ∙ p)) }
 
-  opened_live : (l : Loop) (conn : ℕ) (mind : Mind) → is_released (begun conn (answering plan l) mind) ≡ false
-  unfolding kept_opened
+  opened_live : (l : Loop ModelEnd) (conn : ℕ) (mind : Mind) → is_released model_ends (begun conn (answering model_ends plan l) mind) ≡ false
   opened_live l conn mind = refl
 
-  called_live : (caller : Caller) (l : Loop) (conn : ℕ) (mind : Mind) → is_released (begun conn (calling plan caller l) mind) ≡ false
-  unfolding kept_opened
+  called_live : (caller : Caller) (l : Loop ModelEnd) (conn : ℕ) (mind : Mind) → is_released model_ends (begun conn (calling model_ends plan caller l) mind) ≡ false
   called_live caller l conn mind = refl
 
   keeps : Keeps plan Visited Known_so Gone
@@ -494,7 +492,7 @@ module _ (steps : StepsAlike) (made : MadeStands) (shows : ShowsAlike) (stays : 
     visit = λ s t xs ys cs ds h v. more s t xs ys cs ds h v;
     close = λ s t xs ys cs ds over h v. tt;
     open_ = λ l conn mind.
-        let s = begun conn (answering plan l) mind in
+        let s = begun conn (answering model_ends plan l) mind in
         let told = (printings.keeps steps made plan allowed).open_ l conn mind in
         let mark = mark_one _ None ∙ sym (seen s.end _ told) in
         record {
@@ -507,7 +505,7 @@ module _ (steps : StepsAlike) (made : MadeStands) (shows : ShowsAlike) (stays : 
     unserved = λ m conn handed. tt;
   }
 
-  in_time : (o : Out Course) → Knows plan Visited all_left own Known_so Gone keeps o.entries o.calls o.state.loop.sessions → ClosesInTime plan o
+  in_time : (o : Out (Course ModelEnd)) → Knows plan Visited all_left own Known_so Gone keeps o.entries o.calls o.state.loop.sessions → ClosesInTime plan o
   unfolding Fits
   in_time o k conn s is =
       let f : (s.number ≡ conn) × Known_so s (of conn o.entries) (calls_at conn o.calls) = rw is at (k.fits conn) in f.1.closing
@@ -515,38 +513,38 @@ module _ (steps : StepsAlike) (made : MadeStands) (shows : ShowsAlike) (stays : 
   -- ---- the session that a dial opens
 
   -- one event, or the session stalled
-  Either : KEnd → List Entry → Type 0
+  Either : ModelEnd → List Entry → Type 0
   Either k xs = ((x : Entry) × (xs ≡ x ∷ [])) ⊎ (is_some k.core.released ≡ true)
 
-  fed_either : (m : ℕ) (s : Session) (g : Given) → Either (fed rules m s g).0.end (fed rules m s g).1
+  fed_either : (m : ℕ) (s : Session ModelEnd) (g : Given) → Either (fed model_ends rules m s g).0.end (fed model_ends rules m s g).1
   unfolding Either fed joined
   fed_either m s g =
-      elim (cases_Bool (nat_lt most_output (length s.output + length (octets_in (outcomes_of rules m s.end g))))) [
-        | inl p ↦ rw p (inr (breaks_released stays breaks_release rules m (end_after rules m s.end g) Stalls refl))
-        | inr p ↦ rw p (inl (entry_of rules m s g, refl))
+      elim (cases_Bool (nat_lt most_output (length s.output + length (octets_in (outcomes_of model_ends rules m s.end g))))) [
+        | inl p ↦ rw p (inr (breaks_released stays breaks_release rules m (end_after model_ends rules m s.end g) Stalls refl))
+        | inr p ↦ rw p (inl (entry_of model_ends rules m s g, refl))
       ]
 
-  mark_of : (k : KEnd) (xs : List Entry) → ToldTo k xs → Either k xs → is_some (rel None xs) ≡ is_some k.core.released
+  mark_of : (k : ModelEnd) (xs : List Entry) → ToldTo k xs → Either k xs → is_some (rel None xs) ≡ is_some k.core.released
   unfolding Either
   mark_of k xs told (inl (x, e)) =
       ap (λ z. is_some (rel None z)) e ∙ mark_one x None ∙ ap (λ z. is_gone (Behind None z)) (sym e) ∙ sym (seen k xs told)
   mark_of k xs told (inr out) = mark_some xs None refl (sym (seen k xs told) ∙ out) ∙ sym out
 
   first : (caller : Caller) (at : ℕ) → key_at plan.keys at caller.engine plan.rbc ≡ Some caller.kmac
-      → (l : Loop) (conn : ℕ) (mind : Mind) (says : Says) → l.moment ≡ at
-      → Known_so (handled rules l.moment (begun conn (calling plan caller l) mind) (Begins caller.engine plan.rbc (next_u64 l.words).0) says).0
-      (handled rules l.moment (begun conn (calling plan caller l) mind) (Begins caller.engine plan.rbc (next_u64 l.words).0) says).1 []
+      → (l : Loop ModelEnd) (conn : ℕ) (mind : Mind) (says : Says) → l.moment ≡ at
+      → Known_so (handled model_ends rules l.moment (begun conn (calling model_ends plan caller l) mind) (Begins caller.engine plan.rbc (next_u64 l.words).0) says).0
+      (handled model_ends rules l.moment (begun conn (calling model_ends plan caller l) mind) (Begins caller.engine plan.rbc (next_u64 l.words).0) says).1 []
   unfolding Marks
   first caller at key l conn mind says now =
       let m = l.moment in
-      let s = begun conn (calling plan caller l) mind in
+      let s = begun conn (calling model_ends plan caller l) mind in
       let g = Begins caller.engine plan.rbc (next_u64 l.words).0 in
-      let h = handled rules m s g says in
+      let h = handled model_ends rules m s g says in
       let told = printings.first_told steps made plan allowed caller at key l conn mind now in
       let f = follows_handled rules IsOfEnd Marks marks all_of_end.usual m s g says in
       let marked : Marked h.0 h.1 =
       subst (λ z. Marked h.0 z) (sym f.is)
-      (f.holds (fed rules m s g).1 (record { told = told; mark = mark_of (fed rules m s g).0.end (fed rules m s g).1 told (fed_either m s g) })) in
+      (f.holds (fed model_ends rules m s g).1 (record { told = told; mark = mark_of (fed model_ends rules m s g).0.end (fed model_ends rules m s g).1 told (fed_either m s g) })) in
       let time = handled_now rules m (stay m) s g says (new_timed s (called_live caller l conn mind) refl refl) in
       let c = (handled_so plan caller l conn mind says).calls in
       let all : AllAt m h.1 = subst (λ z. AllAt m z) (sym c.is) (refl, plain_at m conn c.rest c.plain) in
@@ -554,19 +552,23 @@ module _ (steps : StepsAlike) (made : MadeStands) (shows : ShowsAlike) (stays : 
         marked = marked;
         timed = time.timed;
         closing =
-            closing_now plan.settings.setup m (is_released h.0) (rel None h.1) h.0.closing (time.live (called_live caller l conn mind)) marked.mark (at_moment m h.1 None all);
+            closing_now plan.settings.setup m (is_released model_ends h.0) (rel None h.1) h.0.closing (time.live (called_live caller l conn mind)) marked.mark (at_moment m h.1 None all);
       }
 
-  serving : (c : Course) (turns : List Turn) → IsServing plan c turns → ClosesInTime plan (run plan c turns)
-  serving c turns h = in_time (run plan c turns) (knows_run plan Visited all_left own Known_so Gone keeps c turns h.none h.rises)
+  knows_serving : (c : Course ModelEnd) (turns : List Turn) → IsServing plan c turns
+      → Knows plan Visited all_left own Known_so Gone keeps (run model_ends plan c turns).entries (run model_ends plan c turns).calls (run model_ends plan c turns).state.loop.sessions
+  knows_serving c turns h = knows_run plan Visited all_left own Known_so Gone keeps c turns h.none h.rises
 
-  dialling : (caller : Caller) (c : Course) (address : List ℕ) (a : Dialled) → IsDialling plan caller c address a → ClosesInTime plan (dials plan caller c address a)
-  dialling caller c address a h =
-      in_time (dials plan caller c address a)
-      (knows_dial_of plan caller Visited all_left own Known_so Gone keeps (max c.loop.moment a.first) (first caller (max c.loop.moment a.first) h.key) c address a h.none refl h.rises)
+  knows_dialling : (caller : Caller) (c : Course ModelEnd) (address : List ℕ) (a : Dialled) → IsDialling plan caller c address a
+      → Knows plan Visited all_left own Known_so Gone keeps (dials model_ends plan caller c address a).entries (dials model_ends plan caller c address a).calls (dials model_ends plan caller c address a).state.loop.sessions
+  knows_dialling caller c address a h =
+      knows_dial_of plan caller Visited all_left own Known_so Gone keeps (max c.loop.moment a.first) (first caller (max c.loop.moment a.first) h.key) c address a h.none refl h.rises
 
 pub closings_are_in_time : StepsAlike → MadeStands → ShowsAlike → ReleaseStays → BreaksRelease → ClosingsAreInTime
 closings_are_in_time steps made shows stays breaks_release = record {
-  serving = λ plan c turns h. serving steps made shows stays breaks_release plan h.allowed c turns h;
-  dialling = λ plan caller c address a h. dialling steps made shows stays breaks_release plan h.allowed caller c address a h;
+  serving = λ plan c turns h.
+      in_time steps made shows stays breaks_release plan h.allowed (run model_ends plan c turns) (knows_serving steps made shows stays breaks_release plan h.allowed c turns h);
+  dialling = λ plan caller c address a h.
+      in_time steps made shows stays breaks_release plan h.allowed (dials model_ends plan caller c address a)
+      (knows_dialling steps made shows stays breaks_release plan h.allowed caller c address a h);
 }

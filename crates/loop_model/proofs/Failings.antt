@@ -1,8 +1,8 @@
 -- There are at most as many events `fault` as reads and writes that failed.
+use Rattle.loop_model.specs.Ends.{ModelEnd, model_ends}
 use Rattle.std.proofs.Common.{◌≡◌, ℕ, ◌+◌, ◌≤◌, inl, inr, false, List, [], ◌∷◌, ◌++◌, length, Option, Some, None, refl, sym, ◌∙◌, ap, subst, arith}
 use Rattle.std.specs.Prelude.{nat_lt, ◌==◌}
 use Rattle.std.proofs.lemmas.Bool.{cases_Bool}
-use Rattle.er_end.specs.KeptEnds.{KEnd}
 use Rattle.er_users.specs.Users.{Mind}
 use Rattle.rand_core.specs.Stream.{next_u64}
 use Rattle.link_trait.specs.Wires.{Call, Reading, Gave, NotNow, End, Failed, Reads, Closes}
@@ -25,7 +25,7 @@ unfolding failures
 failures-append [] ds = omega arith
 failures-append (call ∷ cs) ds = let h : failures (cs ++ ds) ≡ failures cs + failures ds = failures-append cs ds in omega arith
 
-Fails : Session → Session → List Entry → List Call → Type 0
+Fails : Session ModelEnd → Session ModelEnd → List Entry → List Call → Type 0
 Fails s t xs cs = faults xs ≤ failures cs
 
 -- every event but a fault
@@ -40,7 +40,7 @@ IsNoFault Ends = Unit {0}
 IsNoFault Faults = ⊥
 IsNoFault Stalls = Unit {0}
 
-no_fault : (k : KEnd) (g : Given) → IsNoFault g → is_fault (written k g) ≡ false
+no_fault : (k : ModelEnd) (g : Given) → IsNoFault g → is_fault (written model_ends k g) ≡ false
 no_fault k (Begins engine rbc rb) p = refl
 no_fault k (Hears octets) p = refl
 no_fault k (Sends text) p = refl
@@ -68,20 +68,20 @@ steady r = record {
 usual : Usual IsNoFault
 usual = record { sends = λ text. tt; leaves = λ sub. tt; takes = tt }
 
-pub fed_fault : (r : Rules) (m : ℕ) (s : Session) → faults (fed r m s Faults).1 ≡ 1
+pub fed_fault : (r : Rules) (m : ℕ) (s : Session ModelEnd) → faults (fed model_ends r m s Faults).1 ≡ 1
 unfolding faults fed joined
 fed_fault r m s =
-    elim (cases_Bool (nat_lt most_output (length s.output + length (octets_in (outcomes_of r m s.end Faults))))) [
+    elim (cases_Bool (nat_lt most_output (length s.output + length (octets_in (outcomes_of model_ends r m s.end Faults))))) [
       | inl p ↦ rw p refl
       | inr p ↦ rw p refl
     ]
 
-handled_fault : (r : Rules) (m : ℕ) (s : Session) (says : Says) → faults (handled r m s Faults says).1 ≤ 1
+handled_fault : (r : Rules) (m : ℕ) (s : Session ModelEnd) (says : Says) → faults (handled model_ends r m s Faults says).1 ≤ 1
 unfolding Fails failures
 handled_fault r m s says =
     let f = follows_handled r IsNoFault Fails (steady r) usual m s Faults says in
     then_fails 1 1 (faults f.rest) 0 _ 1 (omega arith) f.holds
-    (ap faults f.is ∙ faults-append (fed r m s Faults).1 f.rest ∙ ap (λ z. z + faults f.rest) (fed_fault r m s)) refl
+    (ap faults f.is ∙ faults-append (fed model_ends r m s Faults).1 f.rest ∙ ap (λ z. z + faults f.rest) (fed_fault r m s)) refl
 
 bound : (a b : ℕ) → a ≤ b → a ≤ b + 0
 bound a b p = omega arith
@@ -92,8 +92,8 @@ add_none a b p = omega arith
 none_failed : (a b : ℕ) → a ≤ 0 → a ≤ b
 none_failed a b p = omega arith
 
-read_fails : (r : Rules) (m : ℕ) (s : Session) (waits : ℕ) (reading : Reading) (says : List Says)
-    → faults (came reading r m s says).1 ≤ failures (Reads s.number most_read waits reading ∷ [])
+read_fails : (r : Rules) (m : ℕ) (s : Session ModelEnd) (waits : ℕ) (reading : Reading) (says : List Says)
+    → faults (came model_ends reading r m s says).1 ≤ failures (Reads s.number most_read waits reading ∷ [])
 unfolding Fails failures faults
 read_fails r m s waits (Gave octets) says =
     none_failed _ (0 + 0) (steady_pours r IsNoFault Fails (steady r) usual (λ octets. tt) m s octets says)
@@ -118,14 +118,14 @@ calls : (r : Rules) → Calls r Fails
 unfolding Fails
 calls r = record { quiet = quiet r; read = λ m s a live. read_fails r m s a.waits a.reading a.says }
 
-left_fails : (s : Session) (ts : List Session) (xs : List Entry) (cs : List Call) → Left Fails s ts xs cs → faults xs ≤ failures cs
+left_fails : (s : Session ModelEnd) (ts : List (Session ModelEnd)) (xs : List Entry) (cs : List Call) → Left Fails s ts xs cs → faults xs ≤ failures cs
 unfolding Fails failures
 left_fails s ts xs cs (Stays t p q) = q
 left_fails s ts xs cs (Closed t ds over p e q) =
     then_fails (faults xs) (failures ds) 0 (0 + 0) (faults xs) (failures cs) q (omega arith) (omega arith) (ap failures e ∙ failures-append ds (Closes t.number ∷ []))
 
-visit_fails : (r : Rules) (m : ℕ) (visit : Visit) (n : ℕ) (ss : List Session) (a : Met)
-    → faults (visit_at (visited r m visit) n ss a).entries ≤ failures (visit_at (visited r m visit) n ss a).calls
+visit_fails : (r : Rules) (m : ℕ) (visit : Visit) (n : ℕ) (ss : List (Session ModelEnd)) (a : Met)
+    → faults (visit_at (visited model_ends r m visit) n ss a).entries ≤ failures (visit_at (visited model_ends r m visit) n ss a).calls
 unfolding visit_at faults failures
 visit_fails r m visit n [] a = omega arith
 visit_fails r m visit n (s ∷ ss) a =
@@ -134,7 +134,7 @@ visit_fails r m visit n (s ∷ ss) a =
       | inr p ↦ rw p (visit_fails r m visit n ss a)
     ]
 
-Along : List Session → List Session → List Entry → List Call → Type 0
+Along : List (Session ModelEnd) → List (Session ModelEnd) → List Entry → List Call → Type 0
 Along ss ts xs cs = faults xs ≤ failures cs
 
 wise : (plan : Plan) → Loopwise plan Along
@@ -149,27 +149,27 @@ wise plan = record {
   unserved = λ ss m handed until conn. omega arith;
 }
 
-run_fails : (plan : Plan) (c : Course) (turns : List Turn) → HasFailed (run plan c turns)
+run_fails : (plan : Plan) (c : Course ModelEnd) (turns : List Turn) → HasFailed (run model_ends plan c turns)
 unfolding Along
 run_fails plan c turns = wise_run plan Along (wise plan) c turns
 
-called_fails : (user : Option Mind) (plan : Plan) (caller : Caller) (l : Loop) (conn : ℕ) (a : Met)
-    → faults (called_by user plan caller l conn a).entries ≤ failures (called_by user plan caller l conn a).calls
+called_fails : (user : Option Mind) (plan : Plan) (caller : Caller) (l : Loop ModelEnd) (conn : ℕ) (a : Met)
+    → faults (called_by model_ends user plan caller l conn a).entries ≤ failures (called_by model_ends user plan caller l conn a).calls
 unfolding Fails faults failures
 called_fails None plan caller l conn a = omega arith
 called_fails (Some mind) plan caller l conn a =
     let r = rules_of plan in
-    let s = begun conn (calling plan caller l) mind in
+    let s = begun conn (calling model_ends plan caller l) mind in
     let g = Begins caller.engine plan.rbc (next_u64 l.words).0 in
     left_fails s _ _ _ (left_served r Fails (quiet r) l.moment s g a (steady_handled r IsNoFault Fails (steady r) usual l.moment s g (first_of nothing_said a.says) tt))
 
-dial_fails : (conn : Option ℕ) (plan : Plan) (caller : Caller) (c : Course) (address : List ℕ) (a : Dialled) → HasFailed (dials_to conn plan caller c address a)
+dial_fails : (conn : Option ℕ) (plan : Plan) (caller : Caller) (c : Course ModelEnd) (address : List ℕ) (a : Dialled) → HasFailed (dials_to model_ends conn plan caller c address a)
 unfolding called faults failures
 dial_fails None plan caller c address a = omega arith
 dial_fails (Some conn) plan caller c address a =
     let d = asks a.first c in
-    let o = opens plan caller d conn a.met in
-    let e = run plan o.state a.turns in
+    let o = opens model_ends plan caller d conn a.met in
+    let e = run model_ends plan o.state a.turns in
     add_none _ _
     (then_fails (faults o.entries) (failures o.calls) (faults e.entries) (failures e.calls) _ _
     (called_fails (next_user d.loop.users) plan caller d.loop conn a.met) (run_fails plan o.state a.turns)

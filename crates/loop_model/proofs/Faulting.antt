@@ -1,12 +1,12 @@
 -- An event `fault` comes exactly where a read or a write of a connection failed that wasn't released.
+use Rattle.loop_model.specs.Ends.{ModelEnd, model_ends}
 use Rattle.std.proofs.Common.{◌≡◌, ℕ, ◌+◌, max, inl, inr, Bool, true, false, not, ◌&&◌, ◌||◌, List, [], ◌∷◌, ◌++◌, length, Option, Some, None, refl, sym, ◌∙◌, ap, subst, append-nil, append_assoc, arith, true≢false}
 use Rattle.std.specs.Prelude.{◌==◌, nat_lt, is_some}
 use Rattle.std.proofs.lemmas.Bool.{cases_Bool}
 use Rattle.er_settings.specs.Ranges.{AllAllowed}
 use Rattle.safety_automaton.specs.Keys.{key_at}
-use Rattle.er_end.specs.KeptEnds.{KEnd}
-use Rattle.er_end.specs.Keeping.{ReleaseStays, BreaksRelease}
-use Rattle.er_end.specs.Standing.{StepsAlike, MadeStands, ShowsAlike}
+use Rattle.loop_model.proofs.EndKeepings.{ReleaseStays, BreaksRelease}
+use Rattle.loop_model.proofs.EndKeepings.{StepsAlike, MadeStands, ShowsAlike}
 use Rattle.er_users.specs.Users.{Mind}
 use Rattle.rand_core.specs.Stream.{next_u64}
 use Rattle.link_trait.specs.Wires.{Call, Reading, Gave, NotNow, End as LineEnd, Failed, Reads, Writes, Closes}
@@ -107,7 +107,7 @@ of_end Ends p = tt
 of_end Faults p = absurd p
 of_end Stalls p = tt
 
-no_fault : (k : KEnd) (g : Given) → IsNoFault g → is_fault (written k g) ≡ false
+no_fault : (k : ModelEnd) (g : Given) → IsNoFault g → is_fault (written model_ends k g) ≡ false
 no_fault k (Begins engine rbc rb) p = absurd p
 no_fault k (Hears octets) p = refl
 no_fault k (Sends text) p = refl
@@ -133,27 +133,27 @@ module _ (steps : StepsAlike) (made : MadeStands) (shows : ShowsAlike) (stays : 
   abbrev r : Rules
   r = rules_of plan
 
-  abbrev ToldTo : KEnd → List Entry → Type 0
+  abbrev ToldTo : ModelEnd → List Entry → Type 0
   ToldTo k xs = printings.ToldTo steps made plan allowed k xs
 
   -- whether its events release an end
   abbrev gone : List Entry → Bool
   gone xs = is_gone (printings.Behind steps made plan allowed None xs)
 
-  seen : (k : KEnd) (xs : List Entry) → ToldTo k xs → is_some k.core.released ≡ gone xs
+  seen : (k : ModelEnd) (xs : List Entry) → ToldTo k xs → is_some k.core.released ≡ gone xs
   seen k xs h = ap is_some (shows k h.now h.stands).1 ∙ sym (ap is_gone h.is)
 
   abbrev IsTold : List Entry → List Call → Type 0
   IsTold xs cs = faults xs ≡ one_if (has_failed cs && not (gone (before_fault xs)))
 
   -- a session and all that came at it
-  record Sees (s : Session) (xs : List Entry) (cs : List Call) : Type 0 where
+  record Sees (s : Session ModelEnd) (xs : List Entry) (cs : List Call) : Type 0 where
     told : ToldTo s.end xs
     fault : IsTold xs cs
-    over : has_failed cs ≡ true → is_released s ≡ true
+    over : has_failed cs ≡ true → is_released model_ends s ≡ true
 
   -- what is so stays so
-  Keeping : Session → Session → List Entry → List Call → Type 0
+  Keeping : Session ModelEnd → Session ModelEnd → List Entry → List Call → Type 0
   Keeping s t ys ds = (xs : List Entry) (cs : List Call) → Sees s xs cs → Sees t (xs ++ ys) (cs ++ ds)
 
   quiet_case : (xs : List Entry) (cs : List Call) → has_failed cs ≡ false → IsTold xs cs → faults xs ≡ 0
@@ -178,8 +178,8 @@ module _ (steps : StepsAlike) (made : MadeStands) (shows : ShowsAlike) (stays : 
       plus_none n = omega arith
 
   -- events that are no fault
-  plain : (s t : Session) (xs ys : List Entry) (cs : List Call) → Sees s xs cs → printings.Going steps made plan allowed s.end t.end ys → faults ys ≡ 0
-      → (is_released s ≡ true → is_released t ≡ true) → Sees t (xs ++ ys) cs
+  plain : (s t : Session ModelEnd) (xs ys : List Entry) (cs : List Call) → Sees s xs cs → printings.Going steps made plan allowed s.end t.end ys → faults ys ≡ 0
+      → (is_released model_ends s ≡ true → is_released model_ends t ≡ true) → Sees t (xs ++ ys) cs
   plain s t xs ys cs h going none on =
       let told : ToldTo t.end (xs ++ ys) = printings.more steps made plan allowed s.end t.end xs ys h.told going in
       record {
@@ -188,13 +188,13 @@ module _ (steps : StepsAlike) (made : MadeStands) (shows : ShowsAlike) (stays : 
         over = λ p. on (h.over p);
       }
 
-  nothing : (s t : Session) → t.end ≡ s.end → Keeping s t [] []
+  nothing : (s t : Session ModelEnd) → t.end ≡ s.end → Keeping s t [] []
   unfolding Keeping
   nothing s t e xs cs h =
       rw (append-nil xs, append-nil cs)
-      (record { told = subst (λ k. ToldTo k xs) (sym e) h.told; fault = h.fault; over = λ p. ap (λ (k : KEnd). is_some k.core.released) e ∙ h.over p })
+      (record { told = subst (λ k. ToldTo k xs) (sym e) h.told; fault = h.fault; over = λ p. ap (λ (k : ModelEnd). is_some k.core.released) e ∙ h.over p })
 
-  keeping_then : (s t u : Session) (xs ys : List Entry) (cs ds : List Call) → Keeping s t xs cs → Keeping t u ys ds → Keeping s u (xs ++ ys) (cs ++ ds)
+  keeping_then : (s t u : Session ModelEnd) (xs ys : List Entry) (cs ds : List Call) → Keeping s t xs cs → Keeping t u ys ds → Keeping s u (xs ++ ys) (cs ++ ds)
   unfolding Keeping
   keeping_then s t u xs ys cs ds p q js bs h = rw (← append_assoc js xs ys, ← append_assoc bs cs ds) (q (js ++ xs) (bs ++ cs) (p js bs h))
 
@@ -205,19 +205,19 @@ module _ (steps : StepsAlike) (made : MadeStands) (shows : ShowsAlike) (stays : 
     then_ = keeping_then;
     given = λ m s g p fits xs cs h.
         rw (append-nil cs)
-        (plain s _ xs (entry_of r m s g ∷ []) cs h ((printings.q_steady steps made plan allowed).given m s g (of_end g p) fits).1
-        (one_none (entry_of r m s g) (no_fault s.end g p)) (λ q. stays_released stays breaks_release r m s.end g q));
+        (plain s _ xs (entry_of model_ends r m s g ∷ []) cs h ((printings.q_steady steps made plan allowed).given m s g (of_end g p) fits).1
+        (one_none (entry_of model_ends r m s g) (no_fault s.end g p)) (λ q. stays_released stays breaks_release r m s.end g q));
     stalls = λ m s g p fits xs cs h.
-        let k = end_after r m s.end g in
+        let k = end_after model_ends r m s.end g in
         rw (append-nil cs)
-        (plain s _ xs (entry_of r m s g ∷ entry_of r m (record s { end = k }) Stalls ∷ []) cs h ((printings.q_steady steps made plan allowed).stalls m s g (of_end g p) fits).1
-        (two_none (entry_of r m s g) (entry_of r m (record s { end = k }) Stalls) (no_fault s.end g p) refl) (λ q. breaks_released stays breaks_release r m k Stalls refl));
+        (plain s _ xs (entry_of model_ends r m s g ∷ entry_of model_ends r m (record s { end = k }) Stalls ∷ []) cs h ((printings.q_steady steps made plan allowed).stalls m s g (of_end g p) fits).1
+        (two_none (entry_of model_ends r m s g) (entry_of model_ends r m (record s { end = k }) Stalls) (no_fault s.end g p) refl) (λ q. breaks_released stays breaks_release r m k Stalls refl));
     heard = λ s mind. nothing s (record s { mind = mind }) refl;
     parts = λ s at gone. nothing s (record s { mind = None; closing = Some at }) refl;
   }
 
   -- a call that doesn't fail
-  bare : (s t : Session) (call : Call) → t.end ≡ s.end → is_failed call ≡ false → Keeping s t [] (call ∷ [])
+  bare : (s t : Session ModelEnd) (call : Call) → t.end ≡ s.end → is_failed call ≡ false → Keeping s t [] (call ∷ [])
   unfolding Keeping
   bare s t call e p xs cs h =
       let q = not_failed cs call p in
@@ -225,40 +225,40 @@ module _ (steps : StepsAlike) (made : MadeStands) (shows : ShowsAlike) (stays : 
       (record {
         told = subst (λ k. ToldTo k xs) (sym e) h.told;
         fault = h.fault ∙ ap (λ b. one_if (b && not (gone (before_fault xs)))) (sym q);
-        over = λ f. ap (λ (k : KEnd). is_some k.core.released) e ∙ h.over (sym q ∙ f);
+        over = λ f. ap (λ (k : ModelEnd). is_some k.core.released) e ∙ h.over (sym q ∙ f);
       })
 
   -- a call that failed, and the fault
-  fed_goes : (m : ℕ) (s : Session) → printings.Going steps made plan allowed s.end (fed r m s Faults).0.end (fed r m s Faults).1
+  fed_goes : (m : ℕ) (s : Session ModelEnd) → printings.Going steps made plan allowed s.end (fed model_ends r m s Faults).0.end (fed model_ends r m s Faults).1
   unfolding printings.Goes
   fed_goes m s =
       (steady_fed r IsOfEnd (printings.Q steps made plan allowed) (printings.q_steady steps made plan allowed) all_of_end.usual m s Faults tt).1
 
-  fed_released : (m : ℕ) (s : Session) → is_released (fed r m s Faults).0 ≡ true
+  fed_released : (m : ℕ) (s : Session ModelEnd) → is_released model_ends (fed model_ends r m s Faults).0 ≡ true
   unfolding fed joined
   fed_released m s =
-      let k = end_after r m s.end Faults in
-      elim (cases_Bool (nat_lt most_output (length s.output + length (octets_in (outcomes_of r m s.end Faults))))) [
+      let k = end_after model_ends r m s.end Faults in
+      elim (cases_Bool (nat_lt most_output (length s.output + length (octets_in (outcomes_of model_ends r m s.end Faults))))) [
         | inl p ↦ rw p (breaks_released stays breaks_release r m k Stalls refl)
         | inr p ↦ rw p (breaks_released stays breaks_release r m s.end Faults refl)
       ]
 
-  fed_first : (m : ℕ) (s : Session) → before_fault (fed r m s Faults).1 ≡ []
+  fed_first : (m : ℕ) (s : Session ModelEnd) → before_fault (fed model_ends r m s Faults).1 ≡ []
   unfolding fed before_fault
   fed_first m s = refl
 
-  unfailed : (s : Session) (xs : List Entry) (cs : List Call) (b : Bool) → has_failed cs ≡ b → Sees s xs cs → is_released s ≡ false → has_failed cs ≡ false
+  unfailed : (s : Session ModelEnd) (xs : List Entry) (cs : List Call) (b : Bool) → has_failed cs ≡ b → Sees s xs cs → is_released model_ends s ≡ false → has_failed cs ≡ false
   unfailed s xs cs true p h live = absurd (true≢false (sym (h.over p) ∙ live))
   unfailed s xs cs false p h live = p
 
-  struck : (m : ℕ) (s : Session) (call : Call) → is_failed call ≡ true → is_released s ≡ false → Keeping s (fed r m s Faults).0 (fed r m s Faults).1 (call ∷ [])
+  struck : (m : ℕ) (s : Session ModelEnd) (call : Call) → is_failed call ≡ true → is_released model_ends s ≡ false → Keeping s (fed model_ends r m s Faults).0 (fed model_ends r m s Faults).1 (call ∷ [])
   unfolding Keeping
   struck m s call failed live xs cs h =
-      let ys = (fed r m s Faults).1 in
+      let ys = (fed model_ends r m s Faults).1 in
       let none : faults xs ≡ 0 = quiet_case xs cs (unfailed s xs cs (has_failed cs) refl h live) h.fault in
       let at : before_fault (xs ++ ys) ≡ xs = elim (split xs) [ Without z f e ↦ f ys ∙ ap (λ q. xs ++ q) (fed_first m s) ∙ append-nil xs | With z f ↦ absurd (z none) ] in
       record {
-        told = printings.more steps made plan allowed s.end (fed r m s Faults).0.end xs ys h.told (fed_goes m s);
+        told = printings.more steps made plan allowed s.end (fed model_ends r m s Faults).0.end xs ys h.told (fed_goes m s);
         fault =
             faults-append xs ys ∙ ap (λ n. n + faults ys) none ∙ ap (λ n. 0 + n) (fed_fault r m s)
             ∙ ap (λ b. one_if (true && not b)) (sym (ap gone at ∙ sym (seen s.end xs h.told) ∙ live))
@@ -266,22 +266,22 @@ module _ (steps : StepsAlike) (made : MadeStands) (shows : ShowsAlike) (stays : 
         over = λ p. fed_released m s;
       }
 
-  faulted : (m : ℕ) (s : Session) (says : Says) (call : Call) → is_failed call ≡ true → is_released s ≡ false
-      → Keeping s (handled r m s Faults says).0 (handled r m s Faults says).1 (call ∷ [])
+  faulted : (m : ℕ) (s : Session ModelEnd) (says : Says) (call : Call) → is_failed call ≡ true → is_released model_ends s ≡ false
+      → Keeping s (handled model_ends r m s Faults says).0 (handled model_ends r m s Faults says).1 (call ∷ [])
   faulted m s says call failed live =
       let f = follows_handled r IsNoFault Keeping steady usual m s Faults says in
-      let t = (handled r m s Faults says).0 in
+      let t = (handled model_ends r m s Faults says).0 in
       subst (λ z. Keeping s t z (call ∷ [])) (sym f.is)
-      (keeping_then s (fed r m s Faults).0 t (fed r m s Faults).1 f.rest (call ∷ []) [] (struck m s call failed live) f.holds)
+      (keeping_then s (fed model_ends r m s Faults).0 t (fed model_ends r m s Faults).1 f.rest (call ∷ []) [] (struck m s call failed live) f.holds)
 
-  failed_gone : (s t : Session) (call : Call) → t.end ≡ s.end → is_failed call ≡ true → is_released s ≡ true → Keeping s t [] (call ∷ [])
+  failed_gone : (s t : Session ModelEnd) (call : Call) → t.end ≡ s.end → is_failed call ≡ true → is_released model_ends s ≡ true → Keeping s t [] (call ∷ [])
   unfolding Keeping
   failed_gone s t call e failed over xs cs h =
       rw (append-nil xs)
       (record {
         told = subst (λ k. ToldTo k xs) (sym e) h.told;
         fault = told_of (has_failed cs) refl ∙ ap (λ b. one_if (b && not (gone (before_fault xs)))) (sym (now_failed cs call failed));
-        over = λ p. ap (λ (k : KEnd). is_some k.core.released) e ∙ over;
+        over = λ p. ap (λ (k : ModelEnd). is_some k.core.released) e ∙ over;
       })
     where
       told_of : (b : Bool) → has_failed cs ≡ b → faults xs ≡ one_if (true && not (gone (before_fault xs)))
@@ -290,8 +290,8 @@ module _ (steps : StepsAlike) (made : MadeStands) (shows : ShowsAlike) (stays : 
           let none : faults xs ≡ 0 = quiet_case xs cs p h.fault in
           none ∙ ap (λ b. one_if (true && not b)) (sym (ap gone (no_fault_all xs none) ∙ sym (seen s.end xs h.told) ∙ over))
 
-  read_keeps : (m : ℕ) (s : Session) (waits : ℕ) (reading : Reading) (says : List Says) → is_released s ≡ false
-      → Keeping s (came reading r m s says).0 (came reading r m s says).1 (Reads s.number most_read waits reading ∷ [])
+  read_keeps : (m : ℕ) (s : Session ModelEnd) (waits : ℕ) (reading : Reading) (says : List Says) → is_released model_ends s ≡ false
+      → Keeping s (came model_ends reading r m s says).0 (came model_ends reading r m s says).1 (Reads s.number most_read waits reading ∷ [])
   read_keeps m s waits (Gave octets) says live =
       keeping_then s s _ [] _ (Reads s.number most_read waits (Gave octets) ∷ []) [] (bare s s (Reads s.number most_read waits (Gave octets)) refl refl)
       (steady_pours r IsNoFault Keeping steady usual (λ octets. tt) m s octets says)
@@ -317,7 +317,7 @@ module _ (steps : StepsAlike) (made : MadeStands) (shows : ShowsAlike) (stays : 
 
   -- ---- all connections
 
-  abbrev Q : Session → Session → List Entry → List Call → Type 0
+  abbrev Q : Session ModelEnd → Session ModelEnd → List Entry → List Call → Type 0
   Q = Both Own Keeping
 
   q_steady : Steady r IsNoFault Q
@@ -326,7 +326,7 @@ module _ (steps : StepsAlike) (made : MadeStands) (shows : ShowsAlike) (stays : 
   q_calls : AllLeft r Q
   q_calls = all_left_of r Q (calls_both r Own Keeping (own_calls r) calls)
 
-  own : (s t : Session) (xs : List Entry) (cs : List Call) → Q s t xs cs → Own s t xs cs
+  own : (s t : Session ModelEnd) (xs : List Entry) (cs : List Call) → Q s t xs cs → Own s t xs cs
   own s t xs cs p = p.0
 
   keeps : Keeps plan Q Sees IsTold
@@ -345,23 +345,23 @@ module _ (steps : StepsAlike) (made : MadeStands) (shows : ShowsAlike) (stays : 
     unserved = λ m conn handed. refl;
   }
 
-  begins_none : (m : ℕ) (s : Session) (engine rbc rb : ℕ) → faults (fed r m s (Begins engine rbc rb)).1 ≡ 0
+  begins_none : (m : ℕ) (s : Session ModelEnd) (engine rbc rb : ℕ) → faults (fed model_ends r m s (Begins engine rbc rb)).1 ≡ 0
   unfolding faults fed joined
   begins_none m s engine rbc rb =
-      elim (cases_Bool (nat_lt most_output (length s.output + length (octets_in (outcomes_of r m s.end (Begins engine rbc rb)))))) [ inl p ↦ rw p refl | inr p ↦ rw p refl ]
+      elim (cases_Bool (nat_lt most_output (length s.output + length (octets_in (outcomes_of model_ends r m s.end (Begins engine rbc rb)))))) [ inl p ↦ rw p refl | inr p ↦ rw p refl ]
 
   first : (caller : Caller) (at : ℕ) → key_at plan.keys at caller.engine plan.rbc ≡ Some caller.kmac
-      → (l : Loop) (conn : ℕ) (mind : Mind) → l.moment ≡ at
-      → Sees (fed r l.moment (begun conn (calling plan caller l) mind) (Begins caller.engine plan.rbc (next_u64 l.words).0)).0
-      (fed r l.moment (begun conn (calling plan caller l) mind) (Begins caller.engine plan.rbc (next_u64 l.words).0)).1 []
+      → (l : Loop ModelEnd) (conn : ℕ) (mind : Mind) → l.moment ≡ at
+      → Sees (fed model_ends r l.moment (begun conn (calling model_ends plan caller l) mind) (Begins caller.engine plan.rbc (next_u64 l.words).0)).0
+      (fed model_ends r l.moment (begun conn (calling model_ends plan caller l) mind) (Begins caller.engine plan.rbc (next_u64 l.words).0)).1 []
   unfolding has_failed
   first caller at key l conn mind now = record {
     told = printings.first_told steps made plan allowed caller at key l conn mind now;
-    fault = begins_none l.moment (begun conn (calling plan caller l) mind) caller.engine plan.rbc (next_u64 l.words).0;
+    fault = begins_none l.moment (begun conn (calling model_ends plan caller l) mind) caller.engine plan.rbc (next_u64 l.words).0;
     over = λ p. absurd (true≢false (sym p));
   }
 
-  told_in : (s : Option Session) (conn : ℕ) (xs : List Entry) (cs : List Call) → Fits plan Q q_calls own Sees IsTold keeps s conn xs cs → IsTold xs cs
+  told_in : (s : Option (Session ModelEnd)) (conn : ℕ) (xs : List Entry) (cs : List Call) → Fits plan Q q_calls own Sees IsTold keeps s conn xs cs → IsTold xs cs
   unfolding Fits
   told_in None conn xs cs h = h
   told_in (Some s) conn xs cs h = h.1.fault
@@ -383,7 +383,7 @@ module _ (steps : StepsAlike) (made : MadeStands) (shows : ShowsAlike) (stays : 
   before_of conn (x ∷ xs) h =
       elim (cases_Bool (is_fault x.event)) [ inl p ↦ rw p refl | inr p ↦ rw (p, h.0) (ap (λ z. x ∷ z) (before_of conn xs h.1)) ]
 
-  all_so : (o : Out Course) → Knows plan Q q_calls own Sees IsTold keeps o.entries o.calls o.state.loop.sessions → AreFaultsTold plan o
+  all_so : (o : Out (Course ModelEnd)) → Knows plan Q q_calls own Sees IsTold keeps o.entries o.calls o.state.loop.sessions → AreFaultsTold plan o
   all_so o k conn =
       let xs = of conn o.entries in
       let cs = calls_at conn o.calls in
@@ -391,12 +391,12 @@ module _ (steps : StepsAlike) (made : MadeStands) (shows : ShowsAlike) (stays : 
       ∙ ap (λ z. one_if (has_failed cs && not (is_gone z)))
       (sym (printings.at_own steps made plan allowed conn None (before_fault xs) ∙ ap (λ z. printings.Behind steps made plan allowed None z) (before_of conn xs (are_of conn o.entries))))
 
-  serving : (c : Course) (turns : List Turn) → IsServing plan c turns → AreFaultsTold plan (run plan c turns)
-  serving c turns h = all_so (run plan c turns) (knows_run plan Q q_calls own Sees IsTold keeps c turns h.none h.rises)
+  serving : (c : Course ModelEnd) (turns : List Turn) → IsServing plan c turns → AreFaultsTold plan (run model_ends plan c turns)
+  serving c turns h = all_so (run model_ends plan c turns) (knows_run plan Q q_calls own Sees IsTold keeps c turns h.none h.rises)
 
-  dialling : (caller : Caller) (c : Course) (address : List ℕ) (a : Dialled) → IsDialling plan caller c address a → AreFaultsTold plan (dials plan caller c address a)
+  dialling : (caller : Caller) (c : Course ModelEnd) (address : List ℕ) (a : Dialled) → IsDialling plan caller c address a → AreFaultsTold plan (dials model_ends plan caller c address a)
   dialling caller c address a h =
-      all_so (dials plan caller c address a)
+      all_so (dials model_ends plan caller c address a)
       (knows_dial plan caller IsNoFault Q q_steady usual q_calls own Sees IsTold keeps (max c.loop.moment a.first)
       (first caller (max c.loop.moment a.first) h.key) c address a h.none refl h.rises)
 

@@ -1,4 +1,5 @@
 -- The octets given to a connection are a beginning of those of its outcomes.
+use Rattle.loop_model.specs.Ends.{ModelEnd, model_ends}
 use Rattle.std.proofs.Common.{◌≡◌, ℕ, max, inl, inr, Bool, true, false, ◌||◌, List, [], ◌∷◌, ◌++◌, drop, take, Option, Some, None, refl, sym, ◌∙◌, ap, append-nil, append_assoc, true≢false, take-append-drop}
 use Rattle.std.specs.Prelude.{◌==◌}
 use Rattle.std.proofs.lemmas.Bool.{cases_Bool}
@@ -70,21 +71,21 @@ given_at conn (call ∷ cs) = given_step conn call cs (given_at conn cs)
 -- ---- one session
 
 -- what waited and what came are what was given and a rest; and all but what waits was given, unless it broke off
-pub record Gives (s t : Session) (xs : List Entry) (cs : List Call) : Type 0 where
+pub record Gives (s t : Session ModelEnd) (xs : List Entry) (cs : List Call) : Type 0 where
   pub rest : List ℕ
   pub is : s.output ++ octets_of xs ≡ given_in cs ++ rest
   pub whole : t.broken ≡ false → (s.broken ≡ false) × (rest ≡ t.output)
   pub silent : s.broken ≡ true → given_in cs ≡ []
 
-waits : (s t : Session) (xs : List Entry) → t.output ≡ s.output ++ octets_of xs → (t.broken ≡ false → s.broken ≡ false) → Gives s t xs []
+waits : (s t : Session ModelEnd) (xs : List Entry) → t.output ≡ s.output ++ octets_of xs → (t.broken ≡ false → s.broken ≡ false) → Gives s t xs []
 unfolding given_in
 waits s t xs e f = record { rest = s.output ++ octets_of xs; is = refl; whole = λ p. (f p, sym e); silent = λ p. refl }
 
-breaks_off : (s t : Session) (xs : List Entry) → t.broken ≡ true → Gives s t xs []
+breaks_off : (s t : Session ModelEnd) (xs : List Entry) → t.broken ≡ true → Gives s t xs []
 unfolding given_in
 breaks_off s t xs e = record { rest = s.output ++ octets_of xs; is = refl; whole = λ p. absurd (true≢false (sym e ∙ p)); silent = λ p. refl }
 
-gives_then : (s t u : Session) (xs ys : List Entry) (cs ds : List Call) → Gives s t xs cs → Gives t u ys ds → Gives s u (xs ++ ys) (cs ++ ds)
+gives_then : (s t u : Session ModelEnd) (xs ys : List Entry) (cs ds : List Call) → Gives s t xs cs → Gives t u ys ds → Gives s u (xs ++ ys) (cs ++ ds)
 gives_then s t u xs ys cs ds a b =
     elim (cases_Bool t.broken) [
       | inl p ↦ record {
@@ -124,12 +125,12 @@ steady r = record {
   none = λ s. waits s s [] (sym (append-nil s.output)) (λ p. p);
   then_ = gives_then;
   given = λ m s g allowed fits.
-      let os = octets_in (outcomes_of r m s.end g) in
-      waits s (record s { end = end_after r m s.end g; output = s.output ++ os; broken = s.broken || breaks g }) (entry_of r m s g ∷ [])
+      let os = octets_in (outcomes_of model_ends r m s.end g) in
+      waits s (record s { end = end_after model_ends r m s.end g; output = s.output ++ os; broken = s.broken || breaks g }) (entry_of model_ends r m s g ∷ [])
       (ap (λ z. s.output ++ z) (sym (append-nil os))) (or_left s.broken (breaks g));
   stalls = λ m s g allowed fits.
-      breaks_off s (record s { end = end_after r m (end_after r m s.end g) Stalls; broken = true })
-      (entry_of r m s g ∷ entry_of r m (record s { end = end_after r m s.end g }) Stalls ∷ []) refl;
+      breaks_off s (record s { end = end_after model_ends r m (end_after model_ends r m s.end g) Stalls; broken = true })
+      (entry_of model_ends r m s g ∷ entry_of model_ends r m (record s { end = end_after model_ends r m s.end g }) Stalls ∷ []) refl;
   heard = λ s mind. waits s (record s { mind = mind }) [] (sym (append-nil s.output)) (λ p. p);
   parts = λ s at gone. waits s (record s { mind = None; closing = Some at }) [] (sym (append-nil s.output)) (λ p. p);
 }
@@ -137,7 +138,7 @@ steady r = record {
 take_and_drop : (n : ℕ) (xs : List ℕ) → take n xs ++ drop n xs ≡ xs
 take_and_drop n xs = take-append-drop n xs
 
-bare_call : (s : Session) (call : Call) → gives call ≡ [] → Gives s s [] (call ∷ [])
+bare_call : (s : Session ModelEnd) (call : Call) → gives call ≡ [] → Gives s s [] (call ∷ [])
 unfolding given_in octets_of
 bare_call s call none = record {
   rest = s.output;
@@ -163,7 +164,7 @@ bare = record {
 pub all_given : AllGiven (λ g. Unit {0})
 all_given = record { usual = record { sends = λ text. tt; leaves = λ sub. tt; takes = tt }; hears = λ octets. tt; ticks = tt; ends = tt; faults = tt }
 
-abbrev pub Q : Session → Session → List Entry → List Call → Type 0
+abbrev pub Q : Session ModelEnd → Session ModelEnd → List Entry → List Call → Type 0
 Q = Both Own Gives
 
 pub q_steady : (r : Rules) → Steady r (λ g. Unit {0}) Q
@@ -179,7 +180,7 @@ q_calls r = all_left_of r Q (q_each r)
 
 -- ---- a session and all that came at it
 
-pub record Given_so (s : Session) (xs : List Entry) (cs : List Call) : Type 0 where
+pub record Given_so (s : Session ModelEnd) (xs : List Entry) (cs : List Call) : Type 0 where
   pub rest : List ℕ
   pub is : given_in cs ++ rest ≡ octets_of xs
   pub whole : s.broken ≡ false → rest ≡ s.output
@@ -187,7 +188,7 @@ pub record Given_so (s : Session) (xs : List Entry) (cs : List Call) : Type 0 wh
 abbrev Gone : List Entry → List Call → Type 0
 Gone xs cs = IsBeginning (given_in cs) (octets_of xs)
 
-pub more : (s t : Session) (xs ys : List Entry) (cs ds : List Call) → Given_so s xs cs → Gives s t ys ds → Given_so t (xs ++ ys) (cs ++ ds)
+pub more : (s t : Session ModelEnd) (xs ys : List Entry) (cs ds : List Call) → Given_so s xs cs → Gives s t ys ds → Given_so t (xs ++ ys) (cs ++ ds)
 more s t xs ys cs ds h q =
     elim (cases_Bool s.broken) [
       | inl p ↦ record {
@@ -231,25 +232,25 @@ keeps plan = record {
   unserved = λ m conn handed. record { rest = []; is = refl };
 }
 
-given_so : (plan : Plan) (s : Option Session) (conn : ℕ) (xs : List Entry) (cs : List Call)
+given_so : (plan : Plan) (s : Option (Session ModelEnd)) (conn : ℕ) (xs : List Entry) (cs : List Call)
     → Fits plan Q (q_calls (rules_of plan)) (λ s t xs cs p. p.0) Given_so Gone (keeps plan) s conn xs cs → IsBeginning (given_in cs) (octets_of xs)
 unfolding Fits
 given_so plan None conn xs cs h = h
 given_so plan (Some s) conn xs cs h = record { rest = h.1.rest; is = h.1.is }
 
 -- the session that a dial opens
-first : (plan : Plan) (caller : Caller) (l : Loop) (conn : ℕ) (mind : Mind)
-    → Given_so (fed (rules_of plan) l.moment (begun conn (calling plan caller l) mind) (Begins caller.engine plan.rbc (next_u64 l.words).0)).0
-    (fed (rules_of plan) l.moment (begun conn (calling plan caller l) mind) (Begins caller.engine plan.rbc (next_u64 l.words).0)).1 []
+first : (plan : Plan) (caller : Caller) (l : Loop ModelEnd) (conn : ℕ) (mind : Mind)
+    → Given_so (fed model_ends (rules_of plan) l.moment (begun conn (calling model_ends plan caller l) mind) (Begins caller.engine plan.rbc (next_u64 l.words).0)).0
+    (fed model_ends (rules_of plan) l.moment (begun conn (calling model_ends plan caller l) mind) (Begins caller.engine plan.rbc (next_u64 l.words).0)).1 []
 unfolding given_in octets_of
 first plan caller l conn mind =
     let r = rules_of plan in
-    let s = begun conn (calling plan caller l) mind in
+    let s = begun conn (calling model_ends plan caller l) mind in
     let g = Begins caller.engine plan.rbc (next_u64 l.words).0 in
-    let f = fed r l.moment s g in
+    let f = fed model_ends r l.moment s g in
     more s f.0 [] f.1 [] [] (record { rest = []; is = refl; whole = λ p. refl }) (steady_fed r (λ g. Unit {0}) Gives (steady r) all_given.usual l.moment s g tt)
 
-all_so : (plan : Plan) (o : Out Course)
+all_so : (plan : Plan) (o : Out (Course ModelEnd))
     → Knows plan Q (q_calls (rules_of plan)) (λ s t xs cs p. p.0) Given_so Gone (keeps plan) o.entries o.calls o.state.loop.sessions → AreAccounted o
 all_so plan o k conn =
     rw (given_at conn o.calls)
@@ -258,10 +259,10 @@ all_so plan o k conn =
 pub accounted : OctetsAreAccounted
 accounted = record {
   serving = λ plan c turns h.
-      all_so plan (run plan c turns)
+      all_so plan (run model_ends plan c turns)
       (knows_run plan Q (q_calls (rules_of plan)) (λ s t xs cs p. p.0) Given_so Gone (keeps plan) c turns h.none h.rises);
   dialling = λ plan caller c address a h.
-      all_so plan (dials plan caller c address a)
+      all_so plan (dials model_ends plan caller c address a)
       (knows_dial plan caller (λ g. Unit {0}) Q (q_steady (rules_of plan)) all_given.usual (q_calls (rules_of plan)) (λ s t xs cs p. p.0) Given_so Gone (keeps plan)
       (max c.loop.moment a.first) (λ l conn mind now. first plan caller l conn mind) c address a h.none refl h.rises);
 }

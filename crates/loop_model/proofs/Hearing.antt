@@ -1,9 +1,9 @@
 -- The joined octets of a connection's events are those taken from it, or a beginning of them where it stalled.
+use Rattle.loop_model.specs.Ends.{ModelEnd, model_ends, used_of}
 use Rattle.std.proofs.Common.{◌≡◌, ℕ, zero, suc, ◌+◌, ◌-◌, ◌≤◌, max, inl, inr, Bool, true, false, ◌||◌, List, [], ◌∷◌, ◌++◌, length, take, drop, Option, Some, None, refl, sym, ◌∙◌, ap, subst, append-nil, append_assoc, arith, true≢false, take-append-drop, length-drop, eq-eqb, ne_eqb}
 use Rattle.std.specs.Prelude.{nat_lt, ◌==◌, is_some}
 use Rattle.std.proofs.lemmas.Bool.{cases_Bool}
-use Rattle.er_end.specs.KeptEnds.{KEnd, used_of}
-use Rattle.er_end.specs.Keeping.{ReleaseStays, BreaksRelease, Uses}
+use Rattle.loop_model.proofs.EndKeepings.{ReleaseStays, BreaksRelease, Uses}
 use Rattle.er_users.specs.Users.{Mind}
 use Rattle.rand_core.specs.Stream.{next_u64}
 use Rattle.link_trait.specs.Wires.{Call, Listens, Dials, Turns, Reads, Writes, Closes, Reading, Gave, NotNow, End, Failed, taken_of}
@@ -110,7 +110,7 @@ IsUnheard Ends = Unit {0}
 IsUnheard Faults = Unit {0}
 IsUnheard Stalls = Unit {0}
 
-none_heard : (k : KEnd) (g : Given) → IsUnheard g → heard_by (written k g) ≡ []
+none_heard : (k : ModelEnd) (g : Given) → IsUnheard g → heard_by (written model_ends k g) ≡ []
 none_heard k (Begins engine rbc rb) p = refl
 none_heard k (Hears octets) p = absurd p
 none_heard k (Sends text) p = refl
@@ -121,7 +121,7 @@ none_heard k Ends p = refl
 none_heard k Faults p = refl
 none_heard k Stalls p = refl
 
-Unheard : Session → Session → List Entry → List Call → Type 0
+Unheard : Session ModelEnd → Session ModelEnd → List Entry → List Call → Type 0
 Unheard s t xs cs = heard_of xs ≡ []
 
 unheard : (r : Rules) → Steady r IsUnheard Unheard
@@ -138,7 +138,7 @@ unheard r = record {
 usual_unheard : Usual IsUnheard
 usual_unheard = record { sends = λ text. tt; leaves = λ sub. tt; takes = tt }
 
-calm : (k : KEnd) (g : Given) → breaks g ≡ false → is_stalled (written k g) ≡ false
+calm : (k : ModelEnd) (g : Given) → breaks g ≡ false → is_stalled (written model_ends k g) ≡ false
 calm k (Begins engine rbc rb) p = refl
 calm k (Hears octets) p = refl
 calm k (Sends text) p = refl
@@ -150,7 +150,7 @@ calm k Faults p = absurd (true≢false p)
 calm k Stalls p = absurd (true≢false p)
 
 -- it breaks off only where it stalls
-Breaks : Session → Session → List Entry → List Call → Type 0
+Breaks : Session ModelEnd → Session ModelEnd → List Entry → List Call → Type 0
 Breaks s t xs cs = has_stalled xs ≡ false → s.broken ≡ false → t.broken ≡ false
 
 abbrev IsWhole : Given → Type 0
@@ -162,7 +162,7 @@ breaking r = record {
   none = λ s calm whole. whole;
   then_ = λ s t u xs ys cs ds p q calm whole. q (rest_calm xs ys calm) (p (first_calm xs ys calm) whole);
   given = λ m s g allowed fits calm whole. or_none s.broken (breaks g) whole allowed;
-  stalls = λ m s g allowed fits calm whole. absurd (true≢false (or_second (is_stalled (written s.end g)) true calm));
+  stalls = λ m s g allowed fits calm whole. absurd (true≢false (or_second (is_stalled (written model_ends s.end g)) true calm));
   heard = λ s mind calm whole. whole;
   parts = λ s at gone calm whole. whole;
 }
@@ -172,14 +172,14 @@ usual_whole = record { sends = λ text. refl; leaves = λ sub. refl; takes = ref
 
 module _ (stays : ReleaseStays) (breaks_release : BreaksRelease) (uses : Uses) (r : Rules) where
   -- a session that isn't released wasn't before, and didn't stall
-  Gone : Session → Session → List Entry → List Call → Type 0
-  Gone s t xs cs = is_released t ≡ false → (is_released s ≡ false) × (has_stalled xs ≡ false)
+  Gone : Session ModelEnd → Session ModelEnd → List Entry → List Call → Type 0
+  Gone s t xs cs = is_released model_ends t ≡ false → (is_released model_ends s ≡ false) × (has_stalled xs ≡ false)
 
-  not_released : (m : ℕ) (k : KEnd) (g : Given) → is_some (end_after r m k g).core.released ≡ false → is_some k.core.released ≡ false
+  not_released : (m : ℕ) (k : ModelEnd) (g : Given) → is_some (end_after model_ends r m k g).core.released ≡ false → is_some k.core.released ≡ false
   not_released m k g p =
       elim (cases_Bool (is_some k.core.released)) [ inl q ↦ absurd (true≢false (sym (stays_released stays breaks_release r m k g q) ∙ p)) | inr q ↦ q ]
 
-  not_breaking : (m : ℕ) (k : KEnd) (g : Given) → is_some (end_after r m k g).core.released ≡ false → breaks g ≡ false
+  not_breaking : (m : ℕ) (k : ModelEnd) (g : Given) → is_some (end_after model_ends r m k g).core.released ≡ false → breaks g ≡ false
   not_breaking m k g p =
       elim (cases_Bool (breaks g)) [ inl q ↦ absurd (true≢false (sym (breaks_released stays breaks_release r m k g q) ∙ p)) | inr q ↦ q ]
 
@@ -188,8 +188,8 @@ module _ (stays : ReleaseStays) (breaks_release : BreaksRelease) (uses : Uses) (
   gone = record {
     none = λ s p. (p, refl);
     then_ = λ s t u xs ys cs ds p q e. let b = q e in let a = p b.0 in (a.0, both_calm xs ys a.1 b.1);
-    given = λ m s g allowed fits p. (not_released m s.end g p, or_none (is_stalled (written s.end g)) false (calm s.end g (not_breaking m s.end g p)) refl);
-    stalls = λ m s g allowed fits p. absurd (true≢false (sym (breaks_released stays breaks_release r m (end_after r m s.end g) Stalls refl) ∙ p));
+    given = λ m s g allowed fits p. (not_released m s.end g p, or_none (is_stalled (written model_ends s.end g)) false (calm s.end g (not_breaking m s.end g p)) refl);
+    stalls = λ m s g allowed fits p. absurd (true≢false (sym (breaks_released stays breaks_release r m (end_after model_ends r m s.end g) Stalls refl) ∙ p));
     heard = λ s mind p. (p, refl);
     parts = λ s at gone p. absurd (true≢false (sym gone ∙ p));
   }
@@ -199,35 +199,35 @@ module _ (stays : ReleaseStays) (breaks_release : BreaksRelease) (uses : Uses) (
 
   -- ---- a read
 
-  joined_heard : (m : ℕ) (s : Session) (octets : List ℕ) → heard_of (joined r m s octets).1 ≡ []
+  joined_heard : (m : ℕ) (s : Session ModelEnd) (octets : List ℕ) → heard_of (joined model_ends r m s octets).1 ≡ []
   unfolding joined heard_of
   joined_heard m s octets =
       elim (cases_Bool (nat_lt most_output (length s.output + length octets))) [ inl p ↦ rw p refl | inr p ↦ rw p refl ]
 
-  fed_heard : (m : ℕ) (s : Session) (octets : List ℕ) → heard_of (fed r m s (Hears octets)).1 ≡ take (used_of s.end octets) octets
+  fed_heard : (m : ℕ) (s : Session ModelEnd) (octets : List ℕ) → heard_of (fed model_ends r m s (Hears octets)).1 ≡ take (used_of s.end octets) octets
   unfolding fed heard_of
   fed_heard m s octets =
       let g = Hears octets in
-      let t : Session = record s { end = end_after r m s.end g; broken = s.broken || breaks g } in
-      ap (λ z. take (used_of s.end octets) octets ++ z) (joined_heard m t (octets_in (outcomes_of r m s.end g))) ∙ append-nil (take (used_of s.end octets) octets)
+      let t : Session ModelEnd = record s { end = end_after model_ends r m s.end g; broken = s.broken || breaks g } in
+      ap (λ z. take (used_of s.end octets) octets ++ z) (joined_heard m t (octets_in (outcomes_of model_ends r m s.end g))) ∙ append-nil (take (used_of s.end octets) octets)
 
-  handled_heard : (m : ℕ) (s : Session) (octets : List ℕ) (says : Says) → heard_of (handled r m s (Hears octets) says).1 ≡ take (used_of s.end octets) octets
+  handled_heard : (m : ℕ) (s : Session ModelEnd) (octets : List ℕ) (says : Says) → heard_of (handled model_ends r m s (Hears octets) says).1 ≡ take (used_of s.end octets) octets
   unfolding Unheard
   handled_heard m s octets says =
       let f = follows_handled r IsUnheard Unheard (unheard r) usual_unheard m s (Hears octets) says in
       ap heard_of f.is
-      ∙ heard_of-append (fed r m s (Hears octets)).1 f.rest
-      ∙ ap (λ z. heard_of (fed r m s (Hears octets)).1 ++ z) f.holds
-      ∙ append-nil (heard_of (fed r m s (Hears octets)).1)
+      ∙ heard_of-append (fed model_ends r m s (Hears octets)).1 f.rest
+      ∙ ap (λ z. heard_of (fed model_ends r m s (Hears octets)).1 ++ z) f.holds
+      ∙ append-nil (heard_of (fed model_ends r m s (Hears octets)).1)
       ∙ fed_heard m s octets
 
-  abbrev Done : Session × List ℕ → Type 0
+  abbrev Done : Session ModelEnd × List ℕ → Type 0
   Done x = ((length x.1 == 0) || x.0.broken) ≡ true
 
-  pours_heard : (m : ℕ) (x : Session × List ℕ) (says : List Says) → heard_of (runs (poured r m) x says).1 ++ (runs (poured r m) x says).0.1 ≡ x.1
+  pours_heard : (m : ℕ) (x : Session ModelEnd × List ℕ) (says : List Says) → heard_of (runs (poured model_ends r m) x says).1 ++ (runs (poured model_ends r m) x says).0.1 ≡ x.1
   unfolding poured heard_of
   pours_heard m x says =
-      runs_lift (λ (x y : Session × List ℕ) xs. heard_of xs ++ y.1 ≡ x.1) (poured r m) (λ x. refl)
+      runs_lift (λ (x y : Session ModelEnd × List ℕ) xs. heard_of xs ++ y.1 ≡ x.1) (poured model_ends r m) (λ x. refl)
       (λ x y z xs ys p q. ap (λ w. w ++ z.1) (heard_of-append xs ys) ∙ append_assoc (heard_of xs) (heard_of ys) z.1 ∙ ap (λ w. heard_of xs ++ w) q ∙ p)
       (λ x a. elim (cases_Bool ((length x.1 == 0) || x.0.broken)) [
         | inl p ↦ rw p refl
@@ -235,47 +235,47 @@ module _ (stays : ReleaseStays) (breaks_release : BreaksRelease) (uses : Uses) (
       ])
       x says
 
-  runs_done : (m : ℕ) (x : Session × List ℕ) → Done x → (says : List Says) → (runs (poured r m) x says).0 ≡ x
+  runs_done : (m : ℕ) (x : Session ModelEnd × List ℕ) → Done x → (says : List Says) → (runs (poured model_ends r m) x says).0 ≡ x
   unfolding runs poured
   runs_done m x p [] = refl
   runs_done m x p (a ∷ says) = rw p (runs_done m x p says)
 
-  dropped : (k : KEnd) (xs : List ℕ) (n : ℕ) (b : Bool) → ((length xs == 0) || b) ≡ false → length xs ≤ suc n → length (drop (used_of k xs) xs) ≤ n
+  dropped : (k : ModelEnd) (xs : List ℕ) (n : ℕ) (b : Bool) → ((length xs == 0) || b) ≡ false → length xs ≤ suc n → length (drop (used_of k xs) xs) ≤ n
   dropped k [] n b p q = absurd (true≢false p)
   dropped k (x ∷ xs) n b p q =
       let one : 1 ≤ used_of k (x ∷ xs) = uses.one k x xs in
       let l : length (drop (used_of k (x ∷ xs)) (x ∷ xs)) ≡ length (x ∷ xs) - used_of k (x ∷ xs) = length-drop (used_of k (x ∷ xs)) (x ∷ xs) in
       omega arith
 
-  poured_on : (m n : ℕ) (says : List Says) (a : Says) (x : Session × List ℕ) → length x.1 ≤ suc n
-      → ((y : Session × List ℕ) → length y.1 ≤ n → Done (runs (poured r m) y (exactly n nothing_said says)).0)
-      → Done (runs (poured r m) (poured r m x a).0 (exactly n nothing_said says)).0
+  poured_on : (m n : ℕ) (says : List Says) (a : Says) (x : Session ModelEnd × List ℕ) → length x.1 ≤ suc n
+      → ((y : Session ModelEnd × List ℕ) → length y.1 ≤ n → Done (runs (poured model_ends r m) y (exactly n nothing_said says)).0)
+      → Done (runs (poured model_ends r m) (poured model_ends r m x a).0 (exactly n nothing_said says)).0
   unfolding poured
   poured_on m n says a x q on =
       elim (cases_Bool ((length x.1 == 0) || x.0.broken)) [
         | inl p ↦ rw p (subst Done (sym (runs_done m x p (exactly n nothing_said says))) p)
-        | inr p ↦ rw p (on ((handled r m x.0 (Hears x.1) a).0, drop (used_of x.0.end x.1) x.1) (dropped x.0.end x.1 n x.0.broken p q))
+        | inr p ↦ rw p (on ((handled model_ends r m x.0 (Hears x.1) a).0, drop (used_of x.0.end x.1) x.1) (dropped x.0.end x.1 n x.0.broken p q))
       ]
 
-  all_poured : (m n : ℕ) (says : List Says) (x : Session × List ℕ) → length x.1 ≤ n → Done (runs (poured r m) x (exactly n nothing_said says)).0
+  all_poured : (m n : ℕ) (says : List Says) (x : Session ModelEnd × List ℕ) → length x.1 ≤ n → Done (runs (poured model_ends r m) x (exactly n nothing_said says)).0
   unfolding runs exactly
   all_poured m zero says x q =
       ap (λ z. z || x.0.broken) (eq-eqb (length x.1) 0 (omega arith))
   all_poured m (suc n) [] x q = poured_on m n [] nothing_said x q (λ y l. all_poured m n [] y l)
   all_poured m (suc n) (a ∷ says) x q = poured_on m n says a x q (λ y l. all_poured m n says y l)
 
-  record Heard (s t : Session) (xs : List Entry) (cs : List Call) : Type 0 where
+  record Heard (s t : Session ModelEnd) (xs : List Entry) (cs : List Call) : Type 0 where
     sound : Sound t
     rest : List ℕ
     is : heard_of xs ++ rest ≡ taken_in cs
     whole : has_stalled xs ≡ false → rest ≡ []
-    gone : is_released t ≡ false → (is_released s ≡ false) × (has_stalled xs ≡ false)
-    silent : is_released s ≡ true → (heard_of xs ≡ []) × (taken_in cs ≡ [])
+    gone : is_released model_ends t ≡ false → (is_released model_ends s ≡ false) × (has_stalled xs ≡ false)
+    silent : is_released model_ends s ≡ true → (heard_of xs ≡ []) × (taken_in cs ≡ [])
 
-  Hearing : Session → Session → List Entry → List Call → Type 0
+  Hearing : Session ModelEnd → Session ModelEnd → List Entry → List Call → Type 0
   Hearing s t xs cs = Sound s → Heard s t xs cs
 
-  silently : (s t : Session) (xs : List Entry) (cs : List Call) → Sound t → heard_of xs ≡ [] → taken_in cs ≡ [] → Gone s t xs [] → Heard s t xs cs
+  silently : (s t : Session ModelEnd) (xs : List Entry) (cs : List Call) → Sound t → heard_of xs ≡ [] → taken_in cs ≡ [] → Gone s t xs [] → Heard s t xs cs
   unfolding Gone
   silently s t xs cs sound p q g = record {
     sound = sound;
@@ -289,9 +289,9 @@ module _ (stays : ReleaseStays) (breaks_release : BreaksRelease) (uses : Uses) (
   two_nil : (xs ys : List ℕ) → xs ≡ [] → ys ≡ [] → xs ++ ys ≡ []
   two_nil xs ys p q = ap (λ z. z ++ ys) p ∙ q
 
-  heard_then : (s t u : Session) (xs ys : List Entry) (cs ds : List Call) → Heard s t xs cs → Heard t u ys ds → Heard s u (xs ++ ys) (cs ++ ds)
+  heard_then : (s t u : Session ModelEnd) (xs ys : List Entry) (cs ds : List Call) → Heard s t xs cs → Heard t u ys ds → Heard s u (xs ++ ys) (cs ++ ds)
   heard_then s t u xs ys cs ds a b =
-      elim (cases_Bool (is_released t)) [
+      elim (cases_Bool (is_released model_ends t)) [
         | inl p ↦ record {
           sound = b.sound;
           rest = a.rest;
@@ -324,17 +324,17 @@ module _ (stays : ReleaseStays) (breaks_release : BreaksRelease) (uses : Uses) (
       ]
 
   -- events, none of which is octets, and a call that takes nothing
-  handled_silent : (m : ℕ) (s : Session) (g : Given) (says : Says) (call : Call) → IsUnheard g → takes call ≡ []
-      → Hearing s (handled r m s g says).0 (handled r m s g says).1 (call ∷ [])
+  handled_silent : (m : ℕ) (s : Session ModelEnd) (g : Given) (says : Says) (call : Call) → IsUnheard g → takes call ≡ []
+      → Hearing s (handled model_ends r m s g says).0 (handled model_ends r m s g says).1 (call ∷ [])
   unfolding Hearing Sounds Unheard taken_in
   handled_silent m s g says call p q sound =
-      silently s (handled r m s g says).0 (handled r m s g says).1 (call ∷ [])
+      silently s (handled model_ends r m s g says).0 (handled model_ends r m s g says).1 (call ∷ [])
       (steady_handled r (λ g. Unit {0}) Sounds (sounds_steadily stays breaks_release r) any_usual m s g says tt sound)
       (steady_handled r IsUnheard Unheard (unheard r) usual_unheard m s g says p)
       (ap (λ z. z ++ []) q)
       (steady_handled r (λ g. Unit {0}) Gone gone any_usual m s g says tt)
 
-  still_sound : (s : Session) (output : List ℕ) → Sound s → Sound (record s { output = output })
+  still_sound : (s : Session ModelEnd) (output : List ℕ) → Sound s → Sound (record s { output = output })
   still_sound s output h = record { broken = h.broken; closing = h.closing }
 
   length_none : (xs : List ℕ) (b : Bool) → ((length xs == 0) || b) ≡ true → b ≡ false → xs ≡ []
@@ -342,15 +342,15 @@ module _ (stays : ReleaseStays) (breaks_release : BreaksRelease) (uses : Uses) (
   length_none (x ∷ xs) b p q =
       absurd (true≢false (sym p ∙ or_none (length (x ∷ xs) == 0) b (ne_eqb (length (x ∷ xs)) 0 (λ e. let y : ⊥ = omega arith in y)) q))
 
-  whole_of : (s : Session) → Sound s → is_released s ≡ false → s.broken ≡ false
+  whole_of : (s : Session ModelEnd) → Sound s → is_released model_ends s ≡ false → s.broken ≡ false
   whole_of s sound live = elim (cases_Bool s.broken) [ inl p ↦ absurd (true≢false (sym (sound.broken p) ∙ live)) | inr p ↦ p ]
 
-  read_heard : (m : ℕ) (s : Session) (waits : ℕ) (reading : Reading) (says : List Says) → is_released s ≡ false
-      → Hearing s (came reading r m s says).0 (came reading r m s says).1 (Reads s.number most_read waits reading ∷ [])
+  read_heard : (m : ℕ) (s : Session ModelEnd) (waits : ℕ) (reading : Reading) (says : List Says) → is_released model_ends s ≡ false
+      → Hearing s (came model_ends reading r m s says).0 (came model_ends reading r m s says).1 (Reads s.number most_read waits reading ∷ [])
   unfolding Hearing Sounds Breaks Gone taken_in pours heard_of has_stalled
   read_heard m s waits (Gave octets) says live sound =
       let rounds = exactly (length octets) nothing_said says in
-      let y = runs (poured r m) (s, octets) rounds in
+      let y = runs (poured model_ends r m) (s, octets) rounds in
       record {
         sound = steady_pours r (λ g. Unit {0}) Sounds (sounds_steadily stays breaks_release r) any_usual (λ octets. tt) m s octets says sound;
         rest = y.0.1;
@@ -376,7 +376,7 @@ module _ (stays : ReleaseStays) (breaks_release : BreaksRelease) (uses : Uses) (
     failed_released = λ s over sound.
         silently s (record s { broken = true }) [] (Writes s.number s.output write.Failed ∷ []) (record { broken = λ p. over; closing = sound.closing }) refl refl (λ p. (p, refl));
     ticked = λ m s says due sound.
-        silently s (handled r m s Ticks says).0 (handled r m s Ticks says).1 []
+        silently s (handled model_ends r m s Ticks says).0 (handled model_ends r m s Ticks says).1 []
         (steady_handled r (λ g. Unit {0}) Sounds (sounds_steadily stays breaks_release r) any_usual m s Ticks says tt sound)
         (steady_handled r IsUnheard Unheard (unheard r) usual_unheard m s Ticks says tt) refl
         (steady_handled r (λ g. Unit {0}) Gone gone any_usual m s Ticks says tt);
@@ -387,23 +387,23 @@ module _ (stays : ReleaseStays) (breaks_release : BreaksRelease) (uses : Uses) (
 
   -- ---- a session and all that came at it
 
-  record HeardTo (s : Session) (xs : List Entry) (cs : List Call) : Type 0 where
+  record HeardTo (s : Session ModelEnd) (xs : List Entry) (cs : List Call) : Type 0 where
     sound : Sound s
     rest : List ℕ
     is : heard_of xs ++ rest ≡ taken_in cs
     whole : has_stalled xs ≡ false → rest ≡ []
-    gone : is_released s ≡ false → has_stalled xs ≡ false
+    gone : is_released model_ends s ≡ false → has_stalled xs ≡ false
 
   record HeardAll (xs : List Entry) (cs : List Call) : Type 0 where
     rest : List ℕ
     is : heard_of xs ++ rest ≡ taken_in cs
     whole : has_stalled xs ≡ false → rest ≡ []
 
-  heard_to : (s t : Session) (xs ys : List Entry) (cs ds : List Call) → HeardTo s xs cs → Hearing s t ys ds → HeardTo t (xs ++ ys) (cs ++ ds)
+  heard_to : (s t : Session ModelEnd) (xs ys : List Entry) (cs ds : List Call) → HeardTo s xs cs → Hearing s t ys ds → HeardTo t (xs ++ ys) (cs ++ ds)
   unfolding Hearing
   heard_to s t xs ys cs ds h q =
       let b = q h.sound in
-      elim (cases_Bool (is_released s)) [
+      elim (cases_Bool (is_released model_ends s)) [
         | inl p ↦ record {
           sound = b.sound;
           rest = h.rest;
@@ -430,7 +430,7 @@ module _ (stays : ReleaseStays) (breaks_release : BreaksRelease) (uses : Uses) (
             }
       ]
 
-  abbrev Q : Session → Session → List Entry → List Call → Type 0
+  abbrev Q : Session ModelEnd → Session ModelEnd → List Entry → List Call → Type 0
   Q = Both Own Hearing
 
   any_given : AllGiven (λ g. Unit {0})
@@ -443,23 +443,23 @@ module _ (stays : ReleaseStays) (breaks_release : BreaksRelease) (uses : Uses) (
   unfolding taken_in
   closed_taken cs ds n = ap taken_in (sym (append_assoc cs ds (Closes n ∷ []))) ∙ taken_in-append (cs ++ ds) (Closes n ∷ []) ∙ append-nil (taken_in (cs ++ ds))
 
-new_sound : (conn : ℕ) (k : KEnd) (mind : Mind) → Sound (begun conn k mind)
+new_sound : (conn : ℕ) (k : ModelEnd) (mind : Mind) → Sound (begun conn k mind)
 new_sound conn k mind = record { broken = λ p. absurd (true≢false (sym p)); closing = λ p. absurd (true≢false (sym p)) }
 
 module _ (stays : ReleaseStays) (breaks_release : BreaksRelease) (uses : Uses) (plan : Plan) where
-  abbrev P : Session → Session → List Entry → List Call → Type 0
+  abbrev P : Session ModelEnd → Session ModelEnd → List Entry → List Call → Type 0
   P = Q stays breaks_release uses (rules_of plan)
 
   p_calls : AllLeft (rules_of plan) P
   p_calls = all_left_of (rules_of plan) P (q_calls stays breaks_release uses (rules_of plan))
 
-  abbrev To : Session → List Entry → List Call → Type 0
+  abbrev To : Session ModelEnd → List Entry → List Call → Type 0
   To = HeardTo stays breaks_release uses (rules_of plan)
 
   abbrev All : List Entry → List Call → Type 0
   All = HeardAll stays breaks_release uses (rules_of plan)
 
-  abbrev own : (s t : Session) (xs : List Entry) (cs : List Call) → P s t xs cs → Own s t xs cs
+  abbrev own : (s t : Session ModelEnd) (xs : List Entry) (cs : List Call) → P s t xs cs → Own s t xs cs
   own s t xs cs p = p.0
 
   keeps : Keeps plan P To All
@@ -470,7 +470,7 @@ module _ (stays : ReleaseStays) (breaks_release : BreaksRelease) (uses : Uses) (
         let m = heard_to stays breaks_release uses (rules_of plan) s t xs ys cs ds h q.1 in
         record { rest = m.rest; is = m.is ∙ sym (closed_taken stays breaks_release uses (rules_of plan) cs ds t.number); whole = m.whole };
     open_ = λ l conn mind. record {
-      sound = new_sound conn (answering plan l) mind;
+      sound = new_sound conn (answering model_ends plan l) mind;
       rest = [];
       is = refl;
       whole = λ p. refl;
@@ -481,32 +481,32 @@ module _ (stays : ReleaseStays) (breaks_release : BreaksRelease) (uses : Uses) (
     unserved = λ m conn handed. record { rest = []; is = refl; whole = λ p. refl };
   }
 
-  abbrev begins : Caller → Loop → Given
+  abbrev begins : Caller → Loop ModelEnd → Given
   begins caller l = Begins caller.engine plan.rbc (next_u64 l.words).0
 
-  first : (caller : Caller) (l : Loop) (conn : ℕ) (mind : Mind) (says : Says)
-      → To (handled (rules_of plan) l.moment (begun conn (calling plan caller l) mind) (begins caller l) says).0
-      (handled (rules_of plan) l.moment (begun conn (calling plan caller l) mind) (begins caller l) says).1 []
+  first : (caller : Caller) (l : Loop ModelEnd) (conn : ℕ) (mind : Mind) (says : Says)
+      → To (handled model_ends (rules_of plan) l.moment (begun conn (calling model_ends plan caller l) mind) (begins caller l) says).0
+      (handled model_ends (rules_of plan) l.moment (begun conn (calling model_ends plan caller l) mind) (begins caller l) says).1 []
   unfolding taken_in Unheard Gone Sounds
   first caller l conn mind says =
       let r = rules_of plan in
       let m = l.moment in
-      let s = begun conn (calling plan caller l) mind in
+      let s = begun conn (calling model_ends plan caller l) mind in
       let g = begins caller l in
       record {
-        sound = steady_handled r (λ g. Unit {0}) Sounds (sounds_steadily stays breaks_release r) (any_usual stays breaks_release uses r) m s g says tt (new_sound conn (calling plan caller l) mind);
+        sound = steady_handled r (λ g. Unit {0}) Sounds (sounds_steadily stays breaks_release r) (any_usual stays breaks_release uses r) m s g says tt (new_sound conn (calling model_ends plan caller l) mind);
         rest = [];
-        is = append-nil (heard_of (handled r m s g says).1) ∙ steady_handled r IsUnheard Unheard (unheard r) usual_unheard m s g says tt;
+        is = append-nil (heard_of (handled model_ends r m s g says).1) ∙ steady_handled r IsUnheard Unheard (unheard r) usual_unheard m s g says tt;
         whole = λ p. refl;
         gone = λ p. (steady_handled r (λ g. Unit {0}) (Gone stays breaks_release uses r) (gone stays breaks_release uses r) (any_usual stays breaks_release uses r) m s g says tt p).1;
       }
 
-  heard_so : (o : Option Session) (conn : ℕ) (xs : List Entry) (cs : List Call) → Fits plan P p_calls own To All keeps o conn xs cs → All xs cs
+  heard_so : (o : Option (Session ModelEnd)) (conn : ℕ) (xs : List Entry) (cs : List Call) → Fits plan P p_calls own To All keeps o conn xs cs → All xs cs
   unfolding Fits
   heard_so None conn xs cs h = h
   heard_so (Some s) conn xs cs h = record { rest = h.1.rest; is = h.1.is; whole = h.1.whole }
 
-  all_so : (o : Out Course) → Knows plan P p_calls own To All keeps o.entries o.calls o.state.loop.sessions → AreHeard o
+  all_so : (o : Out (Course ModelEnd)) → Knows plan P p_calls own To All keeps o.entries o.calls o.state.loop.sessions → AreHeard o
   all_so o k conn =
       let xs = of conn o.entries in
       let h = heard_so (session_of conn o.state.loop.sessions) conn xs (calls_at conn o.calls) (k.fits conn) in
@@ -518,11 +518,11 @@ module _ (stays : ReleaseStays) (breaks_release : BreaksRelease) (uses : Uses) (
 pub octets_are_heard : ReleaseStays → BreaksRelease → Uses → OctetsAreHeard
 octets_are_heard stays breaks_release uses = record {
   serving = λ plan c turns h.
-      all_so stays breaks_release uses plan (run plan c turns)
+      all_so stays breaks_release uses plan (run model_ends plan c turns)
       (knows_run plan (P stays breaks_release uses plan) (p_calls stays breaks_release uses plan) (own stays breaks_release uses plan) (To stays breaks_release uses plan)
       (All stays breaks_release uses plan) (keeps stays breaks_release uses plan) c turns h.none h.rises);
   dialling = λ plan caller c address a h.
-      all_so stays breaks_release uses plan (dials plan caller c address a)
+      all_so stays breaks_release uses plan (dials model_ends plan caller c address a)
       (knows_dial_of plan caller (P stays breaks_release uses plan) (p_calls stays breaks_release uses plan) (own stays breaks_release uses plan) (To stays breaks_release uses plan)
       (All stays breaks_release uses plan) (keeps stays breaks_release uses plan) (max c.loop.moment a.first)
       (λ l conn mind says now. first stays breaks_release uses plan caller l conn mind says) c address a h.none refl h.rises);

@@ -1,8 +1,8 @@
 -- Behind a turn no session is left that is to be closed.
+use Rattle.loop_model.specs.Ends.{ModelEnd, model_ends}
 use Rattle.std.proofs.Common.{ℕ, inl, inr, Bool, true, false, ◌&&◌, ◌||◌, List, [], ◌∷◌, ◌++◌, length, refl, sym, subst}
 use Rattle.std.specs.Prelude.{◌==◌, if◌then◌else◌}
 use Rattle.std.proofs.lemmas.Bool.{cases_Bool}
-use Rattle.er_end.specs.KeptEnds.{deadline_of, kept_opened}
 use Rattle.er_users.specs.Users.{Mind}
 use Rattle.link_trait.specs.Wires.{Call, Reading, Gave, NotNow, End, Failed}
 use Rattle.loop_model.specs.Journals.{Entry}
@@ -13,51 +13,50 @@ use Rattle.loop_model.specs.Loops.{Plan, rules_of, Loop, visit_at, begun, answer
 use Rattle.loop_model.specs.Turnings.{IsKept, AreKept, OthersAreClosed}
 use Rattle.loop_model.proofs.Loopwise.{Loopwise, wise_run}
 
-kept_settled : (s : Session) → AreKept (settled s).state
+kept_settled : (s : Session ModelEnd) → AreKept (settled model_ends s).state
 unfolding settled
-kept_settled s = elim (cases_Bool (s.broken || (is_released s && (length s.output == 0)))) [ inl p ↦ rw p tt | inr p ↦ subst (λ (b : Bool). AreKept (if b then closed s else stays s).state) (sym p) (p, tt) ]
+kept_settled s = elim (cases_Bool (s.broken || (is_released model_ends s && (length s.output == 0)))) [ inl p ↦ rw p tt | inr p ↦ subst (λ (b : Bool). AreKept (if b then closed s else stays s).state) (sym p) (p, tt) ]
 
-pub kept_rests : (r : Rules) (m : ℕ) (s : Session) (a : Wrote) → AreKept (rests r m s a).state
+pub kept_rests : (r : Rules) (m : ℕ) (s : Session ModelEnd) (a : Wrote) → AreKept (rests model_ends r m s a).state
 unfolding rests
-kept_rests r m s a = kept_settled (written r m s a).state
+kept_rests r m s a = kept_settled (written model_ends r m s a).state
 
-kept_behind : (r : Rules) (m : ℕ) (reading : Reading) (s : Session) (a : Met) → IsKept s → AreKept (rests_behind reading r m (came reading r m s a.says).0 a.wrote).state
-kept_behind r m (Gave octets) s a p = kept_rests r m (came (Gave octets) r m s a.says).0 a.wrote
+kept_behind : (r : Rules) (m : ℕ) (reading : Reading) (s : Session ModelEnd) (a : Met) → IsKept s → AreKept (rests_behind model_ends reading r m (came model_ends reading r m s a.says).0 a.wrote).state
+kept_behind r m (Gave octets) s a p = kept_rests r m (came model_ends (Gave octets) r m s a.says).0 a.wrote
 kept_behind r m NotNow s a p = (p, tt)
-kept_behind r m End s a p = kept_rests r m (came End r m s a.says).0 a.wrote
-kept_behind r m Failed s a p = kept_rests r m (came Failed r m s a.says).0 a.wrote
+kept_behind r m End s a p = kept_rests r m (came model_ends End r m s a.says).0 a.wrote
+kept_behind r m Failed s a p = kept_rests r m (came model_ends Failed r m s a.says).0 a.wrote
 
-kept_out : (b : Bool) (x y : Out (List Session)) → AreKept x.state → AreKept y.state → AreKept (if b then x else y).state
+kept_out : (b : Bool) (x y : Out (List (Session ModelEnd))) → AreKept x.state → AreKept y.state → AreKept (if b then x else y).state
 kept_out true x y p q = p
 kept_out false x y p q = q
 
-kept_visited : (r : Rules) (m : ℕ) (visit : Visit) (s : Session) (a : Met) → IsKept s → AreKept (visited r m visit s a).state
+kept_visited : (r : Rules) (m : ℕ) (visit : Visit) (s : Session ModelEnd) (a : Met) → IsKept s → AreKept (visited model_ends r m visit s a).state
 unfolding visited served read_once
 kept_visited r m Tick s a p =
-    let h = handled r m s Ticks (first_of nothing_said a.says) in
-    kept_out (is_due m (deadline_of s.end)) _ _ (kept_rests r m h.0 a.wrote) (p, tt)
-kept_visited r m Read s a p = kept_out (is_released s) _ _ (p, tt) (kept_behind r m a.reading s a p)
+    let h = handled model_ends r m s Ticks (first_of nothing_said a.says) in
+    kept_out (is_due m (model_ends.deadline s.end)) _ _ (kept_rests r m h.0 a.wrote) (p, tt)
+kept_visited r m Read s a p = kept_out (is_released model_ends s) _ _ (p, tt) (kept_behind r m a.reading s a p)
 kept_visited r m Write s a p = kept_rests r m s a.wrote
 kept_visited r m Expire s a p = kept_out (is_due m s.closing) _ _ tt (p, tt)
 
-kept_two : (ss ts : List Session) → AreKept ss → AreKept ts → AreKept (ss ++ ts)
+kept_two : (ss ts : List (Session ModelEnd)) → AreKept ss → AreKept ts → AreKept (ss ++ ts)
 kept_two [] ts p q = q
 kept_two (s ∷ ss) ts p q = (p.0, kept_two ss ts p.1 q)
 
-kept_visit : (r : Rules) (m : ℕ) (visit : Visit) (n : ℕ) (ss : List Session) (a : Met) → AreKept ss → AreKept (visit_at (visited r m visit) n ss a).state
+kept_visit : (r : Rules) (m : ℕ) (visit : Visit) (n : ℕ) (ss : List (Session ModelEnd)) (a : Met) → AreKept ss → AreKept (visit_at (visited model_ends r m visit) n ss a).state
 unfolding visit_at
 kept_visit r m visit n [] a p = tt
 kept_visit r m visit n (s ∷ ss) a p =
     elim (cases_Bool (s.number == n)) [
-      | inl q ↦ rw q (kept_two (visited r m visit s a).state ss (kept_visited r m visit s a p.0) p.1)
+      | inl q ↦ rw q (kept_two (visited model_ends r m visit s a).state ss (kept_visited r m visit s a p.0) p.1)
       | inr q ↦ rw q (p.0, kept_visit r m visit n ss a p.1)
     ]
 
-kept_begun : (plan : Plan) (l : Loop) (conn : ℕ) (mind : Mind) → IsKept (begun conn (answering plan l) mind)
-unfolding kept_opened
+kept_begun : (plan : Plan) (l : Loop ModelEnd) (conn : ℕ) (mind : Mind) → IsKept (begun conn (answering model_ends plan l) mind)
 kept_begun plan l conn mind = refl
 
-Keeps : List Session → List Session → List Entry → List Call → Type 0
+Keeps : List (Session ModelEnd) → List (Session ModelEnd) → List Entry → List Call → Type 0
 Keeps ss ts xs cs = AreKept ss → AreKept ts
 
 wise : (plan : Plan) → Loopwise plan Keeps
@@ -67,7 +66,7 @@ wise plan = record {
   then_ = λ ss ts us xs ys cs ds p q k. q (p k);
   visit = λ m visit n ss a p. kept_visit (rules_of plan) m visit n ss a p;
   turned = λ ss until happening none p. p;
-  opened = λ l until conn mind fits p. kept_two l.sessions (begun conn.0 (answering plan l) mind ∷ []) p (kept_begun plan l conn.0 mind, tt);
+  opened = λ l until conn mind fits p. kept_two l.sessions (begun conn.0 (answering model_ends plan l) mind ∷ []) p (kept_begun plan l conn.0 mind, tt);
   full = λ ss m until conn fits p. p;
   unserved = λ ss m handed until conn p. p;
 }

@@ -1,3 +1,4 @@
+pub mod EndKeepings
 pub mod Steadies
 pub mod Projections
 pub mod Loopwise
@@ -30,3 +31,12 @@ pub mod Writing
 pub mod Stalling
 pub mod Breaking
 pub mod Expiring
+pub mod Settlings
+pub mod Timing
+pub mod Recording
+pub mod Walking
+pub mod Lawfully
+pub mod Emptying
+pub mod Cutting
+pub mod Showing
+pub mod Visitings

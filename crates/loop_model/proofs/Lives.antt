@@ -1,5 +1,6 @@
 -- What is one connection's of a run: a relation between a session, its events and its calls so far, that each visit keeps, holds of each
 -- live session throughout, and what it comes to at a close holds of each connection that is no longer live.
+use Rattle.loop_model.specs.Ends.{ModelEnd, model_ends}
 use Rattle.std.proofs.Common.{if◌then◌else◌, ◌≡◌, ℕ, ◌<◌, inl, inr, true, false, List, [], ◌∷◌, ◌++◌, Option, Some, None, refl, sym, ◌∙◌, ap, subst, append-nil, append_assoc, arith, eqb-true, eq-eqb, ne_eqb}
 use Rattle.std.specs.Prelude.{◌==◌}
 use Rattle.std.proofs.lemmas.Bool.{cases_Bool, eqb-false}
@@ -26,43 +27,43 @@ same n = eq-eqb n n refl
 other_way : (m n : ℕ) → (m == n) ≡ false → (n == m) ≡ false
 other_way m n p = ne_eqb n m (λ e. eqb-false m n p (sym e))
 
-unfoldable pub Apart : List Session → Type 0
+unfoldable pub Apart : List (Session ModelEnd) → Type 0
 Apart [] = Unit {0}
 Apart (s ∷ ss) = (session_of s.number ss ≡ None) × Apart ss
 
 -- what comes of a visit is the session's own
-pub record Own (s t : Session) (xs : List Entry) (cs : List Call) : Type 0 where
+pub record Own (s t : Session ModelEnd) (xs : List Entry) (cs : List Call) : Type 0 where
   pub number : t.number ≡ s.number
   pub entries : (conn : ℕ) → of conn xs ≡ (if s.number == conn then xs else [])
   pub calls : (conn : ℕ) → calls_at conn cs ≡ (if s.number == conn then cs else [])
   pub opens : opened_in cs ≡ []
 
 -- a relation that each visit keeps, and what it comes to
-pub record Keeps (plan : Plan) (Q : Session → Session → List Entry → List Call → Type 0) (K : Session → List Entry → List Call → Type 0) (E : List Entry → List Call → Type 0) : Type 0 where
-  pub visit : (s t : Session) (xs ys : List Entry) (cs ds : List Call) → K s xs cs → Q s t ys ds → K t (xs ++ ys) (cs ++ ds)
-  pub close : (s t : Session) (xs ys : List Entry) (cs ds : List Call) → is_over t ≡ true → K s xs cs → Q s t ys ds → E (xs ++ ys) (cs ++ (ds ++ Closes t.number ∷ []))
-  pub open_ : (l : Loop) (conn : ℕ) (mind : Mind)
-      → K (begun conn (answering plan l) mind) (record { moment = l.moment; conn = conn; event = event.Answer plan.rbc (next_u64 l.words).0; outcomes = [] } ∷ []) []
+pub record Keeps (plan : Plan) (Q : Session ModelEnd → Session ModelEnd → List Entry → List Call → Type 0) (K : Session ModelEnd → List Entry → List Call → Type 0) (E : List Entry → List Call → Type 0) : Type 0 where
+  pub visit : (s t : Session ModelEnd) (xs ys : List Entry) (cs ds : List Call) → K s xs cs → Q s t ys ds → K t (xs ++ ys) (cs ++ ds)
+  pub close : (s t : Session ModelEnd) (xs ys : List Entry) (cs ds : List Call) → is_over t ≡ true → K s xs cs → Q s t ys ds → E (xs ++ ys) (cs ++ (ds ++ Closes t.number ∷ []))
+  pub open_ : (l : Loop ModelEnd) (conn : ℕ) (mind : Mind)
+      → K (begun conn (answering model_ends plan l) mind) (record { moment = l.moment; conn = conn; event = event.Answer plan.rbc (next_u64 l.words).0; outcomes = [] } ∷ []) []
   pub never : E [] []
   pub full : (m conn : ℕ) → E (record { moment = m; conn = conn; event = event.Full most_live; outcomes = [] } ∷ []) (Closes conn ∷ [])
   pub unserved : (m conn handed : ℕ) → E (record { moment = m; conn = conn; event = event.Unserved handed; outcomes = [] } ∷ []) (Closes conn ∷ [])
 
-module _ (plan : Plan) (Q : Session → Session → List Entry → List Call → Type 0) (c : AllLeft (rules_of plan) Q) (own : (s t : Session) (xs : List Entry) (cs : List Call) → Q s t xs cs → Own s t xs cs)
-    (K : Session → List Entry → List Call → Type 0) (E : List Entry → List Call → Type 0) (k : Keeps plan Q K E) where
+module _ (plan : Plan) (Q : Session ModelEnd → Session ModelEnd → List Entry → List Call → Type 0) (c : AllLeft (rules_of plan) Q) (own : (s t : Session ModelEnd) (xs : List Entry) (cs : List Call) → Q s t xs cs → Own s t xs cs)
+    (K : Session ModelEnd → List Entry → List Call → Type 0) (E : List Entry → List Call → Type 0) (k : Keeps plan Q K E) where
   -- ---- one visit of a number
 
-  unfoldable pub LeftAt : Session → Option Session → List Entry → List Call → Type 0
+  unfoldable pub LeftAt : Session ModelEnd → Option (Session ModelEnd) → List Entry → List Call → Type 0
   LeftAt s (Some t) xs cs = Q s t xs cs
-  LeftAt s None xs cs = (t : Session) × (ds : List Call) × (is_over t ≡ true) × (cs ≡ ds ++ Closes t.number ∷ []) × Q s t xs ds
+  LeftAt s None xs cs = (t : Session ModelEnd) × (ds : List Call) × (is_over t ≡ true) × (cs ≡ ds ++ Closes t.number ∷ []) × Q s t xs ds
 
-  pub data Moved (n : ℕ) (ss ts : List Session) (xs : List Entry) (cs : List Call) : Type 0 where
+  pub data Moved (n : ℕ) (ss ts : List (Session ModelEnd)) (xs : List Entry) (cs : List Call) : Type 0 where
     Absent : session_of n ss ≡ None → ts ≡ ss → xs ≡ [] → cs ≡ [] → Moved n ss ts xs cs
-    Found : (s : Session) → session_of n ss ≡ Some s → s.number ≡ n
+    Found : (s : Session ModelEnd) → session_of n ss ≡ Some s → s.number ≡ n
         → ((conn : ℕ) → (n == conn) ≡ false → session_of conn ts ≡ session_of conn ss)
         → LeftAt s (session_of n ts) xs cs → Apart ts → Moved n ss ts xs cs
 
   -- at the head
-  here : (s : Session) (ss ts : List Session) (xs : List Entry) (cs : List Call) → Apart (s ∷ ss)
+  here : (s : Session ModelEnd) (ss ts : List (Session ModelEnd)) (xs : List Entry) (cs : List Call) → Apart (s ∷ ss)
       → Left Q s ts xs cs → Moved s.number (s ∷ ss) (ts ++ ss) xs cs
   unfolding session_of Apart LeftAt
   here s ss ts xs cs a (Stays t p q) =
@@ -80,21 +81,21 @@ module _ (plan : Plan) (Q : Session → Session → List Entry → List Call →
       (rw a.0 (t, ds, over, e, q))
       a.1)
 
-  pub moved : (m : ℕ) (visit : Visit) (n : ℕ) (ss : List Session) (a : Met) → Apart ss
-      → Moved n ss (visit_at (visited (rules_of plan) m visit) n ss a).state (visit_at (visited (rules_of plan) m visit) n ss a).entries (visit_at (visited (rules_of plan) m visit) n ss a).calls
+  pub moved : (m : ℕ) (visit : Visit) (n : ℕ) (ss : List (Session ModelEnd)) (a : Met) → Apart ss
+      → Moved n ss (visit_at (visited model_ends (rules_of plan) m visit) n ss a).state (visit_at (visited model_ends (rules_of plan) m visit) n ss a).entries (visit_at (visited model_ends (rules_of plan) m visit) n ss a).calls
   unfolding visit_at session_of Apart
   moved m visit n [] a p = Absent refl refl refl refl
   moved m visit n (s ∷ ss) a p =
-      let o = visited (rules_of plan) m visit s a in
+      let o = visited model_ends (rules_of plan) m visit s a in
       elim (cases_Bool (s.number == n)) [
         | inl e ↦
             rw e
             (subst (λ z. Moved z (s ∷ ss) (o.state ++ ss) o.entries o.calls) (eqb-true s.number n e)
             (here s ss o.state o.entries o.calls p (c.at_visit visit m s a)))
-        | inr e ↦ rw e (there n s ss (visit_at (visited (rules_of plan) m visit) n ss a).state (visit_at (visited (rules_of plan) m visit) n ss a).entries (visit_at (visited (rules_of plan) m visit) n ss a).calls e p (moved m visit n ss a p.1))
+        | inr e ↦ rw e (there n s ss (visit_at (visited model_ends (rules_of plan) m visit) n ss a).state (visit_at (visited model_ends (rules_of plan) m visit) n ss a).entries (visit_at (visited model_ends (rules_of plan) m visit) n ss a).calls e p (moved m visit n ss a p.1))
       ]
     where
-      there : (n : ℕ) (s : Session) (ss ts : List Session) (xs : List Entry) (cs : List Call) → (s.number == n) ≡ false → Apart (s ∷ ss)
+      there : (n : ℕ) (s : Session ModelEnd) (ss ts : List (Session ModelEnd)) (xs : List Entry) (cs : List Call) → (s.number == n) ≡ false → Apart (s ∷ ss)
           → Moved n ss ts xs cs → Moved n (s ∷ ss) (s ∷ ts) xs cs
       there n s ss ts xs cs ne p (Absent f e x y) = Absent (rw ne f) (ap (λ zs. s ∷ zs) e) x y
       there n s ss ts xs cs ne p (Found u f num others left apart) =
@@ -105,21 +106,21 @@ module _ (plan : Plan) (Q : Session → Session → List Entry → List Call →
 
   -- ---- what is known of all connections
 
-  unfoldable pub Fits : Option Session → ℕ → List Entry → List Call → Type 0
+  unfoldable pub Fits : Option (Session ModelEnd) → ℕ → List Entry → List Call → Type 0
   Fits None conn xs cs = E xs cs
   Fits (Some s) conn xs cs = (s.number ≡ conn) × K s xs cs
 
-  pub record Knows (js : List Entry) (bs : List Call) (ss : List Session) : Type 0 where
+  pub record Knows (js : List Entry) (bs : List Call) (ss : List (Session ModelEnd)) : Type 0 where
     pub fits : (conn : ℕ) → Fits (session_of conn ss) conn (of conn js) (calls_at conn bs)
     pub apart : Apart ss
     pub low : (conn : ℕ) → newest 0 (opened_in bs) < conn → (of conn js ≡ []) × (calls_at conn bs ≡ []) × (session_of conn ss ≡ None)
 
-  pub record OwnAt (s : Session) (xs : List Entry) (cs : List Call) : Type 0 where
+  pub record OwnAt (s : Session ModelEnd) (xs : List Entry) (cs : List Call) : Type 0 where
     pub entries : (conn : ℕ) → of conn xs ≡ (if s.number == conn then xs else [])
     pub calls : (conn : ℕ) → calls_at conn cs ≡ (if s.number == conn then cs else [])
     pub opens : opened_in cs ≡ []
 
-  pub own_left : (s : Session) (left : Option Session) (xs : List Entry) (cs : List Call) → LeftAt s left xs cs → OwnAt s xs cs
+  pub own_left : (s : Session ModelEnd) (left : Option (Session ModelEnd)) (xs : List Entry) (cs : List Call) → LeftAt s left xs cs → OwnAt s xs cs
   unfolding LeftAt calls_at opened_in
   own_left s (Some t) xs cs q = let o = own s t xs cs q in record { entries = o.entries; calls = o.calls; opens = o.opens }
   own_left s None xs cs (t, ds, over, e, q) =
@@ -133,13 +134,13 @@ module _ (plan : Plan) (Q : Session → Session → List Entry → List Call →
         opens = rw (e, opened_in-append ds (Closes t.number ∷ []), o.opens) refl;
       }
 
-  pub fits_left : (s : Session) (left : Option Session) (n : ℕ) (js xs : List Entry) (bs cs : List Call) → s.number ≡ n → K s js bs → LeftAt s left xs cs
+  pub fits_left : (s : Session ModelEnd) (left : Option (Session ModelEnd)) (n : ℕ) (js xs : List Entry) (bs cs : List Call) → s.number ≡ n → K s js bs → LeftAt s left xs cs
       → Fits left n (js ++ xs) (bs ++ cs)
   unfolding LeftAt Fits
   fits_left s (Some t) n js xs bs cs num h q = ((own s t xs cs q).number ∙ num, k.visit s t js xs bs cs h q)
   fits_left s None n js xs bs cs num h (t, ds, over, e, q) = rw e (k.close s t js xs bs ds over h q)
 
-  pub knows_moved : (n : ℕ) (js xs : List Entry) (bs cs : List Call) (ss ts : List Session) → Knows js bs ss → Moved n ss ts xs cs → Knows (js ++ xs) (bs ++ cs) ts
+  pub knows_moved : (n : ℕ) (js xs : List Entry) (bs cs : List Call) (ss ts : List (Session ModelEnd)) → Knows js bs ss → Moved n ss ts xs cs → Knows (js ++ xs) (bs ++ cs) ts
   unfolding Fits
   knows_moved n js xs bs cs ss ts h (Absent f e x y) = rw (e, x, y, append-nil js, append-nil bs) h
   knows_moved n js xs bs cs ss ts h (Found s f num others left apart) = record {
@@ -176,7 +177,7 @@ module _ (plan : Plan) (Q : Session → Session → List Entry → List Call →
 
   -- ---- turns and openings
 
-  session_of-last : (conn : ℕ) (ss : List Session) (s : Session) → session_of conn ss ≡ None
+  session_of-last : (conn : ℕ) (ss : List (Session ModelEnd)) (s : Session ModelEnd) → session_of conn ss ≡ None
       → session_of conn (ss ++ s ∷ []) ≡ (if s.number == conn then Some s else None)
   unfolding session_of
   session_of-last conn [] s none = refl
@@ -186,13 +187,13 @@ module _ (plan : Plan) (Q : Session → Session → List Entry → List Call →
         | inr p ↦ rw p (session_of-last conn ss s (rw p at none))
       ]
 
-  session_of-other : (conn : ℕ) (ss : List Session) (s : Session) → (s.number == conn) ≡ false
+  session_of-other : (conn : ℕ) (ss : List (Session ModelEnd)) (s : Session ModelEnd) → (s.number == conn) ≡ false
       → session_of conn (ss ++ s ∷ []) ≡ session_of conn ss
   unfolding session_of
   session_of-other conn [] s ne = rw ne refl
   session_of-other conn (t ∷ ss) s ne = ap (λ z. if t.number == conn then Some t else z) (session_of-other conn ss s ne)
 
-  apart_last : (ss : List Session) (s : Session) → Apart ss → session_of s.number ss ≡ None → Apart (ss ++ s ∷ [])
+  apart_last : (ss : List (Session ModelEnd)) (s : Session ModelEnd) → Apart ss → session_of s.number ss ≡ None → Apart (ss ++ s ∷ [])
   unfolding Apart session_of
   apart_last [] s p none = (refl, tt)
   apart_last (t ∷ ss) s p none =
@@ -211,7 +212,7 @@ module _ (plan : Plan) (Q : Session → Session → List Entry → List Call →
   turn_opens bs until happening =
       opened_in-append bs (Turns until happening ∷ []) ∙ ap (λ z. opened_in bs ++ z) (append-nil (opened_by happening))
 
-  pub knows_turned : (js : List Entry) (bs : List Call) (ss : List Session) (until : Option ℕ) (happening : Happening) → opened_by happening ≡ []
+  pub knows_turned : (js : List Entry) (bs : List Call) (ss : List (Session ModelEnd)) (until : Option ℕ) (happening : Happening) → opened_by happening ≡ []
       → Knows js bs ss → Knows (js ++ []) (bs ++ Turns until happening ∷ []) ss
   knows_turned js bs ss until happening none h = rw (append-nil js) (record {
     fits = λ conn. rw (turn_at conn bs until happening) (h.fits conn);
@@ -236,13 +237,13 @@ module _ (plan : Plan) (Q : Session → Session → List Entry → List Call →
   unfolding of
   one_of conn x = refl
 
-  pub knows_opened : (js : List Entry) (bs : List Call) (l : Loop) (until : Option ℕ) (conn : Conn) (mind : Mind)
+  pub knows_opened : (js : List Entry) (bs : List Call) (l : Loop ModelEnd) (until : Option ℕ) (conn : Conn) (mind : Mind)
       → newest 0 (opened_in bs) < conn.0 → Knows js bs l.sessions
       → Knows (js ++ record { moment = l.moment; conn = conn.0; event = event.Answer plan.rbc (next_u64 l.words).0; outcomes = [] } ∷ [])
-      (bs ++ Turns until (happening.Accepted conn) ∷ []) (l.sessions ++ begun conn.0 (answering plan l) mind ∷ [])
+      (bs ++ Turns until (happening.Accepted conn) ∷ []) (l.sessions ++ begun conn.0 (answering model_ends plan l) mind ∷ [])
   unfolding Fits
   knows_opened js bs l until conn mind above h =
-      let s = begun conn.0 (answering plan l) mind in
+      let s = begun conn.0 (answering model_ends plan l) mind in
       let x : Entry = record { moment = l.moment; conn = conn.0; event = event.Answer plan.rbc (next_u64 l.words).0; outcomes = [] } in
       let new = h.low conn.0 above in
       record {
@@ -279,7 +280,7 @@ module _ (plan : Plan) (Q : Session → Session → List Entry → List Call →
       ap (λ z. newest 0 z) (opened_in-append bs (Turns until (happening.Accepted conn) ∷ Closes conn.0 ∷ []))
       ∙ newest-append 0 (opened_in bs) (conn.0 ∷ [])
 
-  pub knows_away : (js : List Entry) (bs : List Call) (ss : List Session) (m : ℕ) (why : Event) (until : Option ℕ) (conn : Conn)
+  pub knows_away : (js : List Entry) (bs : List Call) (ss : List (Session ModelEnd)) (m : ℕ) (why : Event) (until : Option ℕ) (conn : Conn)
       → newest 0 (opened_in bs) < conn.0
       → E (record { moment = m; conn = conn.0; event = why; outcomes = [] } ∷ []) (Closes conn.0 ∷ []) → Knows js bs ss
       → Knows (js ++ record { moment = m; conn = conn.0; event = why; outcomes = [] } ∷ [])
@@ -311,7 +312,7 @@ module _ (plan : Plan) (Q : Session → Session → List Entry → List Call →
 
   -- ---- a whole run
 
-  Goes : List Session → List Session → List Entry → List Call → Type 0
+  Goes : List (Session ModelEnd) → List (Session ModelEnd) → List Entry → List Call → Type 0
   Goes ss ts xs cs = (js : List Entry) (bs : List Call) → Rises (newest 0 (opened_in bs)) (opened_in cs) → Knows js bs ss → Knows (js ++ xs) (bs ++ cs) ts
 
   goes : Loopwise plan Goes
@@ -339,13 +340,13 @@ module _ (plan : Plan) (Q : Session → Session → List Entry → List Call →
   knows_none = record { fits = λ conn. k.never; apart = tt; low = λ conn lt. (refl, refl, refl) }
 
   -- from no sessions on, where the connections that are accepted have rising numbers
-  pub knows_run : (c : Course) (turns : List Turn) → c.loop.sessions ≡ [] → Rises 0 (opened_in (run plan c turns).calls)
-      → Knows (run plan c turns).entries (run plan c turns).calls (run plan c turns).state.loop.sessions
+  pub knows_run : (c : Course ModelEnd) (turns : List Turn) → c.loop.sessions ≡ [] → Rises 0 (opened_in (run model_ends plan c turns).calls)
+      → Knows (run model_ends plan c turns).entries (run model_ends plan c turns).calls (run model_ends plan c turns).state.loop.sessions
   unfolding Goes opened_in
   knows_run c turns none rises = wise_run plan Goes goes c turns [] [] rises (rw none knows_none)
 
   -- from what is known of a journal and a record
-  pub knows_on : (c : Course) (turns : List Turn) (js : List Entry) (bs : List Call) → Rises (newest 0 (opened_in bs)) (opened_in (run plan c turns).calls)
-      → Knows js bs c.loop.sessions → Knows (js ++ (run plan c turns).entries) (bs ++ (run plan c turns).calls) (run plan c turns).state.loop.sessions
+  pub knows_on : (c : Course ModelEnd) (turns : List Turn) (js : List Entry) (bs : List Call) → Rises (newest 0 (opened_in bs)) (opened_in (run model_ends plan c turns).calls)
+      → Knows js bs c.loop.sessions → Knows (js ++ (run model_ends plan c turns).entries) (bs ++ (run model_ends plan c turns).calls) (run model_ends plan c turns).state.loop.sessions
   unfolding Goes
   knows_on c turns js bs rises h = wise_run plan Goes goes c turns js bs rises h

@@ -1,4 +1,5 @@
 -- What comes of a connection that is accepted or dialled.
+use Rattle.loop_model.specs.Ends.{ModelEnd, model_ends}
 use Rattle.std.proofs.Common.{◌≡◌, ℕ, inl, inr, List, [], ◌∷◌, ◌++◌, length, drop, Option, Some, None, refl, sym, ◌∙◌, ap, subst}
 use Rattle.std.specs.Prelude.{nat_lt}
 use Rattle.std.proofs.lemmas.Bool.{cases_Bool}
@@ -37,37 +38,37 @@ plain_none m n (x ∷ xs) p = rw p.0.role (plain_none m n xs p.1)
 -- ---- visits
 
 module _ (r : Rules) (m : ℕ) where
-  visit_none : (visit : Visit) (n : ℕ) (ss : List Session) (a : Met) → openings (visit_at (visited r m visit) n ss a).entries ≡ []
-  visit_none visit n ss a = plain_none m n (visit_at (visited r m visit) n ss a).entries (plain_visit r m visit n ss a)
+  visit_none : (visit : Visit) (n : ℕ) (ss : List (Session ModelEnd)) (a : Met) → openings (visit_at (visited model_ends r m visit) n ss a).entries ≡ []
+  visit_none visit n ss a = plain_none m n (visit_at (visited model_ends r m visit) n ss a).entries (plain_visit r m visit n ss a)
 
-  swept_none : (visit : Visit) (ns : List ℕ) (ss : List Session) (answers : List Met) → openings (swept (visited r m visit) ns ss answers).entries ≡ []
+  swept_none : (visit : Visit) (ns : List ℕ) (ss : List (Session ModelEnd)) (answers : List Met) → openings (swept (visited model_ends r m visit) ns ss answers).entries ≡ []
   unfolding swept openings
   swept_none visit [] ss answers = refl
   swept_none visit (n ∷ ns) ss answers =
-      let o = visit_at (visited r m visit) n ss (first_of nothing_met answers) in
-      none_two o.entries (swept (visited r m visit) ns o.state (drop 1 answers)).entries
+      let o = visit_at (visited model_ends r m visit) n ss (first_of nothing_met answers) in
+      none_two o.entries (swept (visited model_ends r m visit) ns o.state (drop 1 answers)).entries
       (visit_none visit n ss (first_of nothing_met answers)) (swept_none visit ns o.state (drop 1 answers))
 
-  before_none : (ss : List Session) (a : Sweeps) → openings (before r m ss a).entries ≡ []
+  before_none : (ss : List (Session ModelEnd)) (a : Sweeps) → openings (before model_ends r m ss a).entries ≡ []
   unfolding before
   before_none ss a =
-      let t = swept (visited r m Tick) (numbers ss) ss a.ticks in
-      let u = swept (visited r m Expire) (numbers t.state) t.state a.closings in
+      let t = swept (visited model_ends r m Tick) (numbers ss) ss a.ticks in
+      let u = swept (visited model_ends r m Expire) (numbers t.state) t.state a.closings in
       none_two t.entries u.entries (swept_none Tick (numbers ss) ss a.ticks) (swept_none Expire (numbers t.state) t.state a.closings)
 
 -- ---- a turn
 
-answered_so : (user : Option Mind) (plan : Plan) (l : Loop) (conn : ℕ) → openings (answered_by user plan l conn).entries ≡ (conn, answer_of user plan (next_u64 l.words).0) ∷ []
+answered_so : (user : Option Mind) (plan : Plan) (l : Loop ModelEnd) (conn : ℕ) → openings (answered_by model_ends user plan l conn).entries ≡ (conn, answer_of user plan (next_u64 l.words).0) ∷ []
 unfolding openings
 answered_so None plan l conn = refl
 answered_so (Some mind) plan l conn = refl
 
-accepted_so : (plan : Plan) (l : Loop) (conn : ℕ) → openings (accepted plan l conn).entries ≡ (conn, opening_of plan l) ∷ []
+accepted_so : (plan : Plan) (l : Loop ModelEnd) (conn : ℕ) → openings (accepted model_ends plan l conn).entries ≡ (conn, opening_of plan l) ∷ []
 unfolding accepted openings
 accepted_so plan l conn =
     elim (cases_Bool (nat_lt (length l.sessions) most_live)) [ inl p ↦ rw p (answered_so (next_user l.users) plan l conn) | inr p ↦ rw p refl ]
 
-happened_so : (plan : Plan) (l : Loop) (what : Happening) (a : Met) → openings (happened plan l what a).entries ≡ openings_due what (opening_of plan l)
+happened_so : (plan : Plan) (l : Loop ModelEnd) (what : Happening) (a : Met) → openings (happened model_ends plan l what a).entries ≡ openings_due what (opening_of plan l)
 unfolding happened openings
 happened_so plan l (happening.Accepted conn) a = accepted_so plan l conn.0
 happened_so plan l (happening.Readable conn) a = visit_none (rules_of plan) l.moment Read conn.0 l.sessions a
@@ -76,51 +77,51 @@ happened_so plan l happening.Quiet a = refl
 happened_so plan l happening.Ended a = refl
 happened_so plan l happening.Failed a = refl
 
-turned_so : (halt : Option Halt) (plan : Plan) (d : Course) (a : Turn) → openings (turned_unless halt plan d a).entries ≡ openings_unless halt a.happening (opening_of plan d.loop)
+turned_so : (halt : Option Halt) (plan : Plan) (d : Course ModelEnd) (a : Turn) → openings (turned_unless model_ends halt plan d a).entries ≡ openings_unless halt a.happening (opening_of plan d.loop)
 unfolding openings
 turned_so (Some halt) plan d a = refl
 turned_so None plan d a = happened_so plan (asks a.second d).loop a.happening a.met
 
-readied_none : (plan : Plan) (c : Course) (a : Turn) → openings (readied plan c a).entries ≡ []
+readied_none : (plan : Plan) (c : Course ModelEnd) (a : Turn) → openings (readied model_ends plan c a).entries ≡ []
 unfolding readied
 readied_none plan c a = let d = asks a.first c in before_none (rules_of plan) d.loop.moment d.loop.sessions a.sweeps
 
-went_so : (halt : Option Halt) (plan : Plan) (c : Course) (a : Turn) → halt ≡ None
-    → openings (went_unless halt plan c a).entries ≡ openings_unless (readied plan c a).state.halt a.happening (opening_of plan (readied plan c a).state.loop)
+went_so : (halt : Option Halt) (plan : Plan) (c : Course ModelEnd) (a : Turn) → halt ≡ None
+    → openings (went_unless model_ends halt plan c a).entries ≡ openings_unless (readied model_ends plan c a).state.halt a.happening (opening_of plan (readied model_ends plan c a).state.loop)
 went_so (Some halt) plan c a p = absurd (let q : ⊥ = cc in q)
 went_so None plan c a p =
-    let d = readied plan c a in
-    let t = turned_unless d.state.halt plan d.state a in
+    let d = readied model_ends plan c a in
+    let t = turned_unless model_ends d.state.halt plan d.state a in
     openings-append d.entries t.entries ∙ ap (λ z. z ++ openings t.entries) (readied_none plan c a) ∙ turned_so d.state.halt plan d.state a
 
 -- ---- calls
 
-answered_calls : (user : Option Mind) (plan : Plan) (l : Loop) (conn : ℕ) → (answered_by user plan l conn).calls ≡ closed_by (role_of (answer_of user plan (next_u64 l.words).0)) conn
+answered_calls : (user : Option Mind) (plan : Plan) (l : Loop ModelEnd) (conn : ℕ) → (answered_by model_ends user plan l conn).calls ≡ closed_by (role_of (answer_of user plan (next_u64 l.words).0)) conn
 answered_calls None plan l conn = refl
 answered_calls (Some mind) plan l conn = refl
 
-accepted_calls : (plan : Plan) (l : Loop) (conn : ℕ) → (accepted plan l conn).calls ≡ closed_by (role_of (opening_of plan l)) conn
+accepted_calls : (plan : Plan) (l : Loop ModelEnd) (conn : ℕ) → (accepted model_ends plan l conn).calls ≡ closed_by (role_of (opening_of plan l)) conn
 unfolding accepted
 accepted_calls plan l conn =
     elim (cases_Bool (nat_lt (length l.sessions) most_live)) [ inl p ↦ rw p (answered_calls (next_user l.users) plan l conn) | inr p ↦ rw p refl ]
 
-happened_calls : (plan : Plan) (l : Loop) (what : Happening) (a : Met) (conn : Conn) → what ≡ happening.Accepted conn
-    → (happened plan l what a).calls ≡ closed_by (role_of (opening_of plan l)) conn.0
+happened_calls : (plan : Plan) (l : Loop ModelEnd) (what : Happening) (a : Met) (conn : Conn) → what ≡ happening.Accepted conn
+    → (happened model_ends plan l what a).calls ≡ closed_by (role_of (opening_of plan l)) conn.0
 unfolding happened
-happened_calls plan l what a conn p = ap (λ z. (happened plan l z a).calls) p ∙ accepted_calls plan l conn.0
+happened_calls plan l what a conn p = ap (λ z. (happened model_ends plan l z a).calls) p ∙ accepted_calls plan l conn.0
 
-turned_calls : (halt : Option Halt) (plan : Plan) (d : Course) (a : Turn) (conn : Conn) → halt ≡ None → a.happening ≡ happening.Accepted conn
-    → (turned_unless halt plan d a).calls ≡ Turns (until d.loop.sessions) a.happening ∷ closed_by (role_of (opening_of plan d.loop)) conn.0
+turned_calls : (halt : Option Halt) (plan : Plan) (d : Course ModelEnd) (a : Turn) (conn : Conn) → halt ≡ None → a.happening ≡ happening.Accepted conn
+    → (turned_unless model_ends halt plan d a).calls ≡ Turns (until model_ends d.loop.sessions) a.happening ∷ closed_by (role_of (opening_of plan d.loop)) conn.0
 turned_calls (Some halt) plan d a conn p q = absurd (let x : ⊥ = cc in x)
 turned_calls None plan d a conn p q =
-    ap (λ z. Turns (until d.loop.sessions) a.happening ∷ z) (happened_calls plan (asks a.second d).loop a.happening a.met conn q)
+    ap (λ z. Turns (until model_ends d.loop.sessions) a.happening ∷ z) (happened_calls plan (asks a.second d).loop a.happening a.met conn q)
 
-went_calls : (halt : Option Halt) (plan : Plan) (c : Course) (a : Turn) (conn : Conn) → halt ≡ None → (readied plan c a).state.halt ≡ None → a.happening ≡ happening.Accepted conn
-    → (went_unless halt plan c a).calls
-    ≡ (readied plan c a).calls ++ Turns (until (readied plan c a).state.loop.sessions) a.happening ∷ closed_by (role_of (opening_of plan (readied plan c a).state.loop)) conn.0
+went_calls : (halt : Option Halt) (plan : Plan) (c : Course ModelEnd) (a : Turn) (conn : Conn) → halt ≡ None → (readied model_ends plan c a).state.halt ≡ None → a.happening ≡ happening.Accepted conn
+    → (went_unless model_ends halt plan c a).calls
+    ≡ (readied model_ends plan c a).calls ++ Turns (until model_ends (readied model_ends plan c a).state.loop.sessions) a.happening ∷ closed_by (role_of (opening_of plan (readied model_ends plan c a).state.loop)) conn.0
 went_calls (Some halt) plan c a conn p q e = absurd (let x : ⊥ = cc in x)
 went_calls None plan c a conn p q e =
-    let d = readied plan c a in ap (λ z. d.calls ++ z) (turned_calls d.state.halt plan d.state a conn q e)
+    let d = readied model_ends plan c a in ap (λ z. d.calls ++ z) (turned_calls d.state.halt plan d.state a conn q e)
 
 pub openings_are_told : OpeningsAreTold
 unfolding went
@@ -131,15 +132,15 @@ openings_are_told = record {
 
 -- ---- a dial
 
-first_called : (user : Option Mind) (plan : Plan) (caller : Caller) (l : Loop) (conn : ℕ) (a : Met) (ys : List Entry)
-    → first_event ((called_by user plan caller l conn a).entries ++ ys) ≡ Some (conn, call_of user plan caller (next_u64 l.words).0)
+first_called : (user : Option Mind) (plan : Plan) (caller : Caller) (l : Loop ModelEnd) (conn : ℕ) (a : Met) (ys : List Entry)
+    → first_event ((called_by model_ends user plan caller l conn a).entries ++ ys) ≡ Some (conn, call_of user plan caller (next_u64 l.words).0)
 unfolding served handled dealt fed
 first_called None plan caller l conn a ys = refl
 first_called (Some mind) plan caller l conn a ys = refl
 
-begins_called : (user : Option Mind) (plan : Plan) (caller : Caller) (l : Loop) (conn : ℕ) (a : Met) → BeginsWith (called_by user plan caller l conn a).calls (closed_by (role_of (call_of user plan caller (next_u64 l.words).0)) conn)
+begins_called : (user : Option Mind) (plan : Plan) (caller : Caller) (l : Loop ModelEnd) (conn : ℕ) (a : Met) → BeginsWith (called_by model_ends user plan caller l conn a).calls (closed_by (role_of (call_of user plan caller (next_u64 l.words).0)) conn)
 begins_called None plan caller l conn a = record { rest = []; is = refl }
-begins_called (Some mind) plan caller l conn a = record { rest = (called_by (Some mind) plan caller l conn a).calls; is = refl }
+begins_called (Some mind) plan caller l conn a = record { rest = (called_by model_ends (Some mind) plan caller l conn a).calls; is = refl }
 
 begins_more : (address : List ℕ) (conn : ℕ) (calls first ds : List Call) → BeginsWith calls first → BeginsWith (Dials address (Some conn) ∷ (calls ++ ds)) (Dials address (Some conn) ∷ first)
 begins_more address conn calls first ds b = record {
@@ -151,21 +152,21 @@ begins_more address conn calls first ds b = record {
     assoc [] ys zs = refl
     assoc (x ∷ xs) ys zs = ap (λ z. x ∷ z) (assoc xs ys zs)
 
-event_to : (to : Option ℕ) (plan : Plan) (caller : Caller) (c : Course) (address : List ℕ) (a : Dialled) (conn : ℕ) → to ≡ Some conn
-    → first_event (dials_to to plan caller c address a).entries ≡ Some (conn, call_by plan caller c.loop)
+event_to : (to : Option ℕ) (plan : Plan) (caller : Caller) (c : Course ModelEnd) (address : List ℕ) (a : Dialled) (conn : ℕ) → to ≡ Some conn
+    → first_event (dials_to model_ends to plan caller c address a).entries ≡ Some (conn, call_by plan caller c.loop)
 unfolding called
 event_to to plan caller c address a conn p =
     let d = asks a.first c in
-    subst (λ z. first_event (dials_to z plan caller c address a).entries ≡ Some (conn, call_by plan caller c.loop)) (sym p)
-    (first_called (next_user c.loop.users) plan caller d.loop conn a.met (run plan (opens plan caller d conn a.met).state a.turns).entries)
+    subst (λ z. first_event (dials_to model_ends z plan caller c address a).entries ≡ Some (conn, call_by plan caller c.loop)) (sym p)
+    (first_called (next_user c.loop.users) plan caller d.loop conn a.met (run model_ends plan (opens model_ends plan caller d conn a.met).state a.turns).entries)
 
-calls_to : (to : Option ℕ) (plan : Plan) (caller : Caller) (c : Course) (address : List ℕ) (a : Dialled) (conn : ℕ) → to ≡ Some conn
-    → BeginsWith (dials_to to plan caller c address a).calls (Dials address (Some conn) ∷ closed_by (role_of (call_by plan caller c.loop)) conn)
+calls_to : (to : Option ℕ) (plan : Plan) (caller : Caller) (c : Course ModelEnd) (address : List ℕ) (a : Dialled) (conn : ℕ) → to ≡ Some conn
+    → BeginsWith (dials_to model_ends to plan caller c address a).calls (Dials address (Some conn) ∷ closed_by (role_of (call_by plan caller c.loop)) conn)
 unfolding called
 calls_to to plan caller c address a conn p =
     let d = asks a.first c in
-    subst (λ z. BeginsWith (dials_to z plan caller c address a).calls (Dials address (Some conn) ∷ closed_by (role_of (call_by plan caller c.loop)) conn)) (sym p)
-    (begins_more address conn (opens plan caller d conn a.met).calls (closed_by (role_of (call_by plan caller c.loop)) conn) (run plan (opens plan caller d conn a.met).state a.turns).calls
+    subst (λ z. BeginsWith (dials_to model_ends z plan caller c address a).calls (Dials address (Some conn) ∷ closed_by (role_of (call_by plan caller c.loop)) conn)) (sym p)
+    (begins_more address conn (opens model_ends plan caller d conn a.met).calls (closed_by (role_of (call_by plan caller c.loop)) conn) (run model_ends plan (opens model_ends plan caller d conn a.met).state a.turns).calls
     (begins_called (next_user c.loop.users) plan caller d.loop conn a.met))
 
 pub dial_is_opened : DialIsOpened

@@ -1,4 +1,5 @@
 -- At most 256 connections are live, and their sessions are in rising number.
+use Rattle.loop_model.specs.Ends.{ModelEnd, model_ends}
 use Rattle.std.proofs.Common.{◌≡◌, ℕ, suc, ◌+◌, ◌<◌, ◌≤◌, inl, inr, List, [], ◌∷◌, ◌++◌, length, refl, sym, ◌∙◌, ap, subst, arith, length-append, ltb-true}
 use Rattle.std.specs.Prelude.{◌==◌}
 use Rattle.std.proofs.lemmas.Bool.{cases_Bool}
@@ -23,36 +24,36 @@ own_calls r = usual_calls r (λ g. Unit {0}) Own (own_steady r) all_given own_ba
 
 -- ---- how many
 
-left_few : (s : Session) (ts : List Session) (xs : List Entry) (cs : List Call) → Left Own s ts xs cs → length ts ≤ 1
+pub left_few : (s : Session ModelEnd) (ts : List (Session ModelEnd)) (xs : List Entry) (cs : List Call) → Left Own s ts xs cs → length ts ≤ 1
 left_few s ts xs cs (Stays t p q) = subst (λ z. length z ≤ 1) (sym p) (omega arith)
 left_few s ts xs cs (Closed t ds over p e q) = subst (λ z. length z ≤ 1) (sym p) (omega arith)
 
 one_at_most : (a b c : ℕ) → c ≡ a + b → a ≤ 1 → c ≤ suc b
 one_at_most a b c p q = omega arith
 
-visit_few : (r : Rules) (m : ℕ) (visit : Visit) (n : ℕ) (ss : List Session) (a : Met) → length (visit_at (visited r m visit) n ss a).state ≤ length ss
+visit_few : (r : Rules) (m : ℕ) (visit : Visit) (n : ℕ) (ss : List (Session ModelEnd)) (a : Met) → length (visit_at (visited model_ends r m visit) n ss a).state ≤ length ss
 unfolding visit_at
 visit_few r m visit n [] a = omega arith
 visit_few r m visit n (s ∷ ss) a =
-    let o = visited r m visit s a in
+    let o = visited model_ends r m visit s a in
     elim (cases_Bool (s.number == n)) [
       | inl p ↦ rw p (one_at_most (length o.state) (length ss) _ (length-append o.state ss) (left_few s _ _ _ (left_visited r Own (own_calls r) visit m s a)))
-      | inr p ↦ rw p (let h : length (visit_at (visited r m visit) n ss a).state ≤ length ss = visit_few r m visit n ss a in omega arith)
+      | inr p ↦ rw p (let h : length (visit_at (visited model_ends r m visit) n ss a).state ≤ length ss = visit_few r m visit n ss a in omega arith)
     ]
 
-Few : List Session → List Session → List Entry → List Call → Type 0
+unfoldable pub Few : List (Session ModelEnd) → List (Session ModelEnd) → List Entry → List Call → Type 0
 Few ss ts xs cs = IsFew ss → IsFew ts
 
-few : (plan : Plan) → Loopwise plan Few
+pub few : (plan : Plan) → Loopwise plan Few
 unfolding Few
 few plan = record {
   none = λ ss p. p;
   then_ = λ ss ts us xs ys cs ds p q f. q (p f);
-  visit = λ m visit n ss a f. (let h : length (visit_at (visited (rules_of plan) m visit) n ss a).state ≤ length ss = visit_few (rules_of plan) m visit n ss a in omega arith);
+  visit = λ m visit n ss a f. (let h : length (visit_at (visited model_ends (rules_of plan) m visit) n ss a).state ≤ length ss = visit_few (rules_of plan) m visit n ss a in omega arith);
   turned = λ ss until happening none f. f;
   opened = λ l until conn mind fits f.
       (let lt : length l.sessions < most_live = ltb-true (length l.sessions) most_live fits in
-      rw (length-append {A = Session}) (omega arith));
+      rw (length-append {A = Session ModelEnd}) (omega arith));
   full = λ ss m until conn fits f. f;
   unserved = λ ss m handed until conn f. f;
 }
@@ -78,19 +79,19 @@ up_to_more a b [] p q = tt
 up_to_more a b (n ∷ ns) p q = (let h : n ≤ a = q.0 in omega arith, up_to_more a b ns p q.1)
 
 -- what a visit of the first session leaves
-rises_left : (from : ℕ) (s : Session) (ss ts : List Session) (xs : List Entry) (cs : List Call) → Left Own s ts xs cs
+rises_left : (from : ℕ) (s : Session ModelEnd) (ss ts : List (Session ModelEnd)) (xs : List Entry) (cs : List Call) → Left Own s ts xs cs
     → Rises from (numbers (s ∷ ss)) → Rises from (numbers (ts ++ ss))
 rises_left from s ss ts xs cs (Stays t p q) h = rw p (subst (λ z. (from < z) × Rises z (numbers ss)) (sym q.number) h)
 rises_left from s ss ts xs cs (Closed t ds over p e q) h = rw p (rises_down from s.number (numbers ss) (let x : from < s.number = h.0 in omega arith) h.1)
 
-up_to_left : (top : ℕ) (s : Session) (ss ts : List Session) (xs : List Entry) (cs : List Call) → Left Own s ts xs cs
+up_to_left : (top : ℕ) (s : Session ModelEnd) (ss ts : List (Session ModelEnd)) (xs : List Entry) (cs : List Call) → Left Own s ts xs cs
     → UpTo top (numbers (s ∷ ss)) → UpTo top (numbers (ts ++ ss))
 unfolding UpTo
 up_to_left top s ss ts xs cs (Stays t p q) h = rw p (subst (λ z. (z ≤ top) × UpTo top (numbers ss)) (sym q.number) h)
 up_to_left top s ss ts xs cs (Closed t ds over p e q) h = rw p h.1
 
-pub visit_rises : (r : Rules) (m : ℕ) (visit : Visit) (n from : ℕ) (ss : List Session) (a : Met) → Rises from (numbers ss)
-    → Rises from (numbers (visit_at (visited r m visit) n ss a).state)
+pub visit_rises : (r : Rules) (m : ℕ) (visit : Visit) (n from : ℕ) (ss : List (Session ModelEnd)) (a : Met) → Rises from (numbers ss)
+    → Rises from (numbers (visit_at (visited model_ends r m visit) n ss a).state)
 unfolding visit_at
 visit_rises r m visit n from [] a h = tt
 visit_rises r m visit n from (s ∷ ss) a h =
@@ -99,8 +100,8 @@ visit_rises r m visit n from (s ∷ ss) a h =
       | inr p ↦ rw p (h.0, visit_rises r m visit n s.number ss a h.1)
     ]
 
-visit_up_to : (r : Rules) (m : ℕ) (visit : Visit) (n top : ℕ) (ss : List Session) (a : Met) → UpTo top (numbers ss)
-    → UpTo top (numbers (visit_at (visited r m visit) n ss a).state)
+visit_up_to : (r : Rules) (m : ℕ) (visit : Visit) (n top : ℕ) (ss : List (Session ModelEnd)) (a : Met) → UpTo top (numbers ss)
+    → UpTo top (numbers (visit_at (visited model_ends r m visit) n ss a).state)
 unfolding visit_at UpTo
 visit_up_to r m visit n top [] a h = tt
 visit_up_to r m visit n top (s ∷ ss) a h =
@@ -109,7 +110,7 @@ visit_up_to r m visit n top (s ∷ ss) a h =
       | inr p ↦ rw p (h.0, visit_up_to r m visit n top ss a h.1)
     ]
 
-visit_opens : (r : Rules) (m : ℕ) (visit : Visit) (n : ℕ) (ss : List Session) (a : Met) → opened_in (visit_at (visited r m visit) n ss a).calls ≡ []
+visit_opens : (r : Rules) (m : ℕ) (visit : Visit) (n : ℕ) (ss : List (Session ModelEnd)) (a : Met) → opened_in (visit_at (visited model_ends r m visit) n ss a).calls ≡ []
 unfolding visit_at opened_in
 visit_opens r m visit n [] a = refl
 visit_opens r m visit n (s ∷ ss) a =
@@ -118,7 +119,7 @@ visit_opens r m visit n (s ∷ ss) a =
       | inr p ↦ rw p (visit_opens r m visit n ss a)
     ]
   where
-    left_opens : (s : Session) (ts : List Session) (xs : List Entry) (cs : List Call) → Left Own s ts xs cs → opened_in cs ≡ []
+    left_opens : (s : Session ModelEnd) (ts : List (Session ModelEnd)) (xs : List Entry) (cs : List Call) → Left Own s ts xs cs → opened_in cs ≡ []
     left_opens s ts xs cs (Stays t p q) = q.opens
     left_opens s ts xs cs (Closed t ds over p e q) = ap opened_in e ∙ opened_in-append ds (Closes t.number ∷ []) ∙ ap (λ z. z ++ []) q.opens
 
@@ -132,21 +133,21 @@ unfolding UpTo
 up_to_last top n [] q h = (omega arith, tt)
 up_to_last top n (k ∷ ns) q h = ((let x : k ≤ top = q.0 in omega arith), up_to_last top n ns q.1 h)
 
-numbers-last : (ss : List Session) (s : Session) → numbers (ss ++ s ∷ []) ≡ numbers ss ++ s.number ∷ []
+numbers-last : (ss : List (Session ModelEnd)) (s : Session ModelEnd) → numbers (ss ++ s ∷ []) ≡ numbers ss ++ s.number ∷ []
 numbers-last [] s = refl
 numbers-last (t ∷ ss) s = ap (λ z. t.number ∷ z) (numbers-last ss s)
 
-record Ordered (top : ℕ) (ss : List Session) : Type 0 where
-  rises : Rises 0 (numbers ss)
-  up_to : UpTo top (numbers ss)
+pub record Ordered (top : ℕ) (ss : List (Session ModelEnd)) : Type 0 where
+  pub rises : Rises 0 (numbers ss)
+  pub up_to : UpTo top (numbers ss)
 
-InOrder : List Session → List Session → List Entry → List Call → Type 0
+unfoldable pub InOrder : List (Session ModelEnd) → List (Session ModelEnd) → List Entry → List Call → Type 0
 InOrder ss ts xs cs = (top : ℕ) → Rises top (opened_in cs) → Ordered top ss → Ordered (newest top (opened_in cs)) ts
 
-ordered_more : (a b : ℕ) (ss : List Session) → a ≤ b → Ordered a ss → Ordered b ss
+ordered_more : (a b : ℕ) (ss : List (Session ModelEnd)) → a ≤ b → Ordered a ss → Ordered b ss
 ordered_more a b ss p o = record { rises = o.rises; up_to = up_to_more a b (numbers ss) p o.up_to }
 
-in_order : (plan : Plan) → Loopwise plan InOrder
+pub in_order : (plan : Plan) → Loopwise plan InOrder
 unfolding InOrder opened_in
 in_order plan = record {
   none = λ ss top r o. o;
@@ -155,7 +156,7 @@ in_order plan = record {
       subst (λ z. Ordered z us) (sym (ap (λ z. newest top z) (opened_in-append cs ds) ∙ newest-append top (opened_in cs) (opened_in ds)))
       (q (newest top (opened_in cs)) (rises_rest top (opened_in cs) (opened_in ds) s) (p top (rises_first top (opened_in cs) (opened_in ds) s) o));
   visit = λ m visit n ss a top r o.
-      subst (λ z. Ordered (newest top z) (visit_at (visited (rules_of plan) m visit) n ss a).state) (sym (visit_opens (rules_of plan) m visit n ss a))
+      subst (λ z. Ordered (newest top z) (visit_at (visited model_ends (rules_of plan) m visit) n ss a).state) (sym (visit_opens (rules_of plan) m visit n ss a))
       (record {
         rises = visit_rises (rules_of plan) m visit n 0 ss a o.rises;
         up_to = visit_up_to (rules_of plan) m visit n top ss a o.up_to;

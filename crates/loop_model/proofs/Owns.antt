@@ -1,4 +1,5 @@
 -- What comes of a visit is the session's own; two relations at once; and the calls of a visit, where each bare call and each event is so.
+use Rattle.loop_model.specs.Ends.{ModelEnd, model_ends}
 use Rattle.std.proofs.Common.{if◌then◌else◌, ◌≡◌, ℕ, Bool, true, false, ◌||◌, List, [], ◌∷◌, ◌++◌, drop, Some, None, refl, sym, ◌∙◌, subst}
 use Rattle.std.specs.Prelude.{◌==◌}
 use Rattle.link_trait.specs.Wires.{Call, Reading, Gave, NotNow, End, Failed, Reads, Writes}
@@ -13,11 +14,11 @@ use Rattle.loop_model.proofs.Steadies.{SteadyAt, Steady, steady_at, Usual, Quiet
 use Rattle.loop_model.proofs.Lives.{Own}
 
 -- each bare call
-pub record Bare (Q : Session → Session → List Entry → List Call → Type 0) : Type 0 where
-  pub wrote : (s : Session) (n : ℕ) → s.broken ≡ false → Q s (record s { output = drop n s.output }) [] (Writes s.number s.output (write.Some n) ∷ [])
-  pub put_off : (s : Session) → Q s s [] (Writes s.number s.output write.NotNow ∷ [])
-  pub failed : (s : Session) → Q s s [] (Writes s.number s.output write.Failed ∷ [])
-  pub breaks : (s : Session) → is_released s ≡ true → Q s (record s { broken = true }) [] []
+pub record Bare (Q : Session ModelEnd → Session ModelEnd → List Entry → List Call → Type 0) : Type 0 where
+  pub wrote : (s : Session ModelEnd) (n : ℕ) → s.broken ≡ false → Q s (record s { output = drop n s.output }) [] (Writes s.number s.output (write.Some n) ∷ [])
+  pub put_off : (s : Session ModelEnd) → Q s s [] (Writes s.number s.output write.NotNow ∷ [])
+  pub failed : (s : Session ModelEnd) → Q s s [] (Writes s.number s.output write.Failed ∷ [])
+  pub breaks : (s : Session ModelEnd) → is_released model_ends s ≡ true → Q s (record s { broken = true }) [] []
 
 -- all that the loop gives an end by itself is allowed
 pub record AllGiven (Allowed : Given → Type 0) : Type 0 where
@@ -27,8 +28,8 @@ pub record AllGiven (Allowed : Given → Type 0) : Type 0 where
   pub ends : Allowed Ends
   pub faults : Allowed Faults
 
-module _ (r : Rules) (m : ℕ) (Allowed : Given → Type 0) (Q : Session → Session → List Entry → List Call → Type 0) (q : SteadyAt r m Allowed Q) (all : AllGiven Allowed) (b : Bare Q) where
-  came_at : (s : Session) (reading : Reading) (says : List Says) → Q s (came reading r m s says).0 (came reading r m s says).1 []
+module _ (r : Rules) (m : ℕ) (Allowed : Given → Type 0) (Q : Session ModelEnd → Session ModelEnd → List Entry → List Call → Type 0) (q : SteadyAt r m Allowed Q) (all : AllGiven Allowed) (b : Bare Q) where
+  came_at : (s : Session ModelEnd) (reading : Reading) (says : List Says) → Q s (came model_ends reading r m s says).0 (came model_ends reading r m s says).1 []
   came_at s (Gave octets) says = pours_at r m Allowed Q q all.usual all.hears s octets says
   came_at s NotNow says = q.none s
   came_at s End says = handled_at r m Allowed Q q all.usual s Ends (first_of nothing_said says) all.ends
@@ -45,14 +46,14 @@ module _ (r : Rules) (m : ℕ) (Allowed : Given → Type 0) (Q : Session → Ses
     ticked = λ s says due. handled_at r m Allowed Q q all.usual s Ticks says all.ticks;
   }
 
-  pub usual_calls_at : ((s : Session) (waits : ℕ) (reading : Reading) → Q s s [] (Reads s.number most_read waits reading ∷ [])) → CallsAt r m Q
+  pub usual_calls_at : ((s : Session ModelEnd) (waits : ℕ) (reading : Reading) → Q s s [] (Reads s.number most_read waits reading ∷ [])) → CallsAt r m Q
   usual_calls_at reads = record {
     quiet = usual_quiet_at;
     read = λ s a live. q.then_ s s _ [] _ (Reads s.number most_read a.waits a.reading ∷ []) [] (reads s a.waits a.reading) (came_at s a.reading a.says);
   }
 
 -- at every moment
-module _ (r : Rules) (Allowed : Given → Type 0) (Q : Session → Session → List Entry → List Call → Type 0) (q : Steady r Allowed Q) (all : AllGiven Allowed) (b : Bare Q) where
+module _ (r : Rules) (Allowed : Given → Type 0) (Q : Session ModelEnd → Session ModelEnd → List Entry → List Call → Type 0) (q : Steady r Allowed Q) (all : AllGiven Allowed) (b : Bare Q) where
   pub usual_quiet : Quiet r Q
   usual_quiet = record {
     none = q.none;
@@ -64,15 +65,15 @@ module _ (r : Rules) (Allowed : Given → Type 0) (Q : Session → Session → L
     ticked = λ m. (usual_quiet_at r m Allowed Q (steady_at r Allowed Q q m) all b).ticked;
   }
 
-  pub usual_calls : ((s : Session) (waits : ℕ) (reading : Reading) → Q s s [] (Reads s.number most_read waits reading ∷ [])) → Calls r Q
+  pub usual_calls : ((s : Session ModelEnd) (waits : ℕ) (reading : Reading) → Q s s [] (Reads s.number most_read waits reading ∷ [])) → Calls r Q
   usual_calls reads = record { quiet = usual_quiet; read = λ m. (usual_calls_at r m Allowed Q (steady_at r Allowed Q q m) all b reads).read }
 
 -- ---- two at once
 
-abbrev pub Both : (P Q : Session → Session → List Entry → List Call → Type 0) → Session → Session → List Entry → List Call → Type 0
+abbrev pub Both : (P Q : Session ModelEnd → Session ModelEnd → List Entry → List Call → Type 0) → Session ModelEnd → Session ModelEnd → List Entry → List Call → Type 0
 Both P Q s t xs cs = P s t xs cs × Q s t xs cs
 
-pub steady_both : (r : Rules) (Allowed : Given → Type 0) (P Q : Session → Session → List Entry → List Call → Type 0)
+pub steady_both : (r : Rules) (Allowed : Given → Type 0) (P Q : Session ModelEnd → Session ModelEnd → List Entry → List Call → Type 0)
     → Steady r Allowed P → Steady r Allowed Q → Steady r Allowed (Both P Q)
 steady_both r Allowed P Q p q = record {
   none = λ s. (p.none s, q.none s);
@@ -83,7 +84,7 @@ steady_both r Allowed P Q p q = record {
   parts = λ s at gone. (p.parts s at gone, q.parts s at gone);
 }
 
-pub calls_both : (r : Rules) (P Q : Session → Session → List Entry → List Call → Type 0) → Calls r P → Calls r Q → Calls r (Both P Q)
+pub calls_both : (r : Rules) (P Q : Session ModelEnd → Session ModelEnd → List Entry → List Call → Type 0) → Calls r P → Calls r Q → Calls r (Both P Q)
 calls_both r P Q p q = record {
   quiet = record {
     none = λ s. (p.none s, q.none s);
@@ -97,7 +98,7 @@ calls_both r P Q p q = record {
   read = λ m s a live. (p.read m s a live, q.read m s a live);
 }
 
-pub bare_both : (P Q : Session → Session → List Entry → List Call → Type 0) → Bare P → Bare Q → Bare (Both P Q)
+pub bare_both : (P Q : Session ModelEnd → Session ModelEnd → List Entry → List Call → Type 0) → Bare P → Bare Q → Bare (Both P Q)
 bare_both P Q p q = record {
   wrote = λ s n whole. (p.wrote s n whole, q.wrote s n whole);
   put_off = λ s. (p.put_off s, q.put_off s);
@@ -118,11 +119,11 @@ if_two : {A : Type 0} (b : Bool) (x y : A) → (if b then x ∷ (if b then y ∷
 if_two true x y = refl
 if_two false x y = refl
 
-own_same : (s t : Session) → t.number ≡ s.number → Own s t [] []
+own_same : (s t : Session ModelEnd) → t.number ≡ s.number → Own s t [] []
 unfolding of calls_at opened_in
 own_same s t e = record { number = e; entries = λ conn. if_nil (s.number == conn); calls = λ conn. if_nil (s.number == conn); opens = refl }
 
-own_one : (s t : Session) (x : Entry) → t.number ≡ s.number → x.conn ≡ s.number → Own s t (x ∷ []) []
+own_one : (s t : Session ModelEnd) (x : Entry) → t.number ≡ s.number → x.conn ≡ s.number → Own s t (x ∷ []) []
 unfolding of calls_at opened_in
 own_one s t x e f = record {
   number = e;
@@ -131,7 +132,7 @@ own_one s t x e f = record {
   opens = refl;
 }
 
-own_two : (s t : Session) (x y : Entry) → t.number ≡ s.number → x.conn ≡ s.number → y.conn ≡ s.number → Own s t (x ∷ y ∷ []) []
+own_two : (s t : Session ModelEnd) (x y : Entry) → t.number ≡ s.number → x.conn ≡ s.number → y.conn ≡ s.number → Own s t (x ∷ y ∷ []) []
 unfolding of calls_at opened_in
 own_two s t x y e f g = record {
   number = e;
@@ -143,7 +144,7 @@ own_two s t x y e f g = record {
   opens = refl;
 }
 
-own_then : (s t u : Session) (xs ys : List Entry) (cs ds : List Call) → Own s t xs cs → Own t u ys ds → Own s u (xs ++ ys) (cs ++ ds)
+own_then : (s t u : Session ModelEnd) (xs ys : List Entry) (cs ds : List Call) → Own s t xs cs → Own t u ys ds → Own s u (xs ++ ys) (cs ++ ds)
 own_then s t u xs ys cs ds a b = record {
   number = b.number ∙ a.number;
   entries = λ conn.
@@ -162,10 +163,10 @@ own_steady r = record {
   none = λ s. own_same s s refl;
   then_ = own_then;
   given = λ m s g allowed fits.
-      own_one s (record s { end = end_after r m s.end g; output = s.output ++ octets_in (outcomes_of r m s.end g); broken = s.broken || breaks g }) (entry_of r m s g) refl refl;
+      own_one s (record s { end = end_after model_ends r m s.end g; output = s.output ++ octets_in (outcomes_of model_ends r m s.end g); broken = s.broken || breaks g }) (entry_of model_ends r m s g) refl refl;
   stalls = λ m s g allowed fits.
-      own_two s (record s { end = end_after r m (end_after r m s.end g) Stalls; broken = true }) (entry_of r m s g)
-      (entry_of r m (record s { end = end_after r m s.end g }) Stalls) refl refl refl;
+      own_two s (record s { end = end_after model_ends r m (end_after model_ends r m s.end g) Stalls; broken = true }) (entry_of model_ends r m s g)
+      (entry_of model_ends r m (record s { end = end_after model_ends r m s.end g }) Stalls) refl refl refl;
   heard = λ s mind. own_same s (record s { mind = mind }) refl;
   parts = λ s at gone. own_same s (record s { mind = None; closing = Some at }) refl;
 }
@@ -179,12 +180,12 @@ own_bare = record {
   breaks = λ s gone. own_same s (record s { broken = true }) refl;
 }
 
-pub own_reads : (s : Session) (waits : ℕ) (reading : Reading) → Own s s [] (Reads s.number most_read waits reading ∷ [])
+pub own_reads : (s : Session ModelEnd) (waits : ℕ) (reading : Reading) → Own s s [] (Reads s.number most_read waits reading ∷ [])
 unfolding of calls_at opened_in
 own_reads s waits reading = record { number = refl; entries = λ conn. if_nil (s.number == conn); calls = λ conn. refl; opens = refl }
 
 -- a steady relation that allows less
-pub steady_less : (r : Rules) (A B : Given → Type 0) (Q : Session → Session → List Entry → List Call → Type 0)
+pub steady_less : (r : Rules) (A B : Given → Type 0) (Q : Session ModelEnd → Session ModelEnd → List Entry → List Call → Type 0)
     → ((g : Given) → B g → A g) → Steady r A Q → Steady r B Q
 steady_less r A B Q less q = record {
   none = q.none;

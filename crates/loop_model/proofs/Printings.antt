@@ -1,4 +1,5 @@
 -- The outcomes of each connection are those of its own events.
+use Rattle.loop_model.specs.Ends.{ModelEnd, model_ends, used_part}
 use Rattle.std.proofs.Common.{if◌then◌else◌, ◌≡◌, ℕ, ◌+◌, max, inl, inr, Bool, List, [], ◌∷◌, ◌++◌, length, Option, Some, None, refl, sym, ◌∙◌, ap, subst, append-nil, eq-eqb}
 use Rattle.std.specs.Prelude.{◌==◌, nat_lt}
 use Rattle.std.proofs.lemmas.Bool.{cases_Bool}
@@ -9,8 +10,7 @@ use Rattle.safety_automaton.specs.Keys.{key_at}
 use Rattle.end_model.specs.Steps.{Finds}
 use Rattle.end_model.specs.Ends.{End, opened, step, Call as CallsWith, Answer as AnswersWith}
 use Rattle.end_model.specs.Ends as end
-use Rattle.er_end.specs.KeptEnds.{KEnd, kept_opened}
-use Rattle.er_end.specs.Standing.{EndStands, StepsAlike, MadeStands, event_of as end_event}
+use Rattle.loop_model.proofs.EndKeepings.{EndStands, StepsAlike, MadeStands}
 use Rattle.er_trace.specs.declared.entry.Entry.{Entry as Event_line}
 use Rattle.er_trace.specs.declared.event.Event.TheVariants as event
 use Rattle.er_trace.specs.Texts.{entry_words}
@@ -87,23 +87,23 @@ module _ (steps : StepsAlike) (made : MadeStands) (plan : Plan) (allowed : AllAl
   Behind m xs = behind plan.settings (key_at plan.keys) m xs
 
   -- events lead from an end that is kept to another
-  pub record Leads (m : End) (k : KEnd) (ys : List Entry) : Type 0 where
-    told : Tells (Some m) ys
-    now : End
-    is : Behind (Some m) ys ≡ Some now
-    stands : EndStands k now
+  pub record Leads (m : End) (k : ModelEnd) (ys : List Entry) : Type 0 where
+    pub told : Tells (Some m) ys
+    pub now : End
+    pub is : Behind (Some m) ys ≡ Some now
+    pub stands : EndStands k now
 
-  pub Going : KEnd → KEnd → List Entry → Type 0
+  unfoldable pub Going : ModelEnd → ModelEnd → List Entry → Type 0
   Going k l ys = (m : End) → EndStands k m → Leads m l ys
 
-  unfoldable pub Goes : Session → Session → List Entry → List Call → Type 0
+  unfoldable pub Goes : Session ModelEnd → Session ModelEnd → List Entry → List Call → Type 0
   Goes s t ys ds = Going s.end t.end ys
 
-  stays : (k : KEnd) → Going k k []
+  stays : (k : ModelEnd) → Going k k []
   unfolding Going behind
   stays k m st = record { told = tt; now = m; is = refl; stands = st }
 
-  on : (k l n : KEnd) (xs ys : List Entry) → Going k l xs → Going l n ys → Going k n (xs ++ ys)
+  on : (k l n : ModelEnd) (xs ys : List Entry) → Going k l xs → Going l n ys → Going k n (xs ++ ys)
   unfolding Going
   on k l n xs ys p q m st =
       let a = p m st in
@@ -115,8 +115,8 @@ module _ (steps : StepsAlike) (made : MadeStands) (plan : Plan) (allowed : AllAl
         stands = b.stands;
       }
 
-  same_event : (now : ℕ) (k : KEnd) (g : Given) (m : End) → IsOfEnd g
-      → happens plan.settings (key_at plan.keys) now (written k g) (Some m) ≡ goes_on now (end_event k (event_of (rules_of plan) g)) (Some m)
+  same_event : (now : ℕ) (k : ModelEnd) (g : Given) (m : End) → IsOfEnd g
+      → happens plan.settings (key_at plan.keys) now (written model_ends k g) (Some m) ≡ goes_on now (used_part k (event_of (rules_of plan) g)) (Some m)
   same_event now k (Begins engine rbc rb) m p = absurd p
   same_event now k (Hears octets) m p = refl
   same_event now k (Sends text) m p = refl
@@ -127,15 +127,15 @@ module _ (steps : StepsAlike) (made : MadeStands) (plan : Plan) (allowed : AllAl
   same_event now k Faults m p = refl
   same_event now k Stalls m p = refl
 
-  one : (now conn : ℕ) (k : KEnd) (g : Given) → IsOfEnd g
-      → Going k (end_after (rules_of plan) now k g) (record { moment = now; conn = conn; event = written k g; outcomes = outcomes_of (rules_of plan) now k g } ∷ [])
+  one : (now conn : ℕ) (k : ModelEnd) (g : Given) → IsOfEnd g
+      → Going k (end_after model_ends (rules_of plan) now k g) (record { moment = now; conn = conn; event = written model_ends k g; outcomes = outcomes_of model_ends (rules_of plan) now k g } ∷ [])
   unfolding Going behind end_after outcomes_of
   one now conn k g p m st =
       let a = steps now (event_of (rules_of plan) g) k m st in
       let e = same_event now k g m p in
       record {
         told = (a.1 ∙ sym (ap (λ z. z.1) e), tt);
-        now = (step now (end_event k (event_of (rules_of plan) g)) m).0;
+        now = (step now (used_part k (event_of (rules_of plan) g)) m).0;
         is = ap (λ z. z.0) e;
         stands = a.0;
       }
@@ -147,9 +147,9 @@ module _ (steps : StepsAlike) (made : MadeStands) (plan : Plan) (allowed : AllAl
     then_ = λ s t u xs ys cs ds p q. on s.end t.end u.end xs ys p q;
     given = λ m s g p fits. one m s.number s.end g p;
     stalls = λ m s g p fits.
-        let k = end_after (rules_of plan) m s.end g in
-        on s.end k (end_after (rules_of plan) m k Stalls) (entry_of (rules_of plan) m s g ∷ [])
-        (entry_of (rules_of plan) m (record s { end = k }) Stalls ∷ []) (one m s.number s.end g p) (one m s.number k Stalls tt);
+        let k = end_after model_ends (rules_of plan) m s.end g in
+        on s.end k (end_after model_ends (rules_of plan) m k Stalls) (entry_of model_ends (rules_of plan) m s g ∷ [])
+        (entry_of model_ends (rules_of plan) m (record s { end = k }) Stalls ∷ []) (one m s.number s.end g p) (one m s.number k Stalls tt);
     heard = λ s mind. stays s.end;
     parts = λ s at gone. stays s.end;
   }
@@ -163,11 +163,11 @@ module _ (steps : StepsAlike) (made : MadeStands) (plan : Plan) (allowed : AllAl
     breaks = λ s gone. stays s.end;
   }
 
-  reads : (s : Session) (waits : ℕ) (reading : Reading) → Goes s s [] (Reads s.number most_read waits reading ∷ [])
+  reads : (s : Session ModelEnd) (waits : ℕ) (reading : Reading) → Goes s s [] (Reads s.number most_read waits reading ∷ [])
   unfolding Goes
   reads s waits reading = stays s.end
 
-  abbrev pub Q : Session → Session → List Entry → List Call → Type 0
+  abbrev pub Q : Session ModelEnd → Session ModelEnd → List Entry → List Call → Type 0
   Q = Both Own Goes
 
   pub q_steady : Steady (rules_of plan) IsOfEnd Q
@@ -182,19 +182,19 @@ module _ (steps : StepsAlike) (made : MadeStands) (plan : Plan) (allowed : AllAl
   q_calls = all_left_of (rules_of plan) Q q_each
 
   -- an end and its events so far
-  pub record ToldTo (k : KEnd) (xs : List Entry) : Type 0 where
+  pub record ToldTo (k : ModelEnd) (xs : List Entry) : Type 0 where
     pub told : Tells None xs
     pub now : End
     pub is : Behind None xs ≡ Some now
     pub stands : EndStands k now
 
-  abbrev pub Told : Session → List Entry → List Call → Type 0
+  abbrev pub Told : Session ModelEnd → List Entry → List Call → Type 0
   Told s xs cs = ToldTo s.end xs
 
   abbrev pub Gone : List Entry → List Call → Type 0
   Gone xs cs = Tells None xs
 
-  pub more : (k l : KEnd) (xs ys : List Entry) → ToldTo k xs → Going k l ys → ToldTo l (xs ++ ys)
+  pub more : (k l : ModelEnd) (xs ys : List Entry) → ToldTo k xs → Going k l ys → ToldTo l (xs ++ ys)
   unfolding Going
   more k l xs ys h q =
       let b = q h.now h.stands in
@@ -214,14 +214,14 @@ module _ (steps : StepsAlike) (made : MadeStands) (plan : Plan) (allowed : AllAl
       told = (refl, tt);
       now = opened (AnswersWith plan.settings plan.rbc (next_u64 l.words).0 l.moment);
       is = refl;
-      stands = made (AnswersWith plan.settings plan.rbc (next_u64 l.words).0 l.moment) allowed;
+      stands = made (AnswersWith plan.settings plan.rbc (next_u64 l.words).0 l.moment);
     };
     never = tt;
     full = λ m conn. (refl, tt);
     unserved = λ m conn handed. (refl, tt);
   }
 
-  told_in : (s : Option Session) (conn : ℕ) (xs : List Entry) (cs : List Call)
+  told_in : (s : Option (Session ModelEnd)) (conn : ℕ) (xs : List Entry) (cs : List Call)
       → Fits plan Q q_calls (λ s t xs cs p. p.0) Told Gone keeps s conn xs cs → Tells None xs
   unfolding Fits
   told_in None conn xs cs h = h
@@ -272,26 +272,26 @@ module _ (steps : StepsAlike) (made : MadeStands) (plan : Plan) (allowed : AllAl
             (told_from (before ++ x ∷ []) xs (λ conn. rest_of conn x before xs (h conn))),
       )
 
-  pub isolated : (c : Course) (turns : List Turn) → IsServing plan c turns → AreTold plan.settings (key_at plan.keys) [] (run plan c turns).entries
+  pub isolated : (c : Course ModelEnd) (turns : List Turn) → IsServing plan c turns → AreTold plan.settings (key_at plan.keys) [] (run model_ends plan c turns).entries
   unfolding behind of
   isolated c turns serving =
       let k = knows_run plan Q q_calls (λ s t xs cs p. p.0) Told Gone keeps c turns serving.none serving.rises in
-      told_from [] (run plan c turns).entries (λ conn.
-      told_in (session_of conn (run plan c turns).state.loop.sessions) conn (of conn (run plan c turns).entries) (calls_at conn (run plan c turns).calls) (k.fits conn))
+      told_from [] (run model_ends plan c turns).entries (λ conn.
+      told_in (session_of conn (run model_ends plan c turns).state.loop.sessions) conn (of conn (run model_ends plan c turns).entries) (calls_at conn (run model_ends plan c turns).calls) (k.fits conn))
 
   -- ---- a dial
 
-  abbrev pub begins : Caller → Loop → Given
+  abbrev pub begins : Caller → Loop ModelEnd → Given
   begins caller l = Begins caller.engine plan.rbc (next_u64 l.words).0
 
-  told_call : (caller : Caller) (l : Loop) (conn : ℕ) → key_at plan.keys l.moment caller.engine plan.rbc ≡ Some caller.kmac
-      → ToldTo (end_after (rules_of plan) l.moment (calling plan caller l) (begins caller l))
-      (record { moment = l.moment; conn = conn; event = written (calling plan caller l) (begins caller l); outcomes = outcomes_of (rules_of plan) l.moment (calling plan caller l) (begins caller l) } ∷ [])
+  told_call : (caller : Caller) (l : Loop ModelEnd) (conn : ℕ) → key_at plan.keys l.moment caller.engine plan.rbc ≡ Some caller.kmac
+      → ToldTo (end_after model_ends (rules_of plan) l.moment (calling model_ends plan caller l) (begins caller l))
+      (record { moment = l.moment; conn = conn; event = written model_ends (calling model_ends plan caller l) (begins caller l); outcomes = outcomes_of model_ends (rules_of plan) l.moment (calling model_ends plan caller l) (begins caller l) } ∷ [])
   unfolding behind end_after outcomes_of
   told_call caller l conn key =
       let word = (next_u64 l.words).0 in
       let o = CallsWith plan.settings caller.engine plan.rbc caller.kmac word l.moment in
-      let a = steps l.moment end.Start (kept_opened o) (opened o) (made o allowed) in
+      let a = steps l.moment end.Start (model_ends.opens o) (opened o) (made o) in
       let e : happens plan.settings (key_at plan.keys) l.moment (event.Call caller.engine plan.rbc word) None ≡ goes_on l.moment end.Start (Some (opened o)) =
       ap (λ z. called plan.settings l.moment caller.engine plan.rbc word z None) key in
       record {
@@ -302,30 +302,30 @@ module _ (steps : StepsAlike) (made : MadeStands) (plan : Plan) (allowed : AllAl
       }
 
   pub first_told : (caller : Caller) (at : ℕ) → key_at plan.keys at caller.engine plan.rbc ≡ Some caller.kmac
-      → (l : Loop) (conn : ℕ) (mind : Mind) → l.moment ≡ at
-      → ToldTo (fed (rules_of plan) l.moment (begun conn (calling plan caller l) mind) (begins caller l)).0.end
-      (fed (rules_of plan) l.moment (begun conn (calling plan caller l) mind) (begins caller l)).1
+      → (l : Loop ModelEnd) (conn : ℕ) (mind : Mind) → l.moment ≡ at
+      → ToldTo (fed model_ends (rules_of plan) l.moment (begun conn (calling model_ends plan caller l) mind) (begins caller l)).0.end
+      (fed model_ends (rules_of plan) l.moment (begun conn (calling model_ends plan caller l) mind) (begins caller l)).1
   unfolding fed joined
   first_told caller at key l conn mind now =
       let r = rules_of plan in
       let m = l.moment in
-      let k = calling plan caller l in
+      let k = calling model_ends plan caller l in
       let g = begins caller l in
-      let n = end_after r m k g in
+      let n = end_after model_ends r m k g in
       let s = begun conn k mind in
       let t = told_call caller l conn (subst (λ z. key_at plan.keys z caller.engine plan.rbc ≡ Some caller.kmac) (sym now) key) in
-      elim (cases_Bool (nat_lt most_output (length s.output + length (octets_in (outcomes_of r m k g))))) [
-        | inl p ↦ rw p (more n (end_after r m n Stalls) (entry_of r m s g ∷ []) (entry_of r m (record s { end = n }) Stalls ∷ []) t (one m conn n Stalls tt))
+      elim (cases_Bool (nat_lt most_output (length s.output + length (octets_in (outcomes_of model_ends r m k g))))) [
+        | inl p ↦ rw p (more n (end_after model_ends r m n Stalls) (entry_of model_ends r m s g ∷ []) (entry_of model_ends r m (record s { end = n }) Stalls ∷ []) t (one m conn n Stalls tt))
         | inr p ↦ rw p t
       ]
 
-  pub dialled : (caller : Caller) (c : Course) (address : List ℕ) (a : Dialled) → IsDialling plan caller c address a
-      → AreTold plan.settings (key_at plan.keys) [] (dials plan caller c address a).entries
+  pub dialled : (caller : Caller) (c : Course ModelEnd) (address : List ℕ) (a : Dialled) → IsDialling plan caller c address a
+      → AreTold plan.settings (key_at plan.keys) [] (dials model_ends plan caller c address a).entries
   unfolding behind of
   dialled caller c address a h =
       let at = max c.loop.moment a.first in
       let k = knows_dial plan caller IsOfEnd Q q_steady all_of_end.usual q_calls (λ s t xs cs p. p.0) Told Gone keeps at (first_told caller at h.key) c address a h.none refl h.rises in
-      let o = dials plan caller c address a in
+      let o = dials model_ends plan caller c address a in
       told_from [] o.entries (λ conn. told_in (session_of conn o.state.loop.sessions) conn (of conn o.entries) (calls_at conn o.calls) (k.fits conn))
 
 text_told : (settings : Settings) (finds : Finds) (before : List Event_line) (xs : List Entry) → AreTold settings finds before xs
@@ -345,7 +345,7 @@ all_isolated steps made = record {
 
 pub all_printed : StepsAlike → MadeStands → JournalIsPrinted
 all_printed steps made = record {
-  serving = λ plan c turns h. text_told plan.settings (key_at plan.keys) [] (run plan c turns).entries (isolated steps made plan h.allowed c turns h);
+  serving = λ plan c turns h. text_told plan.settings (key_at plan.keys) [] (run model_ends plan c turns).entries (isolated steps made plan h.allowed c turns h);
   dialling = λ plan caller c address a h.
-      text_told plan.settings (key_at plan.keys) [] (dials plan caller c address a).entries (dialled steps made plan h.allowed caller c address a h);
+      text_told plan.settings (key_at plan.keys) [] (dials model_ends plan caller c address a).entries (dialled steps made plan h.allowed caller c address a h);
 }

@@ -1,4 +1,5 @@
 -- A readable turn of a live connection takes an octet where one waits.
+use Rattle.loop_model.specs.Ends.{ModelEnd, model_ends}
 use Rattle.std.proofs.Common.{◌≡◌, ℕ, ◌≤◌, inl, inr, false, List, [], ◌∷◌, ◌++◌, Option, Some, None, refl, sym, ◌∙◌, ap, subst, append_assoc, arith, eqb-true}
 use Rattle.std.specs.Prelude.{◌==◌}
 use Rattle.std.proofs.lemmas.Bool.{cases_Bool}
@@ -21,17 +22,17 @@ record IsAmong (call : Call) (calls : List Call) : Type 0 where
 among_rest : (call : Call) (cs ds : List Call) → IsAmong call ds → IsAmong call (cs ++ ds)
 among_rest call cs ds a = record { first = cs ++ a.first; rest = a.rest; is = ap (λ z. cs ++ z) a.is ∙ sym (append_assoc cs a.first (call ∷ a.rest)) }
 
-among_visit : (r : Rules) (m n : ℕ) (ss : List Session) (s : Session) (a : Met) → session_of n ss ≡ Some s → is_released s ≡ false
-    → IsAmong (Reads n most_read a.waits a.reading) (visit_at (visited r m Read) n ss a).calls
+among_visit : (r : Rules) (m n : ℕ) (ss : List (Session ModelEnd)) (s : Session ModelEnd) (a : Met) → session_of n ss ≡ Some s → is_released model_ends s ≡ false
+    → IsAmong (Reads n most_read a.waits a.reading) (visit_at (visited model_ends r m Read) n ss a).calls
 unfolding visit_at session_of visited read_once
 among_visit r m n [] s a e live = absurd (let x : ⊥ = cc in x)
 among_visit r m n (t ∷ ss) s a e live =
     elim (cases_Bool (t.number == n)) [
       | inl p ↦
           let f : Some t ≡ Some s = rw p at e in
-          let g : is_released t ≡ false = subst (λ z. is_released z ≡ false) (let h : s ≡ t = cc in h) live in
+          let g : is_released model_ends t ≡ false = subst (λ z. is_released model_ends z ≡ false) (let h : s ≡ t = cc in h) live in
           rw (p, g)
-          (let rest = (rests_behind a.reading r m (came a.reading r m t a.says).0 a.wrote).calls in
+          (let rest = (rests_behind model_ends a.reading r m (came model_ends a.reading r m t a.says).0 a.wrote).calls in
           record { first = []; rest = rest; is = ap (λ z. Reads z most_read a.waits a.reading ∷ rest) (eqb-true t.number n p) })
       | inr p ↦ rw p (among_visit r m n ss s a (rw p at e) live)
     ]
@@ -56,27 +57,27 @@ progress_of conn waits reading calls a reads = record {
   taken = has_taken waits reading (is_read_at a.first a.rest (Reads conn most_read waits reading) (subst AreRead a.is reads));
 }
 
-turned_among : (halt : Option Halt) (plan : Plan) (d : Course) (a : Turn) (what : Happening) (conn : Conn) (s : Session) → halt ≡ None → a.happening ≡ what → what ≡ happening.Readable conn
-    → session_of conn.0 d.loop.sessions ≡ Some s → is_released s ≡ false
-    → IsAmong (Reads conn.0 most_read a.met.waits a.met.reading) (turned_unless halt plan d a).calls
+turned_among : (halt : Option Halt) (plan : Plan) (d : Course ModelEnd) (a : Turn) (what : Happening) (conn : Conn) (s : Session ModelEnd) → halt ≡ None → a.happening ≡ what → what ≡ happening.Readable conn
+    → session_of conn.0 d.loop.sessions ≡ Some s → is_released model_ends s ≡ false
+    → IsAmong (Reads conn.0 most_read a.met.waits a.met.reading) (turned_unless model_ends halt plan d a).calls
 unfolding happened
 turned_among (Some halt) plan d a what conn s p e f is live = absurd (let x : ⊥ = cc in x)
 turned_among None plan d a what conn s p e f is live =
     let l = (asks a.second d).loop in
-    among_rest (Reads conn.0 most_read a.met.waits a.met.reading) (Turns (until d.loop.sessions) a.happening ∷ []) (happened plan l a.happening a.met).calls
-    (subst (λ z. IsAmong (Reads conn.0 most_read a.met.waits a.met.reading) (happened plan l z a.met).calls) (sym (e ∙ f))
+    among_rest (Reads conn.0 most_read a.met.waits a.met.reading) (Turns (until model_ends d.loop.sessions) a.happening ∷ []) (happened model_ends plan l a.happening a.met).calls
+    (subst (λ z. IsAmong (Reads conn.0 most_read a.met.waits a.met.reading) (happened model_ends plan l z a.met).calls) (sym (e ∙ f))
     (among_visit (rules_of plan) l.moment conn.0 l.sessions s a.met is live))
 
-went_among : (halt : Option Halt) (plan : Plan) (c : Course) (a : Turn) (conn : Conn) (s : Session) → halt ≡ None → (readied plan c a).state.halt ≡ None
-    → a.happening ≡ happening.Readable conn → session_of conn.0 (readied plan c a).state.loop.sessions ≡ Some s → is_released s ≡ false
-    → IsAmong (Reads conn.0 most_read a.met.waits a.met.reading) (went_unless halt plan c a).calls
+went_among : (halt : Option Halt) (plan : Plan) (c : Course ModelEnd) (a : Turn) (conn : Conn) (s : Session ModelEnd) → halt ≡ None → (readied model_ends plan c a).state.halt ≡ None
+    → a.happening ≡ happening.Readable conn → session_of conn.0 (readied model_ends plan c a).state.loop.sessions ≡ Some s → is_released model_ends s ≡ false
+    → IsAmong (Reads conn.0 most_read a.met.waits a.met.reading) (went_unless model_ends halt plan c a).calls
 went_among (Some halt) plan c a conn s p q e is live = absurd (let x : ⊥ = cc in x)
 went_among None plan c a conn s p q e is live =
-    let d = readied plan c a in
-    among_rest (Reads conn.0 most_read a.met.waits a.met.reading) d.calls (turned_unless d.state.halt plan d.state a).calls
+    let d = readied model_ends plan c a in
+    among_rest (Reads conn.0 most_read a.met.waits a.met.reading) d.calls (turned_unless model_ends d.state.halt plan d.state a).calls
     (turned_among d.state.halt plan d.state a a.happening conn s q refl e is live)
 
 pub readable_progress : ReadableProgress
 unfolding went
 readable_progress plan c a conn s p q e is live reads =
-    progress_of conn.0 a.met.waits a.met.reading (went plan c a).calls (went_among c.halt plan c a conn s p q e is live) reads
+    progress_of conn.0 a.met.waits a.met.reading (went model_ends plan c a).calls (went_among c.halt plan c a conn s p q e is live) reads

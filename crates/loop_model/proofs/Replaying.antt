@@ -1,4 +1,5 @@
 -- A replay refuses no event of a journal.
+use Rattle.loop_model.specs.Ends.{ModelEnd, model_ends}
 use Rattle.std.proofs.Common.{◌≡◌, ℕ, ◌+◌, ◌≤◌, max, inl, inr, Bool, true, false, ◌&&◌, ◌||◌, not, List, [], ◌∷◌, ◌++◌, length, Option, Some, None, refl, sym, ◌∙◌, ap, subst, append-nil, append_assoc, arith, eqb-true, true≢false}
 use Rattle.std.specs.Prelude.{nat_lt, ◌==◌, is_some}
 use Rattle.std.proofs.lemmas.Bool.{cases_Bool}
@@ -8,9 +9,9 @@ use Rattle.safety_automaton.specs.Keys.{key_at}
 use Rattle.end_model.specs.Ends.{End}
 use Rattle.end_model.specs.Layers.{model}
 use Rattle.end_model.specs.Outcomes.{Outcome}
-use Rattle.er_end.specs.KeptEnds.{KEnd, kept_opened, waiting_in}
-use Rattle.er_end.specs.Keeping.{WaitsMove, OctetsBring, ReleaseStays, BreaksRelease}
-use Rattle.er_end.specs.Standing.{EndStands, StepsAlike, MadeStands, ShowsAlike}
+use Rattle.loop_model.proofs.EndKeepings.{waiting_in}
+use Rattle.loop_model.proofs.EndKeepings.{WaitsMove, OctetsBring, ReleaseStays, BreaksRelease}
+use Rattle.loop_model.proofs.EndKeepings.{EndStands, StepsAlike, MadeStands, ShowsAlike}
 use Rattle.er_trace.specs.declared.entry.Entry.{Entry as Event_line}
 use Rattle.er_trace.specs.declared.event.Event.{Event}
 use Rattle.er_trace.specs.declared.event.Event.TheVariants as event
@@ -43,7 +44,7 @@ use Rattle.loop_model.proofs.Taking.{PassesAs, AllPass, all_pass-append, UpTo, u
 
 -- ---- events of an end
 
-of_end : (k : KEnd) (g : Given) → IsOfEnd g → role_of (written k g) ≡ Belongs
+of_end : (k : ModelEnd) (g : Given) → IsOfEnd g → role_of (written model_ends k g) ≡ Belongs
 of_end k (Begins engine rbc rb) p = absurd p
 of_end k (Hears octets) p = refl
 of_end k (Sends text) p = refl
@@ -68,7 +69,7 @@ pub plain-append : (m n : ℕ) (xs ys : List Entry) → ArePlain m n xs → AreP
 plain-append m n [] ys p q = q
 plain-append m n (x ∷ xs) ys p q = (p.0, plain-append m n xs ys p.1 q)
 
-unfoldable pub Plainly : ℕ → Session → Session → List Entry → List Call → Type 0
+unfoldable pub Plainly : ℕ → Session ModelEnd → Session ModelEnd → List Entry → List Call → Type 0
 Plainly m s t xs cs = (t.number ≡ s.number) × ArePlain m s.number xs
 
 pub plainly : (r : Rules) (m : ℕ) → SteadyAt r m IsOfEnd (Plainly m)
@@ -89,29 +90,29 @@ plain_bare : (m : ℕ) → Bare (Plainly m)
 unfolding Plainly
 plain_bare m = record { wrote = λ s n whole. (refl, tt); put_off = λ s. (refl, tt); failed = λ s. (refl, tt); breaks = λ s gone. (refl, tt) }
 
-plain_reads : (m : ℕ) (s : Session) (waits : ℕ) (reading : Reading) → Plainly m s s [] (Reads s.number most_read waits reading ∷ [])
+plain_reads : (m : ℕ) (s : Session ModelEnd) (waits : ℕ) (reading : Reading) → Plainly m s s [] (Reads s.number most_read waits reading ∷ [])
 unfolding Plainly
 plain_reads m s waits reading = (refl, tt)
 
 pub plain_calls : (r : Rules) (m : ℕ) → CallsAt r m (Plainly m)
 plain_calls r m = usual_calls_at r m IsOfEnd (Plainly m) (plainly r m) all_of_end (plain_bare m) (plain_reads m)
 
-pub plain_left : (m : ℕ) (s : Session) (ts : List Session) (xs : List Entry) (cs : List Call) → Left (Plainly m) s ts xs cs → ArePlain m s.number xs
+pub plain_left : (m : ℕ) (s : Session ModelEnd) (ts : List (Session ModelEnd)) (xs : List Entry) (cs : List Call) → Left (Plainly m) s ts xs cs → ArePlain m s.number xs
 unfolding Plainly
 plain_left m s ts xs cs (Stays t p q) = q.1
 plain_left m s ts xs cs (Closed t ds over p e q) = q.1
 
 -- a visit of a number
-pub plain_visit : (r : Rules) (m : ℕ) (visit : Visit) (n : ℕ) (ss : List Session) (a : Met) → ArePlain m n (visit_at (visited r m visit) n ss a).entries
+pub plain_visit : (r : Rules) (m : ℕ) (visit : Visit) (n : ℕ) (ss : List (Session ModelEnd)) (a : Met) → ArePlain m n (visit_at (visited model_ends r m visit) n ss a).entries
 unfolding visit_at
 plain_visit r m visit n [] a = tt
 plain_visit r m visit n (s ∷ ss) a =
     elim (cases_Bool (s.number == n)) [
-      | inl p ↦ rw p (subst (λ z. ArePlain m z (visited r m visit s a).entries) (eqb-true s.number n p) (plain_left m s _ _ _ (left_visited_at r m (Plainly m) (plain_calls r m) visit s a)))
+      | inl p ↦ rw p (subst (λ z. ArePlain m z (visited model_ends r m visit s a).entries) (eqb-true s.number n p) (plain_left m s _ _ _ (left_visited_at r m (Plainly m) (plain_calls r m) visit s a)))
       | inr p ↦ rw p (plain_visit r m visit n ss a)
     ]
 
-absent_visit : (f : Session → Met → _) (n : ℕ) (ss : List Session) (a : Met) → session_of n ss ≡ None → (visit_at f n ss a).entries ≡ []
+absent_visit : (f : Session ModelEnd → Met → _) (n : ℕ) (ss : List (Session ModelEnd)) (a : Met) → session_of n ss ≡ None → (visit_at f n ss a).entries ≡ []
 unfolding visit_at session_of
 absent_visit f n [] a e = refl
 absent_visit f n (s ∷ ss) a e =
@@ -146,7 +147,7 @@ plain_pass plan m n js (x ∷ xs) p up is = (
 -- ---- one session
 
 -- no event of a visit opens a connection
-Belonging : Session → Session → List Entry → List Call → Type 0
+Belonging : Session ModelEnd → Session ModelEnd → List Entry → List Call → Type 0
 Belonging s t xs cs = named_in (lines_of xs) ≡ []
 
 names-append : (xs ys : List Entry) → named_in (lines_of (xs ++ ys)) ≡ named_in (lines_of xs) ++ named_in (lines_of ys)
@@ -177,15 +178,14 @@ or_three false true c p f g = refl
 or_three false false c p f g = g p
 
 -- a released end at which no message waits isn't live
-dead_of : (shows : ShowsAlike) (k : KEnd) (m : End) → EndStands k m → is_some k.core.released ≡ true → waiting_in k ≡ [] → is_live (Some m) ≡ false
+dead_of : (shows : ShowsAlike) (k : ModelEnd) (m : End) → EndStands k m → is_some k.core.released ≡ true → waiting_in k ≡ [] → is_live (Some m) ≡ false
 dead_of shows k m stands gone none =
     let s = shows k m stands in
     let a : is_some m.core.released ≡ true = ap is_some (sym s.1) ∙ gone in
     let b : model.untaken m.core.upper ≡ 0 = sym s.2 ∙ ap length none in
     ap (λ z. not (z && (model.untaken m.core.upper == 0))) a ∙ ap (λ z. not (z == 0)) b
 
-made_none : (plan : Plan) (l : Loop) → waiting_in (answering plan l) ≡ []
-unfolding kept_opened
+made_none : (plan : Plan) (l : Loop ModelEnd) → waiting_in (answering model_ends plan l) ≡ []
 made_none plan l = refl
 
 -- ---- the session that a dial opens
@@ -194,10 +194,10 @@ module _ (plan : Plan) where
   pub any_usual : Usual (λ g. Unit {0})
   any_usual = record { sends = λ text. tt; leaves = λ sub. tt; takes = tt }
 
-  abbrev pub begins : Caller → Loop → Given
+  abbrev pub begins : Caller → Loop ModelEnd → Given
   begins caller l = Begins caller.engine plan.rbc (next_u64 l.words).0
 
-  pub joined_so : (m : ℕ) (s : Session) (octets : List ℕ) → ((joined (rules_of plan) m s octets).0.number ≡ s.number) × ArePlain m s.number (joined (rules_of plan) m s octets).1
+  pub joined_so : (m : ℕ) (s : Session ModelEnd) (octets : List ℕ) → ((joined model_ends (rules_of plan) m s octets).0.number ≡ s.number) × ArePlain m s.number (joined model_ends (rules_of plan) m s octets).1
   unfolding joined
   joined_so m s octets =
       elim (cases_Bool (nat_lt most_output (length s.output + length octets))) [
@@ -206,42 +206,42 @@ module _ (plan : Plan) where
       ]
 
   -- a call, and events of its end
-  pub record CallsSo (caller : Caller) (l : Loop) (conn : ℕ) (mind : Mind) (xs : List Entry) : Type 0 where
+  pub record CallsSo (caller : Caller) (l : Loop ModelEnd) (conn : ℕ) (mind : Mind) (xs : List Entry) : Type 0 where
     pub rest : List Entry
-    pub is : xs ≡ entry_of (rules_of plan) l.moment (begun conn (calling plan caller l) mind) (begins caller l) ∷ rest
+    pub is : xs ≡ entry_of model_ends (rules_of plan) l.moment (begun conn (calling model_ends plan caller l) mind) (begins caller l) ∷ rest
     pub plain : ArePlain l.moment conn rest
 
-  pub record Handled (caller : Caller) (l : Loop) (conn : ℕ) (mind : Mind) (says : Says) : Type 0 where
-    pub calls : CallsSo caller l conn mind (handled (rules_of plan) l.moment (begun conn (calling plan caller l) mind) (begins caller l) says).1
-    pub number : (handled (rules_of plan) l.moment (begun conn (calling plan caller l) mind) (begins caller l) says).0.number ≡ conn
+  pub record Handled (caller : Caller) (l : Loop ModelEnd) (conn : ℕ) (mind : Mind) (says : Says) : Type 0 where
+    pub calls : CallsSo caller l conn mind (handled model_ends (rules_of plan) l.moment (begun conn (calling model_ends plan caller l) mind) (begins caller l) says).1
+    pub number : (handled model_ends (rules_of plan) l.moment (begun conn (calling model_ends plan caller l) mind) (begins caller l) says).0.number ≡ conn
 
-  pub handled_so : (caller : Caller) (l : Loop) (conn : ℕ) (mind : Mind) (says : Says) → Handled caller l conn mind says
+  pub handled_so : (caller : Caller) (l : Loop ModelEnd) (conn : ℕ) (mind : Mind) (says : Says) → Handled caller l conn mind says
   unfolding Plainly fed
   handled_so caller l conn mind says =
       let m = l.moment in
-      let s = begun conn (calling plan caller l) mind in
+      let s = begun conn (calling model_ends plan caller l) mind in
       let g = begins caller l in
       let f = follows_handled_at (rules_of plan) m IsOfEnd (Plainly m) (plainly (rules_of plan) m) all_of_end.usual s g says in
-      let j = joined_so m (record s { end = end_after (rules_of plan) m s.end g; broken = s.broken || breaks g }) (octets_in (outcomes_of (rules_of plan) m s.end g)) in
+      let j = joined_so m (record s { end = end_after model_ends (rules_of plan) m s.end g; broken = s.broken || breaks g }) (octets_in (outcomes_of model_ends (rules_of plan) m s.end g)) in
       record {
         calls = record {
-          rest = (joined (rules_of plan) m (record s { end = end_after (rules_of plan) m s.end g; broken = s.broken || breaks g }) (octets_in (outcomes_of (rules_of plan) m s.end g))).1 ++ f.rest;
+          rest = (joined model_ends (rules_of plan) m (record s { end = end_after model_ends (rules_of plan) m s.end g; broken = s.broken || breaks g }) (octets_in (outcomes_of model_ends (rules_of plan) m s.end g))).1 ++ f.rest;
           is = f.is;
           plain = plain-append m conn _ f.rest j.1 (subst (λ z. ArePlain m z f.rest) j.0 f.holds.1);
         };
         number = f.holds.0 ∙ j.0;
       }
 
-  pub served_so : (caller : Caller) (l : Loop) (conn : ℕ) (mind : Mind) (a : Met) → CallsSo caller l conn mind (served (rules_of plan) l.moment (begun conn (calling plan caller l) mind) (begins caller l) a).entries
+  pub served_so : (caller : Caller) (l : Loop ModelEnd) (conn : ℕ) (mind : Mind) (a : Met) → CallsSo caller l conn mind (served model_ends (rules_of plan) l.moment (begun conn (calling model_ends plan caller l) mind) (begins caller l) a).entries
   unfolding served Plainly
   served_so caller l conn mind a =
       let m = l.moment in
-      let s = begun conn (calling plan caller l) mind in
+      let s = begun conn (calling model_ends plan caller l) mind in
       let g = begins caller l in
       let says = first_of nothing_said a.says in
       let h = handled_so caller l conn mind says in
-      let t = (handled (rules_of plan) m s g says).0 in
-      let o = rests (rules_of plan) m t a.wrote in
+      let t = (handled model_ends (rules_of plan) m s g says).0 in
+      let o = rests model_ends (rules_of plan) m t a.wrote in
       let p : ArePlain m t.number o.entries =
       plain_left m t o.state o.entries o.calls (left_rests_at (rules_of plan) m (Plainly m) (plain_calls (rules_of plan) m).quiet t t a.wrote [] [] (refl, tt)) in
       record {
@@ -256,10 +256,10 @@ module _ (steps : StepsAlike) (made : MadeStands) (shows : ShowsAlike) (waits : 
     abbrev r : Rules
     r = rules_of plan
 
-    abbrev Told : Session → Session → List Entry → List Call → Type 0
+    abbrev Told : Session ModelEnd → Session ModelEnd → List Entry → List Call → Type 0
     Told = printings.Q steps made plan allowed
 
-    abbrev Q : Session → Session → List Entry → List Call → Type 0
+    abbrev Q : Session ModelEnd → Session ModelEnd → List Entry → List Call → Type 0
     Q = Both Told (Both Belonging (Both Sounds Rests))
 
     q_each : Calls r Q
@@ -271,11 +271,11 @@ module _ (steps : StepsAlike) (made : MadeStands) (shows : ShowsAlike) (waits : 
     q_calls : AllLeft r Q
     q_calls = all_left_of r Q q_each
 
-    own : (s t : Session) (xs : List Entry) (cs : List Call) → Q s t xs cs → Own s t xs cs
+    own : (s t : Session ModelEnd) (xs : List Entry) (cs : List Call) → Q s t xs cs → Own s t xs cs
     own s t xs cs p = p.0.0
 
     -- a live session: its end is that of its events, the first of which opened it
-    record Lives (s : Session) (xs : List Entry) : Type 0 where
+    record Lives (s : Session ModelEnd) (xs : List Entry) : Type 0 where
       told : printings.ToldTo steps made plan allowed s.end xs
       opened : is_opened s.number (lines_of xs) ≡ true
       once : length (named_in (lines_of xs)) ≤ 1
@@ -287,7 +287,7 @@ module _ (steps : StepsAlike) (made : MadeStands) (shows : ShowsAlike) (waits : 
       dead : is_live (printings.Behind steps made plan allowed None xs) ≡ false
       once : length (named_in (lines_of xs)) ≤ 1
 
-    abbrev K : Session → List Entry → List Call → Type 0
+    abbrev K : Session ModelEnd → List Entry → List Call → Type 0
     K s xs cs = Lives s xs
 
     abbrev E : List Entry → List Call → Type 0
@@ -296,7 +296,7 @@ module _ (steps : StepsAlike) (made : MadeStands) (shows : ShowsAlike) (waits : 
     once_more : (xs ys : List Entry) → length (named_in (lines_of xs)) ≤ 1 → named_in (lines_of ys) ≡ [] → length (named_in (lines_of (xs ++ ys))) ≤ 1
     once_more xs ys p q = subst (λ z. length z ≤ 1) (sym (names-append xs ys ∙ ap (λ z. named_in (lines_of xs) ++ z) q ∙ append-nil (named_in (lines_of xs)))) p
 
-    lives_on : (s t : Session) (xs ys : List Entry) (cs ds : List Call) → Lives s xs → Q s t ys ds → Lives t (xs ++ ys)
+    lives_on : (s t : Session ModelEnd) (xs ys : List Entry) (cs ds : List Call) → Lives s xs → Q s t ys ds → Lives t (xs ++ ys)
     unfolding printings.Goes Sounds Rests Belonging
     lives_on s t xs ys cs ds h q = record {
       told = printings.more steps made plan allowed s.end t.end xs ys h.told q.0.1;
@@ -306,9 +306,9 @@ module _ (steps : StepsAlike) (made : MadeStands) (shows : ShowsAlike) (waits : 
       none = q.1.1.1 h.none;
     }
 
-    over_then : (t : Session) (xs : List Entry) → is_over t ≡ true → Lives t xs → IsOver xs
+    over_then : (t : Session ModelEnd) (xs : List Entry) → is_over t ≡ true → Lives t xs → IsOver xs
     over_then t xs over h =
-        let gone : is_released t ≡ true = or_three t.broken (is_released t) (is_some t.closing) over h.sound.broken h.sound.closing in
+        let gone : is_released model_ends t ≡ true = or_three t.broken (is_released model_ends t) (is_some t.closing) over h.sound.broken h.sound.closing in
         record {
           dead = ap is_live h.told.is ∙ dead_of shows t.end h.told.now h.told.stands gone h.none;
           once = h.once;
@@ -335,23 +335,23 @@ module _ (steps : StepsAlike) (made : MadeStands) (shows : ShowsAlike) (waits : 
       unserved = λ m conn handed. record { dead = refl; once = omega arith };
     }
 
-    abbrev Known : List Entry → List Call → List Session → Type 0
+    abbrev Known : List Entry → List Call → List (Session ModelEnd) → Type 0
     Known js bs ss = Knows plan Q q_calls own K E keeps js bs ss
 
     -- ---- the whole journal
 
-    record Went (k : Loop) (js : List Entry) (bs : List Call) (xs : List Entry) : Type 0 where
+    record Went (k : Loop ModelEnd) (js : List Entry) (bs : List Call) (xs : List Entry) : Type 0 where
       known : Known (js ++ xs) bs k.sessions
       up_to : UpTo k.moment (js ++ xs)
       pass : AllPass plan.settings (key_at plan.keys) (lines_of js) (lines_of xs)
 
-    Goes : Loop → Loop → List Entry → List Call → Type 0
+    Goes : Loop ModelEnd → Loop ModelEnd → List Entry → List Call → Type 0
     Goes l k xs cs =
         (js : List Entry) (bs : List Call) → Rises (newest 0 (opened_in bs)) (opened_in cs) → Known js bs l.sessions → UpTo l.moment js
         → Went k js (bs ++ cs) xs
 
     -- what a connection's events so far come to
-    live_has : (o : Option Session) (js : List Entry) (bs : List Call) (ss : List Session) (n : ℕ) → session_of n ss ≡ o → Known js bs ss
+    live_has : (o : Option (Session ModelEnd)) (js : List Entry) (bs : List Call) (ss : List (Session ModelEnd)) (n : ℕ) → session_of n ss ≡ o → Known js bs ss
         → is_live (end_at plan.settings (key_at plan.keys) n (lines_of js)) ≡ true → is_some o ≡ true
     unfolding Fits
     live_has (Some s) js bs ss n is known live = refl
@@ -359,19 +359,19 @@ module _ (steps : StepsAlike) (made : MadeStands) (shows : ShowsAlike) (waits : 
         let f : IsOver (of n js) = rw is at (known.fits n) in
         absurd (true≢false (sym live ∙ ap is_live (printings.at_own steps made plan allowed n None js) ∙ f.dead))
 
-    opened_once : (o : Option Session) (js : List Entry) (bs : List Call) (ss : List Session) (n : ℕ) → session_of n ss ≡ o → Known js bs ss
+    opened_once : (o : Option (Session ModelEnd)) (js : List Entry) (bs : List Call) (ss : List (Session ModelEnd)) (n : ℕ) → session_of n ss ≡ o → Known js bs ss
         → length (named_in (lines_of (of n js))) ≤ 1
     unfolding Fits
     opened_once None js bs ss n is known = let f : IsOver (of n js) = rw is at (known.fits n) in f.once
     opened_once (Some s) js bs ss n is known = let f : (s.number ≡ n) × Lives s (of n js) = rw is at (known.fits n) in f.1.once
 
-    few : (js : List Entry) (bs : List Call) (ss : List Session) → Known js bs ss → live_count plan.settings (key_at plan.keys) (lines_of js) ≤ length ss
+    few : (js : List Entry) (bs : List Call) (ss : List (Session ModelEnd)) → Known js bs ss → live_count plan.settings (key_at plan.keys) (lines_of js) ≤ length ss
     few js bs ss known =
         few_live plan.settings (key_at plan.keys) js ss (λ n live. live_has (session_of n ss) js bs ss n refl known live)
         (λ n. opened_once (session_of n ss) js bs ss n refl known)
 
     -- a visit
-    visit_pass : (o : Option Session) (js : List Entry) (bs : List Call) (l : Loop) (n : ℕ) (xs : List Entry) → session_of n l.sessions ≡ o
+    visit_pass : (o : Option (Session ModelEnd)) (js : List Entry) (bs : List Call) (l : Loop ModelEnd) (n : ℕ) (xs : List Entry) → session_of n l.sessions ≡ o
         → (o ≡ None → xs ≡ []) → ArePlain l.moment n xs → Known js bs l.sessions → UpTo l.moment js
         → AllPass plan.settings (key_at plan.keys) (lines_of js) (lines_of xs)
     unfolding Fits
@@ -380,24 +380,24 @@ module _ (steps : StepsAlike) (made : MadeStands) (shows : ShowsAlike) (waits : 
         let f : (s.number ≡ n) × Lives s (of n js) = rw is at (known.fits n) in
         plain_pass plan l.moment n js xs plain up (opened_own n js ∙ subst (λ z. is_opened z (lines_of (of n js)) ≡ true) f.0 f.1.opened)
 
-    goes_visit : (l : Loop) (visit : Visit) (n : ℕ) (a : Met)
-        → Goes l (with_sessions l (visit_at (visited r l.moment visit) n l.sessions a).state)
-        (visit_at (visited r l.moment visit) n l.sessions a).entries (visit_at (visited r l.moment visit) n l.sessions a).calls
+    goes_visit : (l : Loop ModelEnd) (visit : Visit) (n : ℕ) (a : Met)
+        → Goes l (with_sessions l (visit_at (visited model_ends r l.moment visit) n l.sessions a).state)
+        (visit_at (visited model_ends r l.moment visit) n l.sessions a).entries (visit_at (visited model_ends r l.moment visit) n l.sessions a).calls
     unfolding Goes
     goes_visit l visit n a js bs rises known up =
-        let o = visit_at (visited r l.moment visit) n l.sessions a in
+        let o = visit_at (visited model_ends r l.moment visit) n l.sessions a in
         let plain = plain_visit r l.moment visit n l.sessions a in
         record {
           known = knows_moved plan Q q_calls own K E keeps n js _ bs _ l.sessions _ known (moved plan Q q_calls own K E keeps l.moment visit n l.sessions a known.apart);
           up_to = up_to-append l.moment js o.entries up (up_to_plain l.moment n o.entries plain);
           pass =
-              visit_pass (session_of n l.sessions) js bs l n o.entries refl (absent_visit (visited r l.moment visit) n l.sessions a) plain known up;
+              visit_pass (session_of n l.sessions) js bs l n o.entries refl (absent_visit (visited model_ends r l.moment visit) n l.sessions a) plain known up;
         }
 
     at_moment : (m conn : ℕ) (what : Event) (outcomes : List Outcome) → UpTo m (record { moment = m; conn = conn; event = what; outcomes = outcomes } ∷ [])
     at_moment m conn what outcomes = (omega arith, tt)
 
-    goes_away : (l : Loop) (why : Event) (until : Option ℕ) (conn : Conn) → role_of why ≡ Declines
+    goes_away : (l : Loop ModelEnd) (why : Event) (until : Option ℕ) (conn : Conn) → role_of why ≡ Declines
         → ((m : ℕ) → E (record { moment = m; conn = conn.0; event = why; outcomes = [] } ∷ []) (Closes conn.0 ∷ []))
         → Goes l l (record { moment = l.moment; conn = conn.0; event = why; outcomes = [] } ∷ []) (Turns until (happening.Accepted conn) ∷ Closes conn.0 ∷ [])
     unfolding Goes
@@ -464,32 +464,32 @@ module _ (steps : StepsAlike) (made : MadeStands) (shows : ShowsAlike) (waits : 
       unserved = λ l until conn fits is. goes_away l (event.Unserved plan.handed) until conn refl (λ m. keeps.unserved m conn.0 plan.handed);
     }
 
-    passes : (c : Course) (turns : List Turn) → IsServing plan c turns → AllPass plan.settings (key_at plan.keys) [] (lines_of (run plan c turns).entries)
+    passes : (c : Course ModelEnd) (turns : List Turn) → IsServing plan c turns → AllPass plan.settings (key_at plan.keys) [] (lines_of (run model_ends plan c turns).entries)
     unfolding Goes opened_in
     passes c turns h =
         (moment_run plan Goes wise c turns [] [] h.rises (rw h.none (knows_none plan Q q_calls own K E keeps)) tt).pass
 
     -- ---- a dial
 
-    names_call : (caller : Caller) (l : Loop) (conn : ℕ) (mind : Mind) (xs : List Entry) → CallsSo plan caller l conn mind xs → length (named_in (lines_of xs)) ≤ 1
+    names_call : (caller : Caller) (l : Loop ModelEnd) (conn : ℕ) (mind : Mind) (xs : List Entry) → CallsSo plan caller l conn mind xs → length (named_in (lines_of xs)) ≤ 1
     unfolding named_in
     names_call caller l conn mind xs c =
         subst (λ z. length (named_in (lines_of z)) ≤ 1) (sym c.is)
         (subst (λ z. length (conn ∷ z) ≤ 1) (sym (names_none l.moment conn c.rest c.plain)) (omega arith))
 
-    opens_call : (caller : Caller) (l : Loop) (conn : ℕ) (mind : Mind) (xs : List Entry) → CallsSo plan caller l conn mind xs → is_opened conn (lines_of xs) ≡ true
+    opens_call : (caller : Caller) (l : Loop ModelEnd) (conn : ℕ) (mind : Mind) (xs : List Entry) → CallsSo plan caller l conn mind xs → is_opened conn (lines_of xs) ≡ true
     unfolding is_opened
     opens_call caller l conn mind xs c =
         subst (λ z. is_opened conn (lines_of z) ≡ true) (sym c.is) (first_opened conn (conn == conn) (is_opened conn (lines_of c.rest)) (same conn))
 
     first : (caller : Caller) (at : ℕ) → key_at plan.keys at caller.engine plan.rbc ≡ Some caller.kmac
-        → (l : Loop) (conn : ℕ) (mind : Mind) (says : Says) → l.moment ≡ at
-        → Lives (handled r l.moment (begun conn (calling plan caller l) mind) (begins plan caller l) says).0
-        (handled r l.moment (begun conn (calling plan caller l) mind) (begins plan caller l) says).1
+        → (l : Loop ModelEnd) (conn : ℕ) (mind : Mind) (says : Says) → l.moment ≡ at
+        → Lives (handled model_ends r l.moment (begun conn (calling model_ends plan caller l) mind) (begins plan caller l) says).0
+        (handled model_ends r l.moment (begun conn (calling model_ends plan caller l) mind) (begins plan caller l) says).1
     unfolding Sounds
     first caller at key l conn mind says now =
         let m = l.moment in
-        let s = begun conn (calling plan caller l) mind in
+        let s = begun conn (calling model_ends plan caller l) mind in
         let g = begins plan caller l in
         let h = handled_so plan caller l conn mind says in
         record {
@@ -497,7 +497,7 @@ module _ (steps : StepsAlike) (made : MadeStands) (shows : ShowsAlike) (waits : 
               first_handled plan caller IsOfEnd Told (printings.q_steady steps made plan allowed) all_of_end.usual (printings.q_calls steps made plan allowed) (λ s t xs cs p. p.0)
               (printings.Told steps made plan allowed) (printings.Gone steps made plan allowed) (printings.keeps steps made plan allowed) at
               (printings.first_told steps made plan allowed caller at key) l conn mind says now;
-          opened = subst (λ z. is_opened z (lines_of (handled r m s g says).1) ≡ true) (sym h.number) (opens_call caller l conn mind _ h.calls);
+          opened = subst (λ z. is_opened z (lines_of (handled model_ends r m s g says).1) ≡ true) (sym h.number) (opens_call caller l conn mind _ h.calls);
           once = names_call caller l conn mind _ h.calls;
           sound =
               steady_handled r (λ g. Unit {0}) Sounds (sounds_steadily stays breaks_release r) (any_usual plan) m s g says tt
@@ -510,12 +510,12 @@ module _ (steps : StepsAlike) (made : MadeStands) (shows : ShowsAlike) (waits : 
       up_to : UpTo m xs
       pass : AllPass plan.settings (key_at plan.keys) [] (lines_of xs)
 
-    calls_pass : (caller : Caller) (l : Loop) (conn : ℕ) (mind : Mind) (xs : List Entry) → key_at plan.keys l.moment caller.engine plan.rbc ≡ Some caller.kmac
+    calls_pass : (caller : Caller) (l : Loop ModelEnd) (conn : ℕ) (mind : Mind) (xs : List Entry) → key_at plan.keys l.moment caller.engine plan.rbc ≡ Some caller.kmac
         → CallsSo plan caller l conn mind xs → OpensSo l.moment xs
     unfolding is_named live_count named_in is_opened
     calls_pass caller l conn mind xs key c =
         let m = l.moment in
-        let x = entry_of r m (begun conn (calling plan caller l) mind) (begins plan caller l) in
+        let x = entry_of model_ends r m (begun conn (calling model_ends plan caller l) mind) (begins plan caller l) in
         let up : UpTo m (x ∷ []) = (omega arith, tt) in
         subst (λ z. OpensSo m z) (sym c.is) (record {
           up_to = up_to-append m (x ∷ []) c.rest up (up_to_plain m conn c.rest c.plain);
@@ -525,29 +525,29 @@ module _ (steps : StepsAlike) (made : MadeStands) (shows : ShowsAlike) (waits : 
           );
         })
 
-    called_pass : (user : Option Mind) (caller : Caller) (l : Loop) (conn : ℕ) (a : Met) → key_at plan.keys l.moment caller.engine plan.rbc ≡ Some caller.kmac
-        → OpensSo l.moment (called_by user plan caller l conn a).entries
+    called_pass : (user : Option Mind) (caller : Caller) (l : Loop ModelEnd) (conn : ℕ) (a : Met) → key_at plan.keys l.moment caller.engine plan.rbc ≡ Some caller.kmac
+        → OpensSo l.moment (called_by model_ends user plan caller l conn a).entries
     unfolding is_named
     called_pass None caller l conn a key = record {
       up_to = (omega arith, tt);
       pass = (record { moment = not_before l.moment [] tt; role = refl }, tt);
     }
     called_pass (Some mind) caller l conn a key =
-        calls_pass caller l conn mind (served r l.moment (begun conn (calling plan caller l) mind) (begins plan caller l) a).entries key (served_so plan caller l conn mind a)
+        calls_pass caller l conn mind (served model_ends r l.moment (begun conn (calling model_ends plan caller l) mind) (begins plan caller l) a).entries key (served_so plan caller l conn mind a)
 
-    called_moment : (user : Option Mind) (caller : Caller) (l : Loop) (conn : ℕ) (a : Met) → (called_by user plan caller l conn a).state.moment ≡ l.moment
+    called_moment : (user : Option Mind) (caller : Caller) (l : Loop ModelEnd) (conn : ℕ) (a : Met) → (called_by model_ends user plan caller l conn a).state.moment ≡ l.moment
     called_moment None caller l conn a = refl
     called_moment (Some mind) caller l conn a = refl
 
-    dial_on : (caller : Caller) (d : Course) (conn : ℕ) (address : List ℕ) (a : Met) (turns : List Turn) → d.loop.sessions ≡ []
+    dial_on : (caller : Caller) (d : Course ModelEnd) (conn : ℕ) (address : List ℕ) (a : Met) (turns : List Turn) → d.loop.sessions ≡ []
         → key_at plan.keys d.loop.moment caller.engine plan.rbc ≡ Some caller.kmac
-        → Rises 0 (opened_in (Dials address (Some conn) ∷ ((opens plan caller d conn a).calls ++ (run plan (opens plan caller d conn a).state turns).calls)))
-        → AllPass plan.settings (key_at plan.keys) [] (lines_of ((opens plan caller d conn a).entries ++ (run plan (opens plan caller d conn a).state turns).entries))
+        → Rises 0 (opened_in (Dials address (Some conn) ∷ ((opens model_ends plan caller d conn a).calls ++ (run model_ends plan (opens model_ends plan caller d conn a).state turns).calls)))
+        → AllPass plan.settings (key_at plan.keys) [] (lines_of ((opens model_ends plan caller d conn a).entries ++ (run model_ends plan (opens model_ends plan caller d conn a).state turns).entries))
     unfolding Goes called
     dial_on caller d conn address a turns none key rises =
         let user = next_user d.loop.users in
-        let o = opens plan caller d conn a in
-        let e = run plan o.state turns in
+        let o = opens model_ends plan caller d conn a in
+        let e = run model_ends plan o.state turns in
         let bs : List Call = Dials address (Some conn) ∷ o.calls in
         let s = subst (λ z. Rises 0 z) (opens-append bs e.calls) rises in
         let known = knows_called plan caller Q q_calls own K E keeps d.loop.moment (first caller d.loop.moment key) user d.loop conn address a none refl in
@@ -558,15 +558,15 @@ module _ (steps : StepsAlike) (made : MadeStands) (shows : ShowsAlike) (waits : 
         subst (λ z. AllPass plan.settings (key_at plan.keys) [] z) (sym (lines-append o.entries e.entries))
         (all_pass-append plan.settings (key_at plan.keys) [] (lines_of o.entries) (lines_of e.entries) so.pass went.pass)
 
-    dial_to : (conn : Option ℕ) (caller : Caller) (c : Course) (address : List ℕ) (a : Dialled) → c.loop.sessions ≡ []
+    dial_to : (conn : Option ℕ) (caller : Caller) (c : Course ModelEnd) (address : List ℕ) (a : Dialled) → c.loop.sessions ≡ []
         → key_at plan.keys (max c.loop.moment a.first) caller.engine plan.rbc ≡ Some caller.kmac
-        → Rises 0 (opened_in (dials_to conn plan caller c address a).calls)
-        → AllPass plan.settings (key_at plan.keys) [] (lines_of (dials_to conn plan caller c address a).entries)
+        → Rises 0 (opened_in (dials_to model_ends conn plan caller c address a).calls)
+        → AllPass plan.settings (key_at plan.keys) [] (lines_of (dials_to model_ends conn plan caller c address a).entries)
     dial_to None caller c address a none key rises = tt
     dial_to (Some conn) caller c address a none key rises = dial_on caller (asks a.first c) conn address a.met a.turns none key rises
 
-    dial_passes : (caller : Caller) (c : Course) (address : List ℕ) (a : Dialled) → IsDialling plan caller c address a
-        → AllPass plan.settings (key_at plan.keys) [] (lines_of (dials plan caller c address a).entries)
+    dial_passes : (caller : Caller) (c : Course ModelEnd) (address : List ℕ) (a : Dialled) → IsDialling plan caller c address a
+        → AllPass plan.settings (key_at plan.keys) [] (lines_of (dials model_ends plan caller c address a).entries)
     unfolding dials
     dial_passes caller c address a h = dial_to a.conn caller c address a h.none h.key h.rises
 
@@ -589,9 +589,9 @@ recordings_replay steps made shows waits bring stays breaks_release =
     let printed = printings.all_printed steps made in
     record {
       serving = λ plan c turns h lines e.
-          replays_to plan lines (run plan c turns).entries e
+          replays_to plan lines (run model_ends plan c turns).entries e
           (passes steps made shows waits bring stays breaks_release plan h.allowed c turns h) (printed.serving plan c turns h);
       dialling = λ plan caller c address a h lines e.
-          replays_to plan lines (dials plan caller c address a).entries e
+          replays_to plan lines (dials model_ends plan caller c address a).entries e
           (dial_passes steps made shows waits bring stays breaks_release plan h.allowed caller c address a h) (printed.dialling plan caller c address a h);
     }

@@ -1,9 +1,9 @@
 -- The users of all connections: each connection took the last user that was left, and its user speaks from that mind on.
+use Rattle.loop_model.specs.Ends.{ModelEnd, model_ends}
 use Rattle.std.proofs.Common.{if◌then◌else◌, ◌≡◌, ℕ, ◌<◌, inl, inr, Bool, true, false, List, [], ◌∷◌, ◌++◌, Option, Some, None, refl, sym, ◌∙◌, ap, subst, append-nil, append_assoc, eqb-true}
 use Rattle.std.specs.Prelude.{◌==◌}
 use Rattle.std.proofs.lemmas.Bool.{cases_Bool}
-use Rattle.er_end.specs.KeptEnds.{kept_opened}
-use Rattle.er_end.specs.Keeping.{WaitsMove, OctetsBring, ReleaseStays, BreaksRelease, ReleasedWantNone, ReleasedTellNone}
+use Rattle.loop_model.proofs.EndKeepings.{WaitsMove, OctetsBring, ReleaseStays, BreaksRelease, ReleasedWantNone, ReleasedTellNone}
 use Rattle.er_trace.specs.declared.event.Event.{Event}
 use Rattle.er_trace.specs.declared.event.Event.TheVariants as event
 use Rattle.er_users.specs.Users.{Mind}
@@ -114,15 +114,13 @@ one_of : (conn : ℕ) (x : Entry) → of conn (x ∷ []) ≡ (if x.conn == conn 
 unfolding of
 one_of conn x = refl
 
-new_ready : (plan : Plan) (l : Loop) (conn : ℕ) (mind : Mind) → Ready (begun conn (answering plan l) mind)
-unfolding kept_opened
+new_ready : (plan : Plan) (l : Loop ModelEnd) (conn : ℕ) (mind : Mind) → Ready (begun conn (answering model_ends plan l) mind)
 new_ready plan l conn mind = record { waits = refl; gone = λ e. absurd (no mind e) }
   where
     no : (mind : Mind) → Some mind ≡ None → ⊥
     no mind e = cc
 
-call_ready : (plan : Plan) (caller : Caller) (l : Loop) (conn : ℕ) (mind : Mind) → Ready (begun conn (calling plan caller l) mind)
-unfolding kept_opened
+call_ready : (plan : Plan) (caller : Caller) (l : Loop ModelEnd) (conn : ℕ) (mind : Mind) → Ready (begun conn (calling model_ends plan caller l) mind)
 call_ready plan caller l conn mind = record { waits = refl; gone = λ e. absurd (no mind e) }
   where
     no : (mind : Mind) → Some mind ≡ None → ⊥
@@ -131,7 +129,7 @@ call_ready plan caller l conn mind = record { waits = refl; gone = λ e. absurd 
 module _ (waits : WaitsMove) (bring : OctetsBring) (stays : ReleaseStays) (breaks_release : BreaksRelease) (wants_none : ReleasedWantNone) (tells_none : ReleasedTellNone)
     (plan : Plan) (users : List Mind)
   where
-    abbrev Q : Session → Session → List Entry → List Call → Type 0
+    abbrev Q : Session ModelEnd → Session ModelEnd → List Entry → List Call → Type 0
     Q = Both Own (Speaks (rules_of plan))
 
     q_each : Calls (rules_of plan) Q
@@ -140,10 +138,10 @@ module _ (waits : WaitsMove) (bring : OctetsBring) (stays : ReleaseStays) (break
     q_calls : AllLeft (rules_of plan) Q
     q_calls = all_left_of (rules_of plan) Q q_each
 
-    own : (s t : Session) (xs : List Entry) (cs : List Call) → Q s t xs cs → Own s t xs cs
+    own : (s t : Session ModelEnd) (xs : List Entry) (cs : List Call) → Q s t xs cs → Own s t xs cs
     own s t xs cs q = q.0
 
-    abbrev K : Session → List Entry → List Call → Type 0
+    abbrev K : Session ModelEnd → List Entry → List Call → Type 0
     K s xs cs = Unit {0}
 
     abbrev E : List Entry → List Call → Type 0
@@ -159,20 +157,20 @@ module _ (waits : WaitsMove) (bring : OctetsBring) (stays : ReleaseStays) (break
       unserved = λ m conn handed. tt;
     }
 
-    abbrev Known : List Entry → List Call → List Session → Type 0
+    abbrev Known : List Entry → List Call → List (Session ModelEnd) → Type 0
     Known js bs ss = Knows plan Q q_calls own K E keeps js bs ss
 
     -- a connection whose user is this one
-    SaidBy : Option Session → Option Mind → List Entry → Type 0
+    SaidBy : Option (Session ModelEnd) → Option Mind → List Entry → Type 0
     SaidBy None user xs = IsSpoken user xs
     SaidBy (Some s) user xs = (mind : Mind) × (user ≡ Some mind) × Ready s × Spoke (rules_of plan) mind s.mind xs
 
-    record Said (l : Loop) (js : List Entry) (bs : List Call) : Type 0 where
+    record Said (l : Loop ModelEnd) (js : List Entry) (bs : List Call) : Type 0 where
       known : Known js bs l.sessions
       left : left_behind js users ≡ l.users
       said : (conn : ℕ) → SaidBy (session_of conn l.sessions) (user_of conn js users) (of conn js)
 
-    said_on : (s : Session) (left : Option Session) (user : Option Mind) (js xs : List Entry) (cs : List Call)
+    said_on : (s : Session ModelEnd) (left : Option (Session ModelEnd)) (user : Option Mind) (js xs : List Entry) (cs : List Call)
         → LeftAt plan Q q_calls own K E keeps s left xs cs → SaidBy (Some s) user js → SaidBy left user (js ++ xs)
     unfolding LeftAt SaidBy Speaks
     said_on s (Some t) user js xs cs q (mind, e, ready, p) =
@@ -184,7 +182,7 @@ module _ (waits : WaitsMove) (bring : OctetsBring) (stays : ReleaseStays) (break
         let c = b.spoke p.last p.is in
         subst (λ z. IsSpoken z (js ++ xs)) (sym e) (c.last, leads-append (speech_of mind) (speech_of p.last) (speech_of c.last) js xs p.leads c.leads)
 
-    said_moved : (n : ℕ) (js xs : List Entry) (cs : List Call) (ss ts : List Session) → Moved plan Q q_calls own K E keeps n ss ts xs cs → AreDeclined xs
+    said_moved : (n : ℕ) (js xs : List Entry) (cs : List Call) (ss ts : List (Session ModelEnd)) → Moved plan Q q_calls own K E keeps n ss ts xs cs → AreDeclined xs
         → ((conn : ℕ) → SaidBy (session_of conn ss) (user_of conn js users) (of conn js))
         → (conn : ℕ) → SaidBy (session_of conn ts) (user_of conn (js ++ xs) users) (of conn (js ++ xs))
     said_moved n js xs cs ss ts (Absent f e x y) none said conn = rw (e, x, append-nil js) (said conn)
@@ -199,15 +197,15 @@ module _ (waits : WaitsMove) (bring : OctetsBring) (stays : ReleaseStays) (break
           | inr p ↦ rw (p, append-nil (of conn js), others conn (subst (λ z. (z == conn) ≡ false) num p)) (said conn)
         ])
 
-    Goes : Loop → Loop → List Entry → List Call → Type 0
+    Goes : Loop ModelEnd → Loop ModelEnd → List Entry → List Call → Type 0
     Goes l k xs cs = (js : List Entry) (bs : List Call) → Rises (newest 0 (opened_in bs)) (opened_in cs) → Said l js bs → Said k (js ++ xs) (bs ++ cs)
 
-    goes_visit : (l : Loop) (visit : Visit) (n : ℕ) (a : Met)
-        → Goes l (with_sessions l (visit_at (visited (rules_of plan) l.moment visit) n l.sessions a).state)
-        (visit_at (visited (rules_of plan) l.moment visit) n l.sessions a).entries (visit_at (visited (rules_of plan) l.moment visit) n l.sessions a).calls
+    goes_visit : (l : Loop ModelEnd) (visit : Visit) (n : ℕ) (a : Met)
+        → Goes l (with_sessions l (visit_at (visited model_ends (rules_of plan) l.moment visit) n l.sessions a).state)
+        (visit_at (visited model_ends (rules_of plan) l.moment visit) n l.sessions a).entries (visit_at (visited model_ends (rules_of plan) l.moment visit) n l.sessions a).calls
     unfolding Goes
     goes_visit l visit n a js bs rises h =
-        let o = visit_at (visited (rules_of plan) l.moment visit) n l.sessions a in
+        let o = visit_at (visited model_ends (rules_of plan) l.moment visit) n l.sessions a in
         let none = plain_declined l.moment n o.entries (plain_visit (rules_of plan) l.moment visit n l.sessions a) in
         let m = moved plan Q q_calls own K E keeps l.moment visit n l.sessions a h.known.apart in
         record {
@@ -216,12 +214,12 @@ module _ (waits : WaitsMove) (bring : OctetsBring) (stays : ReleaseStays) (break
           said = said_moved n js o.entries o.calls l.sessions o.state m none h.said;
         }
 
-    session_last : (conn : ℕ) (ss : List Session) (s : Session) → (s.number == conn) ≡ false → session_of conn (ss ++ s ∷ []) ≡ session_of conn ss
+    session_last : (conn : ℕ) (ss : List (Session ModelEnd)) (s : Session ModelEnd) → (s.number == conn) ≡ false → session_of conn (ss ++ s ∷ []) ≡ session_of conn ss
     unfolding session_of
     session_last conn [] s ne = rw ne refl
     session_last conn (t ∷ ss) s ne = ap (λ z. if t.number == conn then Some t else z) (session_last conn ss s ne)
 
-    session_new : (conn : ℕ) (ss : List Session) (s : Session) → session_of conn ss ≡ None → (s.number == conn) ≡ true → session_of conn (ss ++ s ∷ []) ≡ Some s
+    session_new : (conn : ℕ) (ss : List (Session ModelEnd)) (s : Session ModelEnd) → session_of conn ss ≡ None → (s.number == conn) ≡ true → session_of conn (ss ++ s ∷ []) ≡ Some s
     unfolding session_of
     session_new conn [] s none p = rw p refl
     session_new conn (t ∷ ss) s none p =
@@ -230,7 +228,7 @@ module _ (waits : WaitsMove) (bring : OctetsBring) (stays : ReleaseStays) (break
           | inr q ↦ rw q (session_new conn ss s (rw q at none) p)
         ]
 
-    goes_away : (l : Loop) (why : Event) (until : Option ℕ) (conn : Conn) → opens_end (role_of why) ≡ false
+    goes_away : (l : Loop ModelEnd) (why : Event) (until : Option ℕ) (conn : Conn) → opens_end (role_of why) ≡ false
         → Goes l l (record { moment = l.moment; conn = conn.0; event = why; outcomes = [] } ∷ []) (Turns until (happening.Accepted conn) ∷ Closes conn.0 ∷ [])
     unfolding Goes SaidBy
     goes_away l why until conn not js bs rises h =
@@ -272,7 +270,7 @@ module _ (waits : WaitsMove) (bring : OctetsBring) (stays : ReleaseStays) (break
       opened = λ l until conn mind fits is js bs rises h.
           let above = accepted_above plan Q q_calls own K E keeps bs [] until conn rises in
           let x : Entry = record { moment = l.moment; conn = conn.0; event = event.Answer plan.rbc (next_u64 l.words).0; outcomes = [] } in
-          let s = begun conn.0 (answering plan l) mind in
+          let s = begun conn.0 (answering model_ends plan l) mind in
           record {
             known = knows_opened plan Q q_calls own K E keeps js bs l until conn mind above h.known;
             left = left_less js x users refl ∙ ap other_users h.left;
@@ -291,13 +289,13 @@ module _ (waits : WaitsMove) (bring : OctetsBring) (stays : ReleaseStays) (break
       unserved = λ l until conn fits is. goes_away l (event.Unserved plan.handed) until conn refl;
     }
 
-    spoken_at : (o : Option Session) (user : Option Mind) (xs : List Entry) → SaidBy o user xs → IsSpoken user xs
+    spoken_at : (o : Option (Session ModelEnd)) (user : Option Mind) (xs : List Entry) → SaidBy o user xs → IsSpoken user xs
     unfolding SaidBy
     spoken_at None user xs h = h
     spoken_at (Some s) user xs (mind, e, ready, p) = subst (λ z. IsSpoken z xs) (sym e) (p.last, p.leads)
 
-    run_spoken : (c : Course) (turns : List Turn) → IsServing plan c turns → c.loop.users ≡ users
-        → (conn : ℕ) → IsSpoken (user_of conn (run plan c turns).entries users) (of conn (run plan c turns).entries)
+    run_spoken : (c : Course ModelEnd) (turns : List Turn) → IsServing plan c turns → c.loop.users ≡ users
+        → (conn : ℕ) → IsSpoken (user_of conn (run model_ends plan c turns).entries users) (of conn (run model_ends plan c turns).entries)
     unfolding Goes SaidBy opened_in session_of user_of of left_behind
     run_spoken c turns h e conn =
         let start : Said c.loop [] [] = record {
@@ -305,12 +303,12 @@ module _ (waits : WaitsMove) (bring : OctetsBring) (stays : ReleaseStays) (break
           left = sym e;
           said = λ n. rw h.none tt;
         } in
-        let o = run plan c turns in
+        let o = run model_ends plan c turns in
         spoken_at (session_of conn o.state.loop.sessions) (user_of conn o.entries users) (of conn o.entries) ((moment_run plan Goes wise c turns [] [] h.rises start).said conn)
 
     -- ---- a dial
 
-    record SaidFirst (l : Loop) (xs : List Entry) : Type 0 where
+    record SaidFirst (l : Loop ModelEnd) (xs : List Entry) : Type 0 where
       left : left_behind xs users ≡ l.users
       said : (conn : ℕ) → SaidBy (session_of conn l.sessions) (user_of conn xs users) (of conn xs)
 
@@ -320,18 +318,18 @@ module _ (waits : WaitsMove) (bring : OctetsBring) (stays : ReleaseStays) (break
     own_none : (conn n : ℕ) (xs : List Entry) → of n xs ≡ (if conn == n then xs else []) → (conn == n) ≡ false → of n xs ≡ []
     own_none conn n xs e p = e ∙ ap (λ (b : Bool). if b then xs else []) p
 
-    first_user : (caller : Caller) (l : Loop) (conn n : ℕ) (mind : Mind) (xs : List Entry) → CallsSo plan caller l conn mind xs → (conn == n) ≡ true
+    first_user : (caller : Caller) (l : Loop ModelEnd) (conn n : ℕ) (mind : Mind) (xs : List Entry) → CallsSo plan caller l conn mind xs → (conn == n) ≡ true
         → user_of n xs users ≡ next_user users
     unfolding user_of
     first_user caller l conn n mind xs c p = subst (λ z. user_of n z users ≡ next_user users) (sym c.is) (rw p refl)
 
-    first_left : (caller : Caller) (l : Loop) (conn : ℕ) (mind : Mind) (xs : List Entry) → CallsSo plan caller l conn mind xs → left_behind xs users ≡ other_users users
+    first_left : (caller : Caller) (l : Loop ModelEnd) (conn : ℕ) (mind : Mind) (xs : List Entry) → CallsSo plan caller l conn mind xs → left_behind xs users ≡ other_users users
     unfolding left_behind
     first_left caller l conn mind xs c =
         subst (λ z. left_behind z users ≡ other_users users) (sym c.is) (left_same [] c.rest (other_users users) (plain_declined l.moment conn c.rest c.plain))
 
     -- what the opening leaves, at each connection
-    first_at : (caller : Caller) (l : Loop) (conn n : ℕ) (mind : Mind) (o : Option Session) (xs : List Entry) → CallsSo plan caller l conn mind xs
+    first_at : (caller : Caller) (l : Loop ModelEnd) (conn n : ℕ) (mind : Mind) (o : Option (Session ModelEnd)) (xs : List Entry) → CallsSo plan caller l conn mind xs
         → next_user users ≡ Some mind → of n xs ≡ (if conn == n then xs else []) → SaidBy o (Some mind) xs
         → SaidBy (if conn == n then o else None) (user_of n xs users) (of n xs)
     unfolding SaidBy of
@@ -341,19 +339,19 @@ module _ (waits : WaitsMove) (bring : OctetsBring) (stays : ReleaseStays) (break
           | inr p ↦ rw (p, own_none conn n xs mine p, user_none n xs users (own_none conn n xs mine p)) tt
         ]
 
-    one_session : (n : ℕ) (t : Session) (conn : ℕ) → t.number ≡ conn → session_of n (t ∷ []) ≡ (if conn == n then Some t else None)
+    one_session : (n : ℕ) (t : Session ModelEnd) (conn : ℕ) → t.number ≡ conn → session_of n (t ∷ []) ≡ (if conn == n then Some t else None)
     unfolding session_of
     one_session n t conn e = subst (λ z. (if t.number == n then Some t else None) ≡ (if z == n then Some t else None)) e refl
 
-    abbrev no_one : Option Session
+    abbrev no_one : Option (Session ModelEnd)
     no_one = None
 
     none_if : (b : Bool) → no_one ≡ (if b then no_one else no_one)
     none_if true = refl
     none_if false = refl
 
-    first_left_by : (caller : Caller) (l : Loop) (conn : ℕ) (mind : Mind) (ts : List Session) (xs : List Entry) (cs : List Call) → CallsSo plan caller l conn mind xs
-        → next_user users ≡ Some mind → LeftBy Q (begun conn (calling plan caller l) mind) ts xs cs
+    first_left_by : (caller : Caller) (l : Loop ModelEnd) (conn : ℕ) (mind : Mind) (ts : List (Session ModelEnd)) (xs : List Entry) (cs : List Call) → CallsSo plan caller l conn mind xs
+        → next_user users ≡ Some mind → LeftBy Q (begun conn (calling model_ends plan caller l) mind) ts xs cs
         → (n : ℕ) → SaidBy (session_of n ts) (user_of n xs users) (of n xs)
     unfolding Speaks SaidBy session_of
     first_left_by caller l conn mind ts xs cs c is (Stays t p q) n =
@@ -367,11 +365,11 @@ module _ (waits : WaitsMove) (bring : OctetsBring) (stays : ReleaseStays) (break
         subst (λ z. SaidBy z (user_of n xs users) (of n xs)) (sym (ap (λ z. session_of n z) p ∙ no_session n ∙ none_if (conn == n)))
         (first_at caller l conn n mind None xs c is (q.0.entries n) (d.last, d.leads))
       where
-        no_session : (n : ℕ) → session_of n [] ≡ None
+        no_session : (n : ℕ) → session_of {E = ModelEnd} n [] ≡ None
         no_session n = refl
 
-    called_said : (user : Option Mind) (caller : Caller) (l : Loop) (conn : ℕ) (a : Met) → l.sessions ≡ [] → l.users ≡ users → next_user l.users ≡ user
-        → SaidFirst (called_by user plan caller l conn a).state (called_by user plan caller l conn a).entries
+    called_said : (user : Option Mind) (caller : Caller) (l : Loop ModelEnd) (conn : ℕ) (a : Met) → l.sessions ≡ [] → l.users ≡ users → next_user l.users ≡ user
+        → SaidFirst (called_by model_ends user plan caller l conn a).state (called_by model_ends user plan caller l conn a).entries
     unfolding Speaks SaidBy session_of user_of of left_behind
     called_said None caller l conn a none e is = record {
       left = sym e;
@@ -382,12 +380,12 @@ module _ (waits : WaitsMove) (bring : OctetsBring) (stays : ReleaseStays) (break
     called_said (Some mind) caller l conn a none e is =
         let r = rules_of plan in
         let m = l.moment in
-        let s = begun conn (calling plan caller l) mind in
+        let s = begun conn (calling model_ends plan caller l) mind in
         let g = begins plan caller l in
         let says = first_of nothing_said a.says in
-        let o = served r m s g a in
+        let o = served model_ends r m s g a in
         let c = served_so plan caller l conn mind a in
-        let q : Q s (handled r m s g says).0 (handled r m s g says).1 [] = (
+        let q : Q s (handled model_ends r m s g says).0 (handled model_ends r m s g says).1 [] = (
           steady_handled r (λ g. Unit {0}) Own (own_steady r) (any_usual plan) m s g says tt,
           λ ready. called_speaks waits bring stays breaks_release wants_none tells_none r m s caller.engine plan.rbc (next_u64 l.words).0 says mind refl,
         ) in
@@ -396,15 +394,15 @@ module _ (waits : WaitsMove) (bring : OctetsBring) (stays : ReleaseStays) (break
           said = first_left_by caller l conn mind o.state o.entries o.calls c (ap next_user (sym e) ∙ is) (left_served r Q q_each.quiet m s g a q);
         }
 
-    dial_on : (caller : Caller) (d : Course) (conn : ℕ) (address : List ℕ) (a : Met) (turns : List Turn) → d.loop.sessions ≡ [] → d.loop.users ≡ users
-        → Rises 0 (opened_in (Dials address (Some conn) ∷ ((opens plan caller d conn a).calls ++ (run plan (opens plan caller d conn a).state turns).calls)))
-        → (n : ℕ) → IsSpoken (user_of n ((opens plan caller d conn a).entries ++ (run plan (opens plan caller d conn a).state turns).entries) users)
-        (of n ((opens plan caller d conn a).entries ++ (run plan (opens plan caller d conn a).state turns).entries))
+    dial_on : (caller : Caller) (d : Course ModelEnd) (conn : ℕ) (address : List ℕ) (a : Met) (turns : List Turn) → d.loop.sessions ≡ [] → d.loop.users ≡ users
+        → Rises 0 (opened_in (Dials address (Some conn) ∷ ((opens model_ends plan caller d conn a).calls ++ (run model_ends plan (opens model_ends plan caller d conn a).state turns).calls)))
+        → (n : ℕ) → IsSpoken (user_of n ((opens model_ends plan caller d conn a).entries ++ (run model_ends plan (opens model_ends plan caller d conn a).state turns).entries) users)
+        (of n ((opens model_ends plan caller d conn a).entries ++ (run model_ends plan (opens model_ends plan caller d conn a).state turns).entries))
     unfolding Goes called
     dial_on caller d conn address a turns none is rises n =
         let user = next_user d.loop.users in
-        let o = opens plan caller d conn a in
-        let e = run plan o.state turns in
+        let o = opens model_ends plan caller d conn a in
+        let e = run model_ends plan o.state turns in
         let bs : List Call = Dials address (Some conn) ∷ o.calls in
         let s = subst (λ z. Rises 0 z) (opens-append bs e.calls) rises in
         let f = called_said user caller d.loop conn a none is refl in
@@ -416,15 +414,15 @@ module _ (waits : WaitsMove) (bring : OctetsBring) (stays : ReleaseStays) (break
         let went = moment_run plan Goes wise o.state turns o.entries bs (rises_rest 0 (opened_in bs) (opened_in e.calls) s) start in
         spoken_at (session_of n e.state.loop.sessions) (user_of n (o.entries ++ e.entries) users) (of n (o.entries ++ e.entries)) (went.said n)
 
-    dial_to : (conn : Option ℕ) (caller : Caller) (c : Course) (address : List ℕ) (a : Dialled) → c.loop.sessions ≡ [] → c.loop.users ≡ users
-        → Rises 0 (opened_in (dials_to conn plan caller c address a).calls)
-        → (n : ℕ) → IsSpoken (user_of n (dials_to conn plan caller c address a).entries users) (of n (dials_to conn plan caller c address a).entries)
+    dial_to : (conn : Option ℕ) (caller : Caller) (c : Course ModelEnd) (address : List ℕ) (a : Dialled) → c.loop.sessions ≡ [] → c.loop.users ≡ users
+        → Rises 0 (opened_in (dials_to model_ends conn plan caller c address a).calls)
+        → (n : ℕ) → IsSpoken (user_of n (dials_to model_ends conn plan caller c address a).entries users) (of n (dials_to model_ends conn plan caller c address a).entries)
     unfolding user_of of
     dial_to None caller c address a none is rises n = tt
     dial_to (Some conn) caller c address a none is rises n = dial_on caller (asks a.first c) conn address a.met a.turns none is rises n
 
-    dial_spoken : (caller : Caller) (c : Course) (address : List ℕ) (a : Dialled) → IsDialling plan caller c address a → c.loop.users ≡ users
-        → (n : ℕ) → IsSpoken (user_of n (dials plan caller c address a).entries users) (of n (dials plan caller c address a).entries)
+    dial_spoken : (caller : Caller) (c : Course ModelEnd) (address : List ℕ) (a : Dialled) → IsDialling plan caller c address a → c.loop.users ≡ users
+        → (n : ℕ) → IsSpoken (user_of n (dials model_ends plan caller c address a).entries users) (of n (dials model_ends plan caller c address a).entries)
     unfolding dials
     dial_spoken caller c address a h is n = dial_to a.conn caller c address a h.none is h.rises n
 

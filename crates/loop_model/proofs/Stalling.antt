@@ -1,13 +1,13 @@
 -- An event `stalled` comes exactly directly behind an event that gave too many octets.
-use Rattle.std.proofs.Common.{if◌then◌else◌, ◌≡◌, ℕ, ◌+◌, ◌≤◌, inl, inr, Bool, true, false, ◌||◌, List, [], ◌∷◌, ◌++◌, length, drop, Option, Some, None, refl, sym, ◌∙◌, ap, subst, append-nil, arith, true≢false, length-append, length-drop, ltb-false, le-ltb}
+use Rattle.loop_model.specs.Ends.{ModelEnd, model_ends}
+use Rattle.std.proofs.Common.{if◌then◌else◌, ◌≡◌, ℕ, ◌+◌, ◌-◌, ◌≤◌, inl, inr, Bool, true, false, ◌||◌, List, [], ◌∷◌, ◌++◌, length, drop, Option, Some, None, refl, sym, ◌∙◌, ap, subst, append-nil, arith, true≢false, length-append, length-drop, ltb-false, le-ltb}
 use Rattle.std.specs.Prelude.{◌==◌, nat_lt, is_some}
 use Rattle.std.proofs.lemmas.Bool.{cases_Bool}
 use Rattle.er_base.specs.declared.release.Release.{Release}
 use Rattle.end_model.specs.Outcomes.{Outcome}
 use Rattle.end_model.specs.Steps.{if_taken, begins_at, used, outcomes_of as shown_by}
-use Rattle.er_end.specs.KeptLayers.{kept}
-use Rattle.er_end.specs.KeptEnds.{KEnd, deadline_of, refusal, after_send, after_take, after_release, after_break}
-use Rattle.er_end.specs.Keeping.{ReleaseStays, BreaksRelease}
+use Rattle.end_model.specs.Layers.{model}
+use Rattle.loop_model.proofs.EndKeepings.{ReleaseStays, BreaksRelease}
 use Rattle.link_trait.specs.Wires.{Call, Reading, Gave, NotNow, End, Failed}
 use Rattle.link_trait.specs.declared.wires.WriteAnswer.{WriteAnswer}
 use Rattle.link_trait.specs.declared.wires.WriteAnswer.TheVariants as write
@@ -29,8 +29,8 @@ use Rattle.loop_model.proofs.Givings as givings
 
 -- ---- the octets of some events
 
-break_none : (r : Rules) (m : ℕ) (k : KEnd) → (octets_in (outcomes_of r m k Faults) ≡ []) × (octets_in (outcomes_of r m k Stalls) ≡ [])
-unfolding outcomes_of after_break
+break_none : (r : Rules) (m : ℕ) (k : ModelEnd) → (octets_in (outcomes_of model_ends r m k Faults) ≡ []) × (octets_in (outcomes_of model_ends r m k Stalls) ≡ [])
+unfolding outcomes_of
 break_none r m k = elim (cases_Bool (is_some k.core.released)) [ inl p ↦ rw p (refl, refl) | inr p ↦ rw p (refl, refl) ]
 
 taken_none : (message : Option (List ℕ)) (os : List Outcome) → octets_in (if_taken message ++ os) ≡ octets_in os
@@ -50,29 +50,29 @@ IsAfter Faults = ⊥
 IsAfter Stalls = ⊥
 
 -- give none at a released end
-after_none : (r : Rules) (m : ℕ) (k : KEnd) (g : Given) (why : Release) → IsAfter g → k.core.released ≡ Some why → octets_in (outcomes_of r m k g) ≡ []
-unfolding outcomes_of refusal after_send after_take after_release
+after_none : (r : Rules) (m : ℕ) (k : ModelEnd) (g : Given) (why : Release) → IsAfter g → k.core.released ≡ Some why → octets_in (outcomes_of model_ends r m k g) ≡ []
+unfolding outcomes_of
 after_none r m k (Begins engine rbc rb) why p e = absurd p
 after_none r m k (Hears octets) why p e = absurd p
 after_none r m k (Sends text) why p e = rw e refl
 after_none r m k Takes why p e =
-    let x = begins_at kept m k.core in
-    taken_none (kept.oldest k.core.upper) (shown_by kept (used kept x))
-    ∙ elim (cases_Bool (length k.core.upper.inbox.waits == 0)) [ inl q ↦ rw q refl | inr q ↦ rw q (rw e refl) ]
+    let x = begins_at model m k.core in
+    taken_none (model.oldest k.core.upper) (shown_by model (used model x))
+    ∙ elim (cases_Bool (length k.core.upper.accepted - k.core.upper.used == 0)) [ inl q ↦ rw q refl | inr q ↦ rw q (rw e refl) ]
 after_none r m k (Leaves sub) why p e = rw e refl
 after_none r m k Ticks why p e = absurd p
 after_none r m k Ends why p e = absurd p
 after_none r m k Faults why p e = absurd p
 after_none r m k Stalls why p e = absurd p
 
-released_none : (r : Rules) (m : ℕ) (k : KEnd) (g : Given) (o : Option Release) → k.core.released ≡ o → is_some o ≡ true → IsAfter g → octets_in (outcomes_of r m k g) ≡ []
+released_none : (r : Rules) (m : ℕ) (k : ModelEnd) (g : Given) (o : Option Release) → k.core.released ≡ o → is_some o ≡ true → IsAfter g → octets_in (outcomes_of model_ends r m k g) ≡ []
 released_none r m k g None e p a = absurd (true≢false (sym p))
 released_none r m k g (Some why) e p a = after_none r m k g why a e
 
 is_after : Usual IsAfter
 is_after = record { sends = λ text. tt; leaves = λ sub. tt; takes = tt }
 
-no_stall : (k : KEnd) (g : Given) → IsAfter g → is_stalled (written_as k g) ≡ false
+no_stall : (k : ModelEnd) (g : Given) → IsAfter g → is_stalled (written_as model_ends k g) ≡ false
 no_stall k (Begins engine rbc rb) p = absurd p
 no_stall k (Hears octets) p = absurd p
 no_stall k (Sends text) p = refl
@@ -138,7 +138,7 @@ IsNoStall Ends = Unit {0}
 IsNoStall Faults = Unit {0}
 IsNoStall Stalls = ⊥
 
-not_stalled : (k : KEnd) (g : Given) → IsNoStall g → is_stalled (written_as k g) ≡ false
+not_stalled : (k : ModelEnd) (g : Given) → IsNoStall g → is_stalled (written_as model_ends k g) ≡ false
 not_stalled k (Begins engine rbc rb) p = refl
 not_stalled k (Hears octets) p = refl
 not_stalled k (Sends text) p = refl
@@ -152,16 +152,16 @@ not_stalled k Stalls p = absurd p
 usual : Usual IsNoStall
 usual = record { sends = λ text. tt; leaves = λ sub. tt; takes = tt }
 
-pub record Told (s t : Session) (xs : List Entry) : Type 0 where
+pub record Told (s t : Session ModelEnd) (xs : List Entry) : Type 0 where
   pub bounded : IsBounded t
   first : begins_stalled xs ≡ false
   rest : StallSo (length s.output) xs
   now : behind (length s.output) xs ≡ length t.output
 
-Tells : Session → Session → List Entry → List Call → Type 0
+Tells : Session ModelEnd → Session ModelEnd → List Entry → List Call → Type 0
 Tells s t xs cs = IsBounded s → Told s t xs
 
-tells_then : (s t u : Session) (xs ys : List Entry) (cs ds : List Call) → Tells s t xs cs → Tells t u ys ds → Tells s u (xs ++ ys) (cs ++ ds)
+tells_then : (s t u : Session ModelEnd) (xs ys : List Entry) (cs ds : List Call) → Tells s t xs cs → Tells t u ys ds → Tells s u (xs ++ ys) (cs ++ ds)
 unfolding Tells
 tells_then s t u xs ys cs ds p q b =
     let x = p b in
@@ -173,7 +173,7 @@ tells_then s t u xs ys cs ds p q b =
       now = behind-append (length s.output) xs ys ∙ ap (λ z. behind z ys) x.now ∙ y.now;
     }
 
-told_nothing : (s t : Session) → t.output ≡ s.output → Tells s t [] []
+told_nothing : (s t : Session ModelEnd) → t.output ≡ s.output → Tells s t [] []
 unfolding Tells behind
 told_nothing s t e b = record { bounded = subst (λ z. length z ≤ most_output) (sym e) b; first = refl; rest = tt; now = ap length (sym e) }
 
@@ -183,7 +183,7 @@ steady r = record {
   none = λ s. told_nothing s s refl;
   then_ = tells_then;
   given = λ m s g p fits b.
-      let new = octets_in (outcomes_of r m s.end g) in
+      let new = octets_in (outcomes_of model_ends r m s.end g) in
       let sum : length (s.output ++ new) ≡ length s.output + length new = length-append s.output new in
       record {
         bounded = (let f : length s.output + length new ≤ most_output = ltb-false most_output (length s.output + length new) fits in subst (λ z. z ≤ most_output) (sym sum) f);
@@ -192,9 +192,9 @@ steady r = record {
         now = ap (λ (b : Bool). if b then length s.output else length s.output + length new) fits ∙ sym sum;
       };
   stalls = λ m s g p fits b.
-      let x = entry_of r m s g in
-      let y = entry_of r m (record s { end = end_after r m s.end g }) Stalls in
-      let none : count_of y ≡ 0 = ap length (break_none r m (end_after r m s.end g)).1 in
+      let x = entry_of model_ends r m s g in
+      let y = entry_of model_ends r m (record s { end = end_after model_ends r m s.end g }) Stalls in
+      let none : count_of y ≡ 0 = ap length (break_none r m (end_after model_ends r m s.end g)).1 in
       let here : waiting_then (length s.output) (count_of x) ≡ length s.output = ap (λ (b : Bool). if b then length s.output else length s.output + count_of x) fits in
       record {
         bounded = b;
@@ -225,7 +225,7 @@ calm_one : (x : Entry) → (is_ended x.event || is_stalled x.event) ≡ false �
 unfolding has_stopped
 calm_one x p = ap (λ z. z || false) p
 
-no_stop : (k : KEnd) (g : Given) → IsAfter g → (is_ended (written_as k g) || is_stalled (written_as k g)) ≡ false
+no_stop : (k : ModelEnd) (g : Given) → IsAfter g → (is_ended (written_as model_ends k g) || is_stalled (written_as model_ends k g)) ≡ false
 no_stop k (Begins engine rbc rb) p = absurd p
 no_stop k (Hears octets) p = absurd p
 no_stop k (Sends text) p = refl
@@ -236,18 +236,18 @@ no_stop k Ends p = absurd p
 no_stop k Faults p = absurd p
 no_stop k Stalls p = absurd p
 
-record Silent (t : Session) (xs : List Entry) : Type 0 where
+record Silent (t : Session ModelEnd) (xs : List Entry) : Type 0 where
   calm : has_stopped xs ≡ false
-  gone : is_released t ≡ true
+  gone : is_released model_ends t ≡ true
   bounded : IsBounded t
   first : begins_stalled xs ≡ false
   rest : (waiting : ℕ) → waiting ≤ most_output → StallSo waiting xs
   now : (waiting : ℕ) → waiting ≤ most_output → behind waiting xs ≡ waiting
 
-Silences : Session → Session → List Entry → List Call → Type 0
-Silences s t xs cs = is_released s ≡ true → IsBounded s → Silent t xs
+Silences : Session ModelEnd → Session ModelEnd → List Entry → List Call → Type 0
+Silences s t xs cs = is_released model_ends s ≡ true → IsBounded s → Silent t xs
 
-silences_then : (s t u : Session) (xs ys : List Entry) (cs ds : List Call) → Silences s t xs cs → Silences t u ys ds → Silences s u (xs ++ ys) (cs ++ ds)
+silences_then : (s t u : Session ModelEnd) (xs ys : List Entry) (cs ds : List Call) → Silences s t xs cs → Silences t u ys ds → Silences s u (xs ++ ys) (cs ++ ds)
 unfolding Silences
 silences_then s t u xs ys cs ds p q gone b =
     let x = p gone b in
@@ -261,11 +261,11 @@ silences_then s t u xs ys cs ds p q gone b =
       now = λ w few. behind-append w xs ys ∙ ap (λ z. behind z ys) (x.now w few) ∙ y.now w few;
     }
 
-silent_nothing : (s t : Session) → t.output ≡ s.output → t.end ≡ s.end → Silences s t [] []
+silent_nothing : (s t : Session ModelEnd) → t.output ≡ s.output → t.end ≡ s.end → Silences s t [] []
 unfolding Silences behind has_stopped
 silent_nothing s t e f gone b = record {
   calm = refl;
-  gone = ap (λ (k : KEnd). is_some k.core.released) f ∙ gone;
+  gone = ap (λ (k : ModelEnd). is_some k.core.released) f ∙ gone;
   bounded = subst (λ z. length z ≤ most_output) (sym e) b;
   first = refl;
   rest = λ w few. tt;
@@ -279,9 +279,9 @@ module _ (stays : ReleaseStays) (breaks_release : BreaksRelease) (r : Rules) whe
     none = λ s. silent_nothing s s refl refl;
     then_ = silences_then;
     given = λ m s g p fits gone b.
-        let new = octets_in (outcomes_of r m s.end g) in
+        let new = octets_in (outcomes_of model_ends r m s.end g) in
         let nothing : new ≡ [] = released_none r m s.end g s.end.core.released refl gone p in
-        let x = entry_of r m s g in
+        let x = entry_of model_ends r m s g in
         let none : count_of x ≡ 0 = ap length nothing in
         record {
           calm = calm_one x (no_stop s.end g p);
@@ -292,7 +292,7 @@ module _ (stays : ReleaseStays) (breaks_release : BreaksRelease) (r : Rules) whe
           now = λ w few. silent_behind w x few none;
         };
     stalls = λ m s g p fits gone b.
-        let new = octets_in (outcomes_of r m s.end g) in
+        let new = octets_in (outcomes_of model_ends r m s.end g) in
         let none : length new ≡ 0 = ap length (released_none r m s.end g s.end.core.released refl gone p) in
         absurd (true≢false (sym fits ∙ ap (λ z. nat_lt most_output (length s.output + z)) none ∙ none_more (length s.output) b));
     heard = λ s mind. silent_nothing s (record s { mind = mind }) refl refl;
@@ -309,26 +309,26 @@ module _ (stays : ReleaseStays) (breaks_release : BreaksRelease) (r : Rules) whe
   unfolding has_stopped
   quietly_none = record { calm = refl; first = refl; rest = λ w few. tt }
 
-  fed_fault : (m : ℕ) (s : Session) → IsBounded s
-      → fed r m s Faults ≡ (record s { end = end_after r m s.end Faults; output = s.output ++ octets_in (outcomes_of r m s.end Faults); broken = s.broken || true }, entry_of r m s Faults ∷ [])
+  fed_fault : (m : ℕ) (s : Session ModelEnd) → IsBounded s
+      → fed model_ends r m s Faults ≡ (record s { end = end_after model_ends r m s.end Faults; output = s.output ++ octets_in (outcomes_of model_ends r m s.end Faults); broken = s.broken || true }, entry_of model_ends r m s Faults ∷ [])
   unfolding fed joined
   fed_fault m s b =
-      let fits : nat_lt most_output (length s.output + length (octets_in (outcomes_of r m s.end Faults))) ≡ false =
+      let fits : nat_lt most_output (length s.output + length (octets_in (outcomes_of model_ends r m s.end Faults))) ≡ false =
       ap (λ z. nat_lt most_output (length s.output + length z)) (break_none r m s.end).0 ∙ none_more (length s.output) b in
       rw fits refl
 
-  fault_quietly : (m : ℕ) (s : Session) (says : Says) → IsBounded s → Quietly (handled r m s Faults says).1
+  fault_quietly : (m : ℕ) (s : Session ModelEnd) (says : Says) → IsBounded s → Quietly (handled model_ends r m s Faults says).1
   unfolding Silences
   fault_quietly m s says b =
       let f = follows_handled r IsAfter Silences silences is_after m s Faults says in
       let e = fed_fault m s b in
-      let x = entry_of r m s Faults in
+      let x = entry_of model_ends r m s Faults in
       let nothing = (break_none r m s.end).0 in
-      let gone : is_released (fed r m s Faults).0 ≡ true = ap (λ (z : Session × List Entry). is_released z.0) e ∙ breaks_released stays breaks_release r m s.end Faults refl in
-      let few : IsBounded (fed r m s Faults).0 =
-      subst (λ (z : Session × List Entry). IsBounded z.0) (sym e) (subst (λ z. length z ≤ most_output) (sym (ap (λ z. s.output ++ z) nothing ∙ append-nil s.output)) b) in
+      let gone : is_released model_ends (fed model_ends r m s Faults).0 ≡ true = ap (λ (z : Session ModelEnd × List Entry). is_released model_ends z.0) e ∙ breaks_released stays breaks_release r m s.end Faults refl in
+      let few : IsBounded (fed model_ends r m s Faults).0 =
+      subst (λ (z : Session ModelEnd × List Entry). IsBounded z.0) (sym e) (subst (λ z. length z ≤ most_output) (sym (ap (λ z. s.output ++ z) nothing ∙ append-nil s.output)) b) in
       let h = f.holds gone few in
-      subst Quietly (sym (f.is ∙ ap (λ (z : Session × List Entry). z.1 ++ f.rest) e)) (record {
+      subst Quietly (sym (f.is ∙ ap (λ (z : Session ModelEnd × List Entry). z.1 ++ f.rest) e)) (record {
         calm = calm_two (x ∷ []) f.rest (calm_one x refl) h.calm;
         first = refl;
         rest = λ w small. silent_one w x f.rest small (ap length nothing) h.first (h.rest w small);
@@ -339,96 +339,96 @@ module _ (stays : ReleaseStays) (breaks_release : BreaksRelease) (r : Rules) whe
   drop_few : (n : ℕ) (xs : List ℕ) → length xs ≤ most_output → length (drop n xs) ≤ most_output
   drop_few n xs p = subst (λ z. z ≤ most_output) (sym (length-drop n xs)) (omega arith)
 
-  answered : (s : Session) (a : WriteAnswer) → IsBounded s → IsBounded (after_write a s).0
+  answered : (s : Session ModelEnd) (a : WriteAnswer) → IsBounded s → IsBounded (after_write a s).0
   answered s (write.Some n) b = drop_few n s.output b
   answered s write.NotNow b = b
   answered s write.Failed b = b
 
-  once_bounded : (flow : Flow) (s : Session) (a : WriteAnswer) → IsBounded s → IsBounded (writes_if flow s a).state.0
+  once_bounded : (flow : Flow) (s : Session ModelEnd) (a : WriteAnswer) → IsBounded s → IsBounded (writes_if flow s a).state.0
   once_bounded Going s a b = elim (cases_Bool (length s.output == 0)) [ inl p ↦ rw p b | inr p ↦ rw p (answered s a b) ]
   once_bounded PutOff s a b = b
   once_bounded Failing s a b = b
 
-  acts_bounded : (answers : List WriteAnswer) (x : Session × Flow) → IsBounded x.0 → IsBounded (acts writes_once x answers).state.0
+  acts_bounded : (answers : List WriteAnswer) (x : Session ModelEnd × Flow) → IsBounded x.0 → IsBounded (acts writes_once x answers).state.0
   unfolding acts writes_once
   acts_bounded [] x b = b
   acts_bounded (a ∷ answers) x b = acts_bounded answers (writes_if x.1 x.0 a).state (once_bounded x.1 x.0 a b)
 
-  unless_quietly : (m : ℕ) (gone : Bool) (s : Session) (says : Says) → IsBounded s → Quietly (fault_unless gone r m s says).1
+  unless_quietly : (m : ℕ) (gone : Bool) (s : Session ModelEnd) (says : Says) → IsBounded s → Quietly (fault_unless model_ends gone r m s says).1
   unless_quietly m true s says b = quietly_none
   unless_quietly m false s says b = fault_quietly m s says b
 
-  flowed_quietly : (m : ℕ) (flow : Flow) (s : Session) (says : Says) → IsBounded s → Quietly (flowed r m (s, flow) says).entries
+  flowed_quietly : (m : ℕ) (flow : Flow) (s : Session ModelEnd) (says : Says) → IsBounded s → Quietly (flowed model_ends r m (s, flow) says).entries
   flowed_quietly m Going s says b = quietly_none
   flowed_quietly m PutOff s says b = quietly_none
-  flowed_quietly m Failing s says b = unless_quietly m (is_released s) s says b
+  flowed_quietly m Failing s says b = unless_quietly m (is_released model_ends s) s says b
 
-  written_quietly : (m : ℕ) (whole : Bool) (s : Session) (a : Wrote) → IsBounded s → Quietly (written_unless whole r m s a).entries
+  written_quietly : (m : ℕ) (whole : Bool) (s : Session ModelEnd) (a : Wrote) → IsBounded s → Quietly (written_unless model_ends whole r m s a).entries
   unfolding writes
   written_quietly m true s a b = quietly_none
   written_quietly m false s a b =
       let answers = exactly (length s.output) write.NotNow a.answers in
       let x = acts writes_once (s, Going) answers in
-      subst (λ z. Quietly (z ++ (flowed r m x.state a.says).entries)) (sym (acts_none r m answers (s, Going)))
+      subst (λ z. Quietly (z ++ (flowed model_ends r m x.state a.says).entries)) (sym (acts_none r m answers (s, Going)))
       (flowed_quietly m x.state.1 x.state.0 a.says (acts_bounded answers (s, Going) b))
 
-  pub rests_quietly : (m : ℕ) (s : Session) (a : Wrote) → IsBounded s → Quietly (rests r m s a).entries
+  pub rests_quietly : (m : ℕ) (s : Session ModelEnd) (a : Wrote) → IsBounded s → Quietly (rests model_ends r m s a).entries
   unfolding rests written
   rests_quietly m s a b =
-      let w = written_unless s.broken r m s a in
+      let w = written_unless model_ends s.broken r m s a in
       subst Quietly (sym (ap (λ z. w.entries ++ z) (settled_none r m w.state) ∙ append-nil w.entries)) (written_quietly m s.broken s a b)
 
   -- ---- visits
 
-  then_quietly : (s t : Session) (xs ys : List Entry) → Told s t xs → Quietly ys → IsStalledSo s (xs ++ ys)
+  then_quietly : (s t : Session ModelEnd) (xs ys : List Entry) → Told s t xs → Quietly ys → IsStalledSo s (xs ++ ys)
   then_quietly s t xs ys x y = record {
     first = first_two xs ys x.first y.first;
     rest = stall-append (length s.output) xs ys x.rest y.first (subst (λ z. StallSo z ys) (sym x.now) (y.rest (length t.output) x.bounded));
   }
 
-  served_told : (m : ℕ) (s : Session) (g : Given) (a : Met) → IsNoStall g → IsBounded s → IsStalledSo s (served r m s g a).entries
+  served_told : (m : ℕ) (s : Session ModelEnd) (g : Given) (a : Met) → IsNoStall g → IsBounded s → IsStalledSo s (served model_ends r m s g a).entries
   unfolding served Tells
   served_told m s g a p b =
       let says = first_of nothing_said a.says in
-      let h = handled r m s g says in
+      let h = handled model_ends r m s g says in
       let x = steady_handled r IsNoStall Tells (steady r) usual m s g says p b in
-      then_quietly s h.0 h.1 (rests r m h.0 a.wrote).entries x (rests_quietly m h.0 a.wrote x.bounded)
+      then_quietly s h.0 h.1 (rests model_ends r m h.0 a.wrote).entries x (rests_quietly m h.0 a.wrote x.bounded)
 
-  pub came_told : (m : ℕ) (reading : Reading) (s : Session) (says : List Says) → IsBounded s → Told s (came reading r m s says).0 (came reading r m s says).1
+  pub came_told : (m : ℕ) (reading : Reading) (s : Session ModelEnd) (says : List Says) → IsBounded s → Told s (came model_ends reading r m s says).0 (came model_ends reading r m s says).1
   unfolding Tells
   came_told m (Gave octets) s says b = steady_pours r IsNoStall Tells (steady r) usual (λ octets. tt) m s octets says b
   came_told m NotNow s says b = told_nothing s s refl b
   came_told m End s says b = steady_handled r IsNoStall Tells (steady r) usual m s Ends (first_of nothing_said says) tt b
   came_told m Failed s says b = steady_handled r IsNoStall Tells (steady r) usual m s Faults (first_of nothing_said says) tt b
 
-  behind_quietly : (m : ℕ) (reading : Reading) (s : Session) (a : Wrote) → IsBounded s → Quietly (rests_behind reading r m s a).entries
+  behind_quietly : (m : ℕ) (reading : Reading) (s : Session ModelEnd) (a : Wrote) → IsBounded s → Quietly (rests_behind model_ends reading r m s a).entries
   behind_quietly m (Gave octets) s a b = rests_quietly m s a b
   behind_quietly m NotNow s a b = quietly_none
   behind_quietly m End s a b = rests_quietly m s a b
   behind_quietly m Failed s a b = rests_quietly m s a b
 
-  none_told : (s : Session) → IsStalledSo s []
+  none_told : (s : Session ModelEnd) → IsStalledSo s []
   none_told s = record { first = refl; rest = tt }
 
-  quietly_told : (s : Session) (xs : List Entry) → IsBounded s → Quietly xs → IsStalledSo s xs
+  quietly_told : (s : Session ModelEnd) (xs : List Entry) → IsBounded s → Quietly xs → IsStalledSo s xs
   quietly_told s xs b q = record { first = q.first; rest = q.rest (length s.output) b }
 
-  visit_told : (m : ℕ) (visit : Visit) (s : Session) (a : Met) → IsBounded s → IsStalledSo s (visited r m visit s a).entries
+  visit_told : (m : ℕ) (visit : Visit) (s : Session ModelEnd) (a : Met) → IsBounded s → IsStalledSo s (visited model_ends r m visit s a).entries
   unfolding visited read_once
-  visit_told m Tick s a b = elim (cases_Bool (is_due m (deadline_of s.end))) [ inl p ↦ rw p (served_told m s Ticks a tt b) | inr p ↦ rw p (none_told s) ]
+  visit_told m Tick s a b = elim (cases_Bool (is_due m (model_ends.deadline s.end))) [ inl p ↦ rw p (served_told m s Ticks a tt b) | inr p ↦ rw p (none_told s) ]
   visit_told m Read s a b =
       let x = came_told m a.reading s a.says b in
-      let t = (came a.reading r m s a.says).0 in
-      elim (cases_Bool (is_released s)) [
+      let t = (came model_ends a.reading r m s a.says).0 in
+      elim (cases_Bool (is_released model_ends s)) [
         | inl p ↦ rw p (none_told s)
-        | inr p ↦ rw p (then_quietly s t (came a.reading r m s a.says).1 (rests_behind a.reading r m t a.wrote).entries x (behind_quietly m a.reading t a.wrote x.bounded))
+        | inr p ↦ rw p (then_quietly s t (came model_ends a.reading r m s a.says).1 (rests_behind model_ends a.reading r m t a.wrote).entries x (behind_quietly m a.reading t a.wrote x.bounded))
       ]
-  visit_told m Write s a b = quietly_told s (rests r m s a.wrote).entries b (rests_quietly m s a.wrote b)
+  visit_told m Write s a b = quietly_told s (rests model_ends r m s a.wrote).entries b (rests_quietly m s a.wrote b)
   visit_told m Expire s a b = elim (cases_Bool (is_due m s.closing)) [ inl p ↦ rw p (none_told s) | inr p ↦ rw p (none_told s) ]
 
 -- ---- how much waits
 
-unfoldable pub Bounds : Session → Session → List Entry → List Call → Type 0
+unfoldable pub Bounds : Session ModelEnd → Session ModelEnd → List Entry → List Call → Type 0
 Bounds s t xs cs = IsBounded s → IsBounded t
 
 pub bounds : (r : Rules) → Steady r (λ g. Unit {0}) Bounds
@@ -437,7 +437,7 @@ bounds r = record {
   none = λ s b. b;
   then_ = λ s t u xs ys cs ds p q b. q (p b);
   given = λ m s g allowed fits b.
-      let new = octets_in (outcomes_of r m s.end g) in
+      let new = octets_in (outcomes_of model_ends r m s.end g) in
       subst (λ z. z ≤ most_output) (sym (length-append s.output new)) (ltb-false most_output (length s.output + length new) fits);
   stalls = λ m s g allowed fits b. b;
   heard = λ s mind b. b;
@@ -455,25 +455,25 @@ bounds_calls : (r : Rules) → Calls r Bounds
 unfolding Bounds
 bounds_calls r = usual_calls r (λ g. Unit {0}) Bounds (bounds r) givings.all_given bounds_bare (λ s waits reading b. b)
 
-bounded_two : (ss ts : List Session) → AreBounded ss → AreBounded ts → AreBounded (ss ++ ts)
+bounded_two : (ss ts : List (Session ModelEnd)) → AreBounded ss → AreBounded ts → AreBounded (ss ++ ts)
 bounded_two [] ts p q = q
 bounded_two (s ∷ ss) ts p q = (p.0, bounded_two ss ts p.1 q)
 
-left_bounded : (s : Session) (ts : List Session) (xs : List Entry) (cs : List Call) → Left Bounds s ts xs cs → IsBounded s → AreBounded ts
+left_bounded : (s : Session ModelEnd) (ts : List (Session ModelEnd)) (xs : List Entry) (cs : List Call) → Left Bounds s ts xs cs → IsBounded s → AreBounded ts
 unfolding Bounds
 left_bounded s ts xs cs (Stays t p q) b = subst AreBounded (sym p) (q b, tt)
 left_bounded s ts xs cs (Closed t ds over p e q) b = subst AreBounded (sym p) tt
 
-visit_bounded : (r : Rules) (m : ℕ) (visit : Visit) (n : ℕ) (ss : List Session) (a : Met) → AreBounded ss → AreBounded (visit_at (visited r m visit) n ss a).state
+visit_bounded : (r : Rules) (m : ℕ) (visit : Visit) (n : ℕ) (ss : List (Session ModelEnd)) (a : Met) → AreBounded ss → AreBounded (visit_at (visited model_ends r m visit) n ss a).state
 unfolding visit_at
 visit_bounded r m visit n [] a p = tt
 visit_bounded r m visit n (s ∷ ss) a p =
     elim (cases_Bool (s.number == n)) [
-      | inl q ↦ rw q (bounded_two (visited r m visit s a).state ss (left_bounded s _ _ _ (left_visited r Bounds (bounds_calls r) visit m s a) p.0) p.1)
+      | inl q ↦ rw q (bounded_two (visited model_ends r m visit s a).state ss (left_bounded s _ _ _ (left_visited r Bounds (bounds_calls r) visit m s a) p.0) p.1)
       | inr q ↦ rw q (p.0, visit_bounded r m visit n ss a p.1)
     ]
 
-Stay : List Session → List Session → List Entry → List Call → Type 0
+Stay : List (Session ModelEnd) → List (Session ModelEnd) → List Entry → List Call → Type 0
 Stay ss ts xs cs = AreBounded ss → AreBounded ts
 
 wise : (plan : Plan) → Loopwise plan Stay

@@ -1,4 +1,5 @@
 -- What a replay tests of an event behind others, and of the events of a journal.
+use Rattle.loop_model.specs.Ends.{ModelEnd}
 use Rattle.std.proofs.Common.{◌≡◌, ℕ, ◌+◌, ◌<◌, ◌≤◌, max, inl, inr, Bool, true, false, ◌&&◌, ◌||◌, List, [], ◌∷◌, ◌++◌, map, length, Option, Some, None, refl, sym, ◌∙◌, ap, subst, append-nil, append_assoc, arith, true≢false, le-ltb, eqb-true, eq-eqb, ltb-true}
 use Rattle.std.specs.Prelude.{nat_lt, nat_le, ◌==◌, if◌then◌else◌, filter, is_some}
 use Rattle.std.specs.List.{list_any}
@@ -257,7 +258,7 @@ opened_in-append (x ∷ xs) ys = elim (cases_Bool (opens (role_of x.event))) [
   | inr p ↦ rw p (opened_in-append xs ys)
 ]
 
-occurs : List ℕ → List Session → ℕ
+occurs : List ℕ → List (Session ModelEnd) → ℕ
 occurs ks [] = 0
 occurs ks (s ∷ ss) = count s.number ks + occurs ks ss
 
@@ -265,7 +266,7 @@ count_least : (n k : ℕ) (ks : List ℕ) → count n ks ≤ count n (k ∷ ks)
 unfolding count
 count_least n k ks = omega arith
 
-occurs_least : (k : ℕ) (ks : List ℕ) (ss : List Session) → occurs ks ss ≤ occurs (k ∷ ks) ss
+occurs_least : (k : ℕ) (ks : List ℕ) (ss : List (Session ModelEnd)) → occurs ks ss ≤ occurs (k ∷ ks) ss
 unfolding occurs
 occurs_least k ks [] = omega arith
 occurs_least k ks (s ∷ ss) =
@@ -277,7 +278,7 @@ one_more : (n k : ℕ) (ks : List ℕ) → (k == n) ≡ true → count n (k ∷ 
 unfolding count
 one_more n k ks e = rw e refl
 
-occurs_more : (k : ℕ) (ks : List ℕ) (ss : List Session) → is_some (session_of k ss) ≡ true → occurs ks ss + 1 ≤ occurs (k ∷ ks) ss
+occurs_more : (k : ℕ) (ks : List ℕ) (ss : List (Session ModelEnd)) → is_some (session_of k ss) ≡ true → occurs ks ss + 1 ≤ occurs (k ∷ ks) ss
 unfolding occurs session_of
 occurs_more k ks [] p = absurd (true≢false (sym p))
 occurs_more k ks (s ∷ ss) p =
@@ -292,7 +293,7 @@ occurs_more k ks (s ∷ ss) p =
           omega arith)
     ]
 
-passing_few : (test : ℕ → Bool) (ss : List Session) → ((n : ℕ) → test n ≡ true → is_some (session_of n ss) ≡ true) → (ks : List ℕ) → length (filter test ks) ≤ occurs ks ss
+passing_few : (test : ℕ → Bool) (ss : List (Session ModelEnd)) → ((n : ℕ) → test n ≡ true → is_some (session_of n ss) ≡ true) → (ks : List ℕ) → length (filter test ks) ≤ occurs ks ss
 passing_few test ss there [] = omega arith
 passing_few test ss there (k ∷ ks) =
     let h : length (filter test ks) ≤ occurs ks ss = passing_few test ss there ks in
@@ -301,7 +302,7 @@ passing_few test ss there (k ∷ ks) =
       | inr e ↦ rw e (let m : occurs ks ss ≤ occurs (k ∷ ks) ss = occurs_least k ks ss in omega arith)
     ]
 
-occurs_few : (ks : List ℕ) → ((n : ℕ) → count n ks ≤ 1) → (ss : List Session) → occurs ks ss ≤ length ss
+occurs_few : (ks : List ℕ) → ((n : ℕ) → count n ks ≤ 1) → (ss : List (Session ModelEnd)) → occurs ks ss ≤ length ss
 unfolding occurs
 occurs_few ks once [] = omega arith
 occurs_few ks once (s ∷ ss) =
@@ -326,7 +327,7 @@ count_own conn (x ∷ xs) =
     ]
 
 -- where each live end has a session, and no connection is opened twice
-pub few_live : (settings : Settings) (finds : Finds) (xs : List Entry) (ss : List Session)
+pub few_live : (settings : Settings) (finds : Finds) (xs : List Entry) (ss : List (Session ModelEnd))
     → ((n : ℕ) → is_live (end_at settings finds n (lines_of xs)) ≡ true → is_some (session_of n ss) ≡ true)
     → ((n : ℕ) → length (opened_in (lines_of (of n xs))) ≤ 1)
     → live_count settings finds (lines_of xs) ≤ length ss

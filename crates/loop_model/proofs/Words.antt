@@ -1,4 +1,5 @@
 -- Each end that is opened has the next random word.
+use Rattle.loop_model.specs.Ends.{ModelEnd, model_ends}
 use Rattle.std.proofs.Common.{◌≡◌, ℕ, List, [], ◌∷◌, ◌++◌, Option, Some, None, refl, sym, ◌∙◌, ap, subst, append_assoc}
 use Rattle.er_trace.specs.declared.event.Event.{Event}
 use Rattle.er_trace.specs.declared.event.Event.TheVariants as event
@@ -69,7 +70,7 @@ draws_then a b c xs ys p q = record {
   left = q.left ∙ ap (λ z. after (words_of ys) z) p.left ∙ sym (after-append (words_of xs) (words_of ys) a) ∙ ap (λ z. after z a) (sym (words_of-append xs ys));
 }
 
-Goes : Loop → Loop → List Entry → List Call → Type 0
+Goes : Loop ModelEnd → Loop ModelEnd → List Entry → List Call → Type 0
 Goes l k xs cs = Draws l.words k.words xs
 
 wise : (plan : Plan) → Momentwise plan Goes
@@ -79,7 +80,7 @@ wise plan = record {
   then_ = λ l k n xs ys cs ds p q. draws_then l.words k.words n.words xs ys p q;
   asked = λ l at. draws_none l.words [] refl;
   visit = λ l visit n a.
-      let o = visit_at (visited (rules_of plan) l.moment visit) n l.sessions a in
+      let o = visit_at (visited model_ends (rules_of plan) l.moment visit) n l.sessions a in
       draws_none l.words o.entries (no_words l.moment n o.entries (plain_visit (rules_of plan) l.moment visit n l.sessions a));
   turned = λ l until happening none. draws_none l.words [] refl;
   opened = λ l until conn mind fits is. record { next = (refl, tt); left = refl };
@@ -87,12 +88,12 @@ wise plan = record {
   unserved = λ l until conn fits is. record { next = tt; left = refl };
 }
 
-called_draws : (user : Option Mind) (plan : Plan) (caller : Caller) (l : Loop) (conn : ℕ) (a : Met)
-    → Draws l.words (called_by user plan caller l conn a).state.words (called_by user plan caller l conn a).entries
+called_draws : (user : Option Mind) (plan : Plan) (caller : Caller) (l : Loop ModelEnd) (conn : ℕ) (a : Met)
+    → Draws l.words (called_by model_ends user plan caller l conn a).state.words (called_by model_ends user plan caller l conn a).entries
 unfolding words_of after
 called_draws None plan caller l conn a = record { next = tt; left = refl }
 called_draws (Some mind) plan caller l conn a =
-    let o = served (rules_of plan) l.moment (begun conn (calling plan caller l) mind) (begins plan caller l) a in
+    let o = served model_ends (rules_of plan) l.moment (begun conn (calling model_ends plan caller l) mind) (begins plan caller l) a in
     let c = served_so plan caller l conn mind a in
     let e : words_of o.entries ≡ (next_u64 l.words).0 ∷ [] =
     ap words_of c.is ∙ ap (λ z. (next_u64 l.words).0 ∷ z) (no_words l.moment conn c.rest c.plain) in
@@ -101,14 +102,14 @@ called_draws (Some mind) plan caller l conn a =
       left = ap (λ z. after z l.words) (sym e);
     }
 
-dial_draws : (conn : Option ℕ) (plan : Plan) (caller : Caller) (c : Course) (address : List ℕ) (a : Dialled)
-    → AreNext (words_of (dials_to conn plan caller c address a).entries) c.loop.words
+dial_draws : (conn : Option ℕ) (plan : Plan) (caller : Caller) (c : Course ModelEnd) (address : List ℕ) (a : Dialled)
+    → AreNext (words_of (dials_to model_ends conn plan caller c address a).entries) c.loop.words
 unfolding called words_of Goes
 dial_draws None plan caller c address a = tt
 dial_draws (Some conn) plan caller c address a =
     let d = asks a.first c in
-    let o = opens plan caller d conn a.met in
-    let e = run plan o.state a.turns in
+    let o = opens model_ends plan caller d conn a.met in
+    let e = run model_ends plan o.state a.turns in
     (draws_then d.loop.words o.state.loop.words e.state.loop.words o.entries e.entries
     (called_draws (next_user d.loop.users) plan caller d.loop conn a.met) (moment_run plan Goes (wise plan) o.state a.turns)).next
 

@@ -1,4 +1,5 @@
 -- When a released connection is closed at the latest: the set-up time behind the event that released it.
+use Rattle.loop_model.specs.Ends.{ModelEnd}
 use Rattle.std.specs.Prelude.{ℕ, ◌≡◌, ◌+◌, if◌then◌else◌, List, [], ◌∷◌, Option, Some, None}
 use Rattle.er_settings.specs.declared.settings.Settings.{Settings}
 use Rattle.safety_automaton.specs.Keys.{key_at}
@@ -24,9 +25,9 @@ closing_at setup None = None
 closing_at setup (Some at) = Some (at + setup)
 
 -- a live connection has its closing moment exactly where its events released it, the set-up time behind that event
-abbrev pub ClosesInTime : Plan → Out Course → Type 0
+abbrev pub ClosesInTime : Plan → Out (Course ModelEnd) → Type 0
 ClosesInTime plan o =
-    (conn : ℕ) (s : Session) → session_of conn o.state.loop.sessions ≡ Some s
+    (conn : ℕ) (s : Session ModelEnd) → session_of conn o.state.loop.sessions ≡ Some s
     → s.closing ≡ closing_at plan.settings.setup (released_at plan.settings (key_at plan.keys) None (of conn o.entries))
 
 abbrev pub ClosingsAreInTime : Type 0

@@ -1,4 +1,5 @@
 -- An event `fault` comes exactly where a read or a write of a connection failed that wasn't released.
+use Rattle.loop_model.specs.Ends.{ModelEnd}
 use Rattle.std.specs.Prelude.{ℕ, ◌≡◌, Bool, false, not, ◌&&◌, ◌||◌, if◌then◌else◌, List, [], ◌∷◌, Option, Some, None, is_some}
 use Rattle.safety_automaton.specs.Keys.{key_at}
 use Rattle.end_model.specs.Ends.{End}
@@ -33,7 +34,7 @@ abbrev pub IsFaultTold : Plan → ℕ → List Entry → List wires.Call → Typ
 IsFaultTold plan conn xs calls = faults xs ≡ one_if (has_failed calls && not (is_released_by plan conn (before_fault xs)))
 
 -- of each connection
-abbrev pub AreFaultsTold : Plan → Out Course → Type 0
+abbrev pub AreFaultsTold : Plan → Out (Course ModelEnd) → Type 0
 AreFaultsTold plan o = (conn : ℕ) → IsFaultTold plan conn (of conn o.entries) (calls_at conn o.calls)
 
 abbrev pub FaultsAreTold : Type 0

@@ -1,6 +1,6 @@
 -- Which events a journal can have: each with its line in the grammar of traces, and of what is told of it each reason and each text in
 -- octets. How long such a text is at most, and that a peer's number is an ETCS number, follows of the end.
-use Rattle.std.specs.Prelude.{ℕ, ◌<◌, ◌^◌, List, [], ◌∷◌}
+use Rattle.std.specs.Prelude.{◌<◌, ◌^◌, List, [], ◌∷◌}
 use Rattle.er_base.specs.Octets.{AreOctets}
 use Rattle.er_trace.specs.Ranges.{IsOctet}
 use Rattle.er_trace.specs.Texts.{IsReadable}

@@ -1,5 +1,6 @@
 -- What holds of the loop, whatever the outside answers. Where a law speaks of connections that were accepted, their numbers rise, as
 -- those of wires do.
+use Rattle.loop_model.specs.Ends.{ModelEnd, model_ends}
 use Rattle.std.specs.Prelude.{ℕ, ◌≡◌, ◌+◌, ◌≤◌, max, Bool, true, false, if◌then◌else◌, List, [], ◌∷◌, ◌++◌, length, Option, Some, None}
 use Rattle.safety_automaton.specs.Keys.{key_at}
 use Rattle.er_settings.specs.declared.settings.Settings.{Settings}
@@ -22,16 +23,16 @@ use Rattle.loop_model.specs.Loops.{Plan, most_live, numbers, Caller, Halt, OnEnd
 use Rattle.loop_model.specs.Parts.{session_of, of, calls_at, opened_in, Rises}
 
 -- a loop that serves: it begins with no session, and the connections that are accepted have rising numbers
-pub record IsServing (plan : Plan) (c : Course) (turns : List Turn) : Type 0 where
+pub record IsServing (plan : Plan) (c : Course ModelEnd) (turns : List Turn) : Type 0 where
   pub none : c.loop.sessions ≡ []
-  pub rises : Rises 0 (opened_in (run plan c turns).calls)
+  pub rises : Rises 0 (opened_in (run model_ends plan c turns).calls)
   pub allowed : AllAllowed plan.settings
 
 -- a loop that dials: it begins with no session, the connections that are opened have rising numbers, and the pair's KMAC holds at the
 -- moment of the call
-pub record IsDialling (plan : Plan) (caller : Caller) (c : Course) (address : List ℕ) (a : Dialled) : Type 0 where
+pub record IsDialling (plan : Plan) (caller : Caller) (c : Course ModelEnd) (address : List ℕ) (a : Dialled) : Type 0 where
   pub none : c.loop.sessions ≡ []
-  pub rises : Rises 0 (opened_in (dials plan caller c address a).calls)
+  pub rises : Rises 0 (opened_in (dials model_ends plan caller c address a).calls)
   pub allowed : AllAllowed plan.settings
   pub key : key_at plan.keys (max c.loop.moment a.first) caller.engine plan.rbc ≡ Some caller.kmac
 
@@ -44,11 +45,11 @@ AreTold settings finds before (x ∷ xs) =
     (x.outcomes ≡ trace.outcomes_at settings finds before (line_of x)) × AreTold settings finds (before ++ line_of x ∷ []) xs
 
 -- whichever session answered for a connection: its outcomes are those of its own events
-abbrev pub IsIsolated : Plan → Out Course → Type 0
+abbrev pub IsIsolated : Plan → Out (Course ModelEnd) → Type 0
 IsIsolated plan o = AreTold plan.settings (key_at plan.keys) [] o.entries
 
 -- what is printed of the journal behind the header is the printed text of its events
-abbrev pub IsPrinted : Plan → Out Course → Type 0
+abbrev pub IsPrinted : Plan → Out (Course ModelEnd) → Type 0
 IsPrinted plan o = text o.entries ≡ trace.entries_text plan.settings (key_at plan.keys) [] (lines_of o.entries)
 
 -- ---- octets given
@@ -63,7 +64,7 @@ pub record IsBeginning (xs ys : List ℕ) : Type 0 where
   pub is : xs ++ rest ≡ ys
 
 -- the octets given to a connection are a beginning of the joined octets of its outcomes
-abbrev pub AreAccounted : Out Course → Type 0
+abbrev pub AreAccounted : Out (Course ModelEnd) → Type 0
 AreAccounted o = (conn : ℕ) → IsBeginning (given_of conn o.calls) (octets_of (of conn o.entries))
 
 -- ---- calls on open connections
@@ -82,7 +83,7 @@ EndAtClose [] = Unit {0}
 EndAtClose (call ∷ calls) = (is_close call ≡ true → calls ≡ []) × EndAtClose calls
 
 -- no call is made on a connection that was closed
-abbrev pub AreOnOpen : Out Course → Type 0
+abbrev pub AreOnOpen : Out (Course ModelEnd) → Type 0
 AreOnOpen o = (conn : ℕ) → EndAtClose (calls_at conn o.calls)
 
 -- ---- faults
@@ -136,20 +137,20 @@ failures [] = 0
 failures (call ∷ calls) = one_if (is_failed call) + failures calls
 
 -- there are at most as many events `fault` as reads and writes that failed
-abbrev pub HasFailed : Out Course → Type 0
+abbrev pub HasFailed : Out (Course ModelEnd) → Type 0
 HasFailed o = faults o.entries ≤ failures o.calls
 
 pub record FaultsHaveFailed : Type 0 where
-  pub serving : (plan : Plan) (c : Course) (turns : List Turn) → HasFailed (run plan c turns)
-  pub dialling : (plan : Plan) (caller : Caller) (c : Course) (address : List ℕ) (a : Dialled) → HasFailed (dials plan caller c address a)
+  pub serving : (plan : Plan) (c : Course ModelEnd) (turns : List Turn) → HasFailed (run model_ends plan c turns)
+  pub dialling : (plan : Plan) (caller : Caller) (c : Course ModelEnd) (address : List ℕ) (a : Dialled) → HasFailed (dials model_ends plan caller c address a)
 
 -- ---- both loops
 
 -- what holds of each loop that serves, and of each that dials
-pub record Holds (Law : Plan → Out Course → Type 0) : Type 0 where
-  pub serving : (plan : Plan) (c : Course) (turns : List Turn) → IsServing plan c turns → Law plan (run plan c turns)
-  pub dialling : (plan : Plan) (caller : Caller) (c : Course) (address : List ℕ) (a : Dialled) → IsDialling plan caller c address a
-      → Law plan (dials plan caller c address a)
+pub record Holds (Law : Plan → Out (Course ModelEnd) → Type 0) : Type 0 where
+  pub serving : (plan : Plan) (c : Course ModelEnd) (turns : List Turn) → IsServing plan c turns → Law plan (run model_ends plan c turns)
+  pub dialling : (plan : Plan) (caller : Caller) (c : Course ModelEnd) (address : List ℕ) (a : Dialled) → IsDialling plan caller c address a
+      → Law plan (dials model_ends plan caller c address a)
 
 abbrev pub ConnectionsAreIsolated : Type 0
 ConnectionsAreIsolated = Holds IsIsolated
@@ -179,12 +180,12 @@ reads_of [] = []
 reads_of (call ∷ calls) = reads_by call ++ reads_of calls
 
 -- a session that isn't released is read from
-abbrev pub to_be_read_of : ℕ → Option Session → List ℕ
+abbrev pub to_be_read_of : ℕ → Option (Session ModelEnd) → List ℕ
 to_be_read_of conn None = []
-to_be_read_of conn (Some s) = if is_released s then [] else conn ∷ []
+to_be_read_of conn (Some s) = if is_released model_ends s then [] else conn ∷ []
 
 -- the connection that is to be read from behind a happening
-abbrev pub to_be_read : Happening → List Session → List ℕ
+abbrev pub to_be_read : Happening → List (Session ModelEnd) → List ℕ
 to_be_read (happening.Accepted conn) ss = []
 to_be_read (happening.Readable conn) ss = to_be_read_of conn.0 (session_of conn.0 ss)
 to_be_read (happening.Writable conn) ss = []
@@ -192,15 +193,15 @@ to_be_read happening.Quiet ss = []
 to_be_read happening.Ended ss = []
 to_be_read happening.Failed ss = []
 
-abbrev pub to_be_read_unless : Option Halt → Happening → List Session → List ℕ
+abbrev pub to_be_read_unless : Option Halt → Happening → List (Session ModelEnd) → List ℕ
 to_be_read_unless (Some halt) happening ss = []
 to_be_read_unless None happening ss = to_be_read happening ss
 
 -- before a turn nothing is read; behind it a connection is read from once exactly where it is readable, live and not released
 abbrev pub OneReadATurn : Type 0
 OneReadATurn =
-    (plan : Plan) (c : Course) (a : Turn) → c.halt ≡ None
-    → reads_of (went plan c a).calls ≡ to_be_read_unless (readied plan c a).state.halt a.happening (readied plan c a).state.loop.sessions
+    (plan : Plan) (c : Course ModelEnd) (a : Turn) → c.halt ≡ None
+    → reads_of (went model_ends plan c a).calls ≡ to_be_read_unless (readied model_ends plan c a).state.halt a.happening (readied model_ends plan c a).state.loop.sessions
 
 -- ---- turns and the clock
 
@@ -250,7 +251,7 @@ greatest m (at ∷ ats) = greatest (max m at) ats
 -- no turn follows one that ended or failed; a run halts as ended exactly where its last turn ended, and fails exactly where that failed;
 -- it has at most as many turns as planned, and all of them where it didn't halt; its number of turns is that of the record; its moment is
 -- the greatest that the clock answered
-pub record RunsSo (plan : Plan) (o : Out Course) : Type 0 where
+pub record RunsSo (plan : Plan) (o : Out (Course ModelEnd)) : Type 0 where
   pub halts : HaltsBy o.state.halt (turns_of o.calls)
   pub turns : o.state.turns ≡ length (turns_of o.calls)
   pub most : o.state.turns ≤ plan.turns
@@ -258,23 +259,23 @@ pub record RunsSo (plan : Plan) (o : Out Course) : Type 0 where
   pub moment : o.state.loop.moment ≡ greatest 0 o.state.asked
 
 -- a course that begins
-pub record Begins (c : Course) : Type 0 where
+pub record Begins (c : Course ModelEnd) : Type 0 where
   pub turns : c.turns ≡ 0
   pub halt : c.halt ≡ None
   pub moment : c.loop.moment ≡ greatest 0 c.asked
 
 abbrev pub TurnsAreCounted : Type 0
-TurnsAreCounted = (plan : Plan) (c : Course) (turns : List Turn) → Begins c → RunsSo plan (run plan c turns)
+TurnsAreCounted = (plan : Plan) (c : Course ModelEnd) (turns : List Turn) → Begins c → RunsSo plan (run model_ends plan c turns)
 
 -- ---- live connections
 
-abbrev pub IsFew : List Session → Type 0
+abbrev pub IsFew : List (Session ModelEnd) → Type 0
 IsFew ss = length ss ≤ most_live
 
 -- at most 256 connections are live
 abbrev pub FewAreLive : Type 0
-FewAreLive = (plan : Plan) (c : Course) (turns : List Turn) → IsFew c.loop.sessions → IsFew (run plan c turns).state.loop.sessions
+FewAreLive = (plan : Plan) (c : Course ModelEnd) (turns : List Turn) → IsFew c.loop.sessions → IsFew (run model_ends plan c turns).state.loop.sessions
 
 -- their sessions are in rising number, so they are ticked, and closed, in rising number
 abbrev pub SessionsRise : Type 0
-SessionsRise = (plan : Plan) (c : Course) (turns : List Turn) → IsServing plan c turns → Rises 0 (numbers (run plan c turns).state.loop.sessions)
+SessionsRise = (plan : Plan) (c : Course ModelEnd) (turns : List Turn) → IsServing plan c turns → Rises 0 (numbers (run model_ends plan c turns).state.loop.sessions)

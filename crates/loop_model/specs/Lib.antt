@@ -1,5 +1,6 @@
 pub mod Journals
 pub mod Outs
+pub mod Ends
 pub mod Sessions
 pub mod Visits
 pub mod Loops
@@ -14,3 +15,12 @@ pub mod Writings
 pub mod Stalls
 pub mod Expiries
 pub mod Grammar
+pub mod Settling
+pub mod Moments
+pub mod Records
+pub mod Walks
+pub mod Takings
+pub mod Lawful
+pub mod Cuts
+pub mod Visitings
+pub mod Shows

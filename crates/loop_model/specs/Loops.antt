@@ -6,13 +6,13 @@ use Rattle.des_block.specs.declared.triple_key.TripleKey.{TripleKey}
 use Rattle.safety_automaton.specs.Keys as keys
 use Rattle.end_model.specs.Ends.{Call as CallsWith, Answer as AnswersWith}
 use Rattle.end_model.specs.Steps.{first_of as first_moment}
-use Rattle.er_end.specs.KeptEnds.{KEnd, kept_opened}
 use Rattle.er_trace.specs.declared.event.Event.{Event}
 use Rattle.er_trace.specs.declared.event.Event.TheVariants as event
 use Rattle.er_users.specs.Users.{Mind}
 use Rattle.link_trait.specs.Wires.{Listens, Dials, Turns, Closes}
 use Rattle.link_trait.specs.declared.wires.Happening.{Happening}
 use Rattle.link_trait.specs.declared.wires.Happening.TheVariants as happening
+use Rattle.loop_model.specs.Ends.{EndOps}
 use Rattle.loop_model.specs.Journals.{Entry, header, text}
 use Rattle.loop_model.specs.Outs.{Out, still, next, changed, makes, acts, exactly, first_of}
 use Rattle.loop_model.specs.Sessions.{Rules, Session, Begins}
@@ -33,8 +33,8 @@ rules_of plan = record { keys = plan.keys; setup = plan.settings.setup }
 
 -- what a loop has: the sessions of the live connections, in rising number; the users that are left, of whom the last comes next; the
 -- greatest moment that the clock gave; the random words that come
-pub record Loop : Type 0 where
-  pub sessions : List Session
+pub record Loop (E : Type 0) : Type 0 where
+  pub sessions : List (Session E)
   pub users : List Mind
   pub moment : ℕ
   pub words : Stream
@@ -43,24 +43,24 @@ pub record Loop : Type 0 where
 abbrev pub most_live : ℕ
 most_live = 256
 
-abbrev pub with_sessions : Loop → List Session → Loop
+abbrev pub with_sessions : {E : Type 0} → Loop E → List (Session E) → Loop E
 with_sessions l ss = record l { sessions = ss }
 
 -- ---- visits
 
 -- the session of this number is visited
-unfoldable pub visit_at : (Session → Met → Out (List Session)) → ℕ → List Session → Met → Out (List Session)
+unfoldable pub visit_at : {E : Type 0} → (Session E → Met → Out (List (Session E))) → ℕ → List (Session E) → Met → Out (List (Session E))
 visit_at f n [] a = still []
 visit_at f n (s ∷ ss) a =
     if s.number == n then changed (λ now. now ++ ss) (f s a)
     else changed (λ now. s ∷ now) (visit_at f n ss a)
 
-abbrev pub numbers : List Session → List ℕ
+abbrev pub numbers : {E : Type 0} → List (Session E) → List ℕ
 numbers [] = []
 numbers (s ∷ ss) = s.number ∷ numbers ss
 
 -- the sessions of these numbers are visited, one after the other
-unfoldable pub swept : (Session → Met → Out (List Session)) → List ℕ → List Session → List Met → Out (List Session)
+unfoldable pub swept : {E : Type 0} → (Session E → Met → Out (List (Session E))) → List ℕ → List (Session E) → List Met → Out (List (Session E))
 swept f [] ss answers = still ss
 swept f (n ∷ ns) ss answers = next (visit_at f n ss (first_of nothing_met answers)) (λ now. swept f ns now (drop 1 answers))
 
@@ -70,20 +70,10 @@ pub record Sweeps : Type 0 where
   pub ticks : List Met
   pub closings : List Met
 
--- the sessions whose deadline has come are ticked, in rising number; then those whose closing moment has come are closed
-unfoldable pub before : Rules → ℕ → List Session → Sweeps → Out (List Session)
-before r m ss a =
-    next (swept (visited r m Tick) (numbers ss) ss a.ticks) (λ now. swept (visited r m Expire) (numbers now) now a.closings)
-
--- the first of the deadlines and closing moments
-unfoldable pub until : List Session → Option ℕ
-until [] = None
-until (s ∷ ss) = first_moment (wakes s) (until ss)
-
 -- ---- openings
 
 -- a connection that gets no session: its event, and it is closed
-abbrev pub turned_away : Loop → ℕ → Event → Out Loop
+abbrev pub turned_away : {E : Type 0} → Loop E → ℕ → Event → Out (Loop E)
 turned_away l conn why = record {
   state = l;
   entries = record { moment = l.moment; conn = conn; event = why; outcomes = [] } ∷ [];
@@ -98,62 +88,17 @@ abbrev pub other_users : List Mind → List Mind
 other_users users = take (length users - 1) users
 
 -- a session that begins, with this user
-abbrev pub begun : ℕ → KEnd → Mind → Session
+abbrev pub begun : {E : Type 0} → ℕ → E → Mind → Session E
 begun conn end mind = record { number = conn; end = end; mind = Some mind; output = []; broken = false; closing = None }
 
 -- the user and the random word that come next are no longer left
-abbrev pub one_less : Loop → Loop
+abbrev pub one_less : {E : Type 0} → Loop E → Loop E
 one_less l = record l { users = other_users l.users; words = (next_u64 l.words).1 }
-
--- the end that answers, with the next random word
-abbrev pub answering : Plan → Loop → KEnd
-answering plan l = kept_opened (AnswersWith plan.settings plan.rbc (next_u64 l.words).0 l.moment)
-
-abbrev pub answered_by : Option Mind → Plan → Loop → ℕ → Out Loop
-answered_by None plan l conn = turned_away l conn (event.Unserved plan.handed)
-answered_by (Some mind) plan l conn = record {
-  state = with_sessions (one_less l) (l.sessions ++ begun conn (answering plan l) mind ∷ []);
-  entries = record { moment = l.moment; conn = conn; event = event.Answer plan.rbc (next_u64 l.words).0; outcomes = [] } ∷ [];
-  calls = [];
-}
-
--- a connection was accepted
-unfoldable pub accepted : Plan → Loop → ℕ → Out Loop
-accepted plan l conn =
-    if nat_lt (length l.sessions) most_live then answered_by (next_user l.users) plan l conn
-    else turned_away l conn (event.Full most_live)
 
 -- the engine that dials: its number and the KMAC of the pair
 pub record Caller : Type 0 where
   pub engine : ℕ
   pub kmac : TripleKey
-
--- the end that calls, with the next random word
-abbrev pub calling : Plan → Caller → Loop → KEnd
-calling plan caller l = kept_opened (CallsWith plan.settings caller.engine plan.rbc caller.kmac (next_u64 l.words).0 l.moment)
-
-abbrev pub called_by : Option Mind → Plan → Caller → Loop → ℕ → Met → Out Loop
-called_by None plan caller l conn a = turned_away l conn (event.Unserved 0)
-called_by (Some mind) plan caller l conn a =
-    changed (with_sessions (one_less l))
-    (served (rules_of plan) l.moment (begun conn (calling plan caller l) mind) (Begins caller.engine plan.rbc (next_u64 l.words).0) a)
-
--- the one connection was dialled
-unfoldable pub called : Plan → Caller → Loop → ℕ → Met → Out Loop
-called plan caller l conn a = called_by (next_user l.users) plan caller l conn a
-
--- ---- what happened
-
-abbrev pub visited_at : Plan → Loop → Visit → ℕ → Met → Out Loop
-visited_at plan l visit conn a = changed (with_sessions l) (visit_at (visited (rules_of plan) l.moment visit) conn l.sessions a)
-
-unfoldable pub happened : Plan → Loop → Happening → Met → Out Loop
-happened plan l (happening.Accepted conn) a = accepted plan l conn.0
-happened plan l (happening.Readable conn) a = visited_at plan l Read conn.0 a
-happened plan l (happening.Writable conn) a = visited_at plan l Write conn.0 a
-happened plan l happening.Quiet a = still l
-happened plan l happening.Ended a = still l
-happened plan l happening.Failed a = still l
 
 -- ---- turns
 
@@ -164,21 +109,21 @@ pub data Halt : Type 0 where
   OnFailed : Halt
 
 -- how far a loop has come: how many turns it did, whether it halted, and what the clock answered
-pub record Course : Type 0 where
-  pub loop : Loop
+pub record Course (E : Type 0) : Type 0 where
+  pub loop : Loop E
   pub turns : ℕ
   pub halt : Option Halt
   pub asked : List ℕ
 
 -- the clock is asked: the greatest of its answers counts
-abbrev pub asks : ℕ → Course → Course
+abbrev pub asks : {E : Type 0} → ℕ → Course E → Course E
 asks at c = record c { loop = record c.loop { moment = max c.loop.moment at }; asked = c.asked ++ at ∷ [] }
 
 -- a dial halts where its one connection was closed
-abbrev pub halt_by : Plan → List Session → Option Halt
+abbrev pub halt_by : {E : Type 0} → Plan → List (Session E) → Option Halt
 halt_by plan ss = if plan.dials && (length ss == 0) then Some OnClosed else None
 
-abbrev pub halt_behind : Plan → Happening → List Session → Option Halt
+abbrev pub halt_behind : {E : Type 0} → Plan → Happening → List (Session E) → Option Halt
 halt_behind plan (happening.Accepted conn) ss = halt_by plan ss
 halt_behind plan (happening.Readable conn) ss = halt_by plan ss
 halt_behind plan (happening.Writable conn) ss = halt_by plan ss
@@ -195,36 +140,6 @@ pub record Turn : Type 0 where
   pub second : ℕ
   pub met : Met
 
--- what comes before a turn
-unfoldable pub readied : Plan → Course → Turn → Out Course
-readied plan c a =
-    let d = asks a.first c in
-    changed (λ ss. record d { loop = with_sessions d.loop ss; halt = halt_by plan ss })
-    (before (rules_of plan) d.loop.moment d.loop.sessions a.sweeps)
-
--- the turn itself
-abbrev pub turn : Course → Turn → Out Course
-turn c a = makes (Turns (until c.loop.sessions) a.happening) (record (asks a.second c) { turns = c.turns + 1 })
-
--- what follows it
-abbrev pub follows : Plan → Course → Turn → Out Course
-follows plan c a =
-    changed (λ l. record c { loop = l; halt = halt_behind plan a.happening l.sessions }) (happened plan c.loop a.happening a.met)
-
--- where the loop hasn't halted
-abbrev pub turned_unless : Option Halt → Plan → Course → Turn → Out Course
-turned_unless (Some halt) plan c a = still c
-turned_unless None plan c a = next (turn c a) (λ d. follows plan d a)
-
-abbrev pub went_unless : Option Halt → Plan → Course → Turn → Out Course
-went_unless (Some halt) plan c a = still c
-went_unless None plan c a = next (readied plan c a) (λ d. turned_unless d.halt plan d a)
-
--- one turn, with what comes before and behind it. (Cut right behind each turn, a section of the record is what followed the turn before,
--- what comes before this turn, and this turn: the same calls and events, grouped otherwise)
-unfoldable pub went : Plan → Course → Turn → Out Course
-went plan c a = went_unless c.halt plan c a
-
 -- nothing comes
 abbrev pub nothing_comes : Turn
 nothing_comes = record {
@@ -235,24 +150,15 @@ nothing_comes = record {
   met = nothing_met;
 }
 
--- all turns of the plan
-unfoldable pub run : Plan → Course → List Turn → Out Course
-run plan c turns = acts (went plan) c (exactly plan.turns nothing_comes turns)
-
 -- ---- the two calls
 
 -- a loop that has these users and random words begins
-abbrev pub beginning : List Mind → Stream → Course
+abbrev pub beginning : {E : Type 0} → List Mind → Stream → Course E
 beginning users words =
     record { loop = record { sessions = []; users = users; moment = 0; words = words }; turns = 0; halt = None; asked = [] }
 
-abbrev pub halts : Halt → Course → Course
+abbrev pub halts : {E : Type 0} → Halt → Course E → Course E
 halts why c = record c { halt = Some why }
-
--- a loop that serves listens first, at this address
-unfoldable pub serves : Plan → Course → List ℕ → Bool → List Turn → Out Course
-serves plan c address true turns = next (makes (Listens address true) c) (λ d. run plan d turns)
-serves plan c address false turns = makes (Listens address false) (halts OnFailed c)
 
 -- what a dial meets: the number of the connection that it opens, where it does; the clock's answer before the opening; what the
 -- opening meets; the turns
@@ -262,21 +168,6 @@ pub record Dialled : Type 0 where
   pub met : Met
   pub turns : List Turn
 
--- the opening
-abbrev pub opens : Plan → Caller → Course → ℕ → Met → Out Course
-opens plan caller c conn a =
-    changed (λ l. record c { loop = l; halt = halt_by plan l.sessions }) (called plan caller c.loop conn a)
-
-abbrev pub dials_to : Option ℕ → Plan → Caller → Course → List ℕ → Dialled → Out Course
-dials_to None plan caller c address a = makes (Dials address None) (halts OnFailed c)
-dials_to (Some conn) plan caller c address a =
-    next (makes (Dials address (Some conn)) (asks a.first c))
-    (λ d. next (opens plan caller d conn a.met) (λ e. run plan e a.turns))
-
--- a loop that dials does so first, then it opens its one connection
-unfoldable pub dials : Plan → Caller → Course → List ℕ → Dialled → Out Course
-dials plan caller c address a = dials_to a.conn plan caller c address a
-
 -- ---- what is printed: the header, once it listens or has dialled, and the journal
 
 abbrev pub if_header : Bool → Settings → List ℕ
@@ -285,3 +176,115 @@ if_header false settings = []
 
 unfoldable pub printed : Bool → Plan → List Entry → List ℕ
 printed began plan entries = if_header began plan.settings ++ text entries
+
+-- ---- what the loop does
+
+module _ {E : Type 0} (o : EndOps E) where
+  -- the sessions whose deadline has come are ticked, in rising number; then those whose closing moment has come are closed
+  unfoldable pub before : Rules → ℕ → List (Session E) → Sweeps → Out (List (Session E))
+  before r m ss a =
+      next (swept (visited o r m Tick) (numbers ss) ss a.ticks) (λ now. swept (visited o r m Expire) (numbers now) now a.closings)
+
+  -- the first of the deadlines and closing moments
+  unfoldable pub until : List (Session E) → Option ℕ
+  until [] = None
+  until (s ∷ ss) = first_moment (wakes o s) (until ss)
+
+  -- the end that answers, with the next random word
+  abbrev pub answering : Plan → Loop E → E
+  answering plan l = o.opens (AnswersWith plan.settings plan.rbc (next_u64 l.words).0 l.moment)
+
+  abbrev pub answered_by : Option Mind → Plan → Loop E → ℕ → Out (Loop E)
+  answered_by None plan l conn = turned_away l conn (event.Unserved plan.handed)
+  answered_by (Some mind) plan l conn = record {
+    state = with_sessions (one_less l) (l.sessions ++ begun conn (answering plan l) mind ∷ []);
+    entries = record { moment = l.moment; conn = conn; event = event.Answer plan.rbc (next_u64 l.words).0; outcomes = [] } ∷ [];
+    calls = [];
+  }
+
+  -- a connection was accepted
+  unfoldable pub accepted : Plan → Loop E → ℕ → Out (Loop E)
+  accepted plan l conn =
+      if nat_lt (length l.sessions) most_live then answered_by (next_user l.users) plan l conn
+      else turned_away l conn (event.Full most_live)
+
+  -- the end that calls, with the next random word
+  abbrev pub calling : Plan → Caller → Loop E → E
+  calling plan caller l = o.opens (CallsWith plan.settings caller.engine plan.rbc caller.kmac (next_u64 l.words).0 l.moment)
+
+  abbrev pub called_by : Option Mind → Plan → Caller → Loop E → ℕ → Met → Out (Loop E)
+  called_by None plan caller l conn a = turned_away l conn (event.Unserved 0)
+  called_by (Some mind) plan caller l conn a =
+      changed (with_sessions (one_less l))
+      (served o (rules_of plan) l.moment (begun conn (calling plan caller l) mind) (Begins caller.engine plan.rbc (next_u64 l.words).0) a)
+
+  -- the one connection was dialled
+  unfoldable pub called : Plan → Caller → Loop E → ℕ → Met → Out (Loop E)
+  called plan caller l conn a = called_by (next_user l.users) plan caller l conn a
+
+  -- ---- what happened
+
+  abbrev pub visited_at : Plan → Loop E → Visit → ℕ → Met → Out (Loop E)
+  visited_at plan l visit conn a = changed (with_sessions l) (visit_at (visited o (rules_of plan) l.moment visit) conn l.sessions a)
+
+  unfoldable pub happened : Plan → Loop E → Happening → Met → Out (Loop E)
+  happened plan l (happening.Accepted conn) a = accepted plan l conn.0
+  happened plan l (happening.Readable conn) a = visited_at plan l Read conn.0 a
+  happened plan l (happening.Writable conn) a = visited_at plan l Write conn.0 a
+  happened plan l happening.Quiet a = still l
+  happened plan l happening.Ended a = still l
+  happened plan l happening.Failed a = still l
+
+  -- what comes before a turn
+  unfoldable pub readied : Plan → Course E → Turn → Out (Course E)
+  readied plan c a =
+      let d = asks a.first c in
+      changed (λ ss. record d { loop = with_sessions d.loop ss; halt = halt_by plan ss })
+      (before (rules_of plan) d.loop.moment d.loop.sessions a.sweeps)
+
+  -- the turn itself
+  abbrev pub turn : Course E → Turn → Out (Course E)
+  turn c a = makes (Turns (until c.loop.sessions) a.happening) (record (asks a.second c) { turns = c.turns + 1 })
+
+  -- what follows it
+  abbrev pub follows : Plan → Course E → Turn → Out (Course E)
+  follows plan c a =
+      changed (λ l. record c { loop = l; halt = halt_behind plan a.happening l.sessions }) (happened plan c.loop a.happening a.met)
+
+  -- where the loop hasn't halted
+  abbrev pub turned_unless : Option Halt → Plan → Course E → Turn → Out (Course E)
+  turned_unless (Some halt) plan c a = still c
+  turned_unless None plan c a = next (turn c a) (λ d. follows plan d a)
+
+  abbrev pub went_unless : Option Halt → Plan → Course E → Turn → Out (Course E)
+  went_unless (Some halt) plan c a = still c
+  went_unless None plan c a = next (readied plan c a) (λ d. turned_unless d.halt plan d a)
+
+  -- one turn, with what comes before and behind it. (Cut right behind each turn, a section of the record is what followed the turn before,
+  -- what comes before this turn, and this turn: the same calls and events, grouped otherwise)
+  unfoldable pub went : Plan → Course E → Turn → Out (Course E)
+  went plan c a = went_unless c.halt plan c a
+
+  -- all turns of the plan
+  unfoldable pub run : Plan → Course E → List Turn → Out (Course E)
+  run plan c turns = acts (went plan) c (exactly plan.turns nothing_comes turns)
+
+  -- a loop that serves listens first, at this address
+  unfoldable pub serves : Plan → Course E → List ℕ → Bool → List Turn → Out (Course E)
+  serves plan c address true turns = next (makes (Listens address true) c) (λ d. run plan d turns)
+  serves plan c address false turns = makes (Listens address false) (halts OnFailed c)
+
+  -- the opening
+  abbrev pub opens : Plan → Caller → Course E → ℕ → Met → Out (Course E)
+  opens plan caller c conn a =
+      changed (λ l. record c { loop = l; halt = halt_by plan l.sessions }) (called plan caller c.loop conn a)
+
+  abbrev pub dials_to : Option ℕ → Plan → Caller → Course E → List ℕ → Dialled → Out (Course E)
+  dials_to None plan caller c address a = makes (Dials address None) (halts OnFailed c)
+  dials_to (Some conn) plan caller c address a =
+      next (makes (Dials address (Some conn)) (asks a.first c))
+      (λ d. next (opens plan caller d conn a.met) (λ e. run plan e a.turns))
+
+  -- a loop that dials does so first, then it opens its one connection
+  unfoldable pub dials : Plan → Caller → Course E → List ℕ → Dialled → Out (Course E)
+  dials plan caller c address a = dials_to a.conn plan caller c address a

@@ -1,4 +1,5 @@
 -- What comes of a connection that is accepted or dialled: one event opens it, or says why it isn't opened, and then it is closed.
+use Rattle.loop_model.specs.Ends.{ModelEnd, model_ends}
 use Rattle.std.specs.Prelude.{ℕ, ◌≡◌, nat_lt, if◌then◌else◌, List, [], ◌∷◌, ◌++◌, length, Option, Some, None}
 use Rattle.rand_core.specs.Stream.{next_u64}
 use Rattle.er_trace.specs.declared.event.Event.{Event}
@@ -32,7 +33,7 @@ answer_of None plan word = Unserved plan.handed
 answer_of (Some mind) plan word = Answer plan.rbc word
 
 -- `full` where 256 connections are live; else that, with the user and the random word that come next
-abbrev pub opening_of : Plan → Loop → Event
+abbrev pub opening_of : Plan → Loop ModelEnd → Event
 opening_of plan l = if nat_lt (length l.sessions) most_live then answer_of (next_user l.users) plan (next_u64 l.words).0 else Full most_live
 
 -- what is due behind a happening
@@ -51,12 +52,12 @@ openings_unless None happening event = openings_due happening event
 -- of a turn: each connection that is accepted has one such event, and no other connection has any. The one that isn't opened is closed,
 -- and else no call follows the turn
 pub record OpeningsAreTold : Type 0 where
-  pub events : (plan : Plan) (c : Course) (a : Turn) → c.halt ≡ None
-      → openings (went plan c a).entries ≡ openings_unless (readied plan c a).state.halt a.happening (opening_of plan (readied plan c a).state.loop)
-  pub closed : (plan : Plan) (c : Course) (a : Turn) (conn : Conn) → c.halt ≡ None → (readied plan c a).state.halt ≡ None
+  pub events : (plan : Plan) (c : Course ModelEnd) (a : Turn) → c.halt ≡ None
+      → openings (went model_ends plan c a).entries ≡ openings_unless (readied model_ends plan c a).state.halt a.happening (opening_of plan (readied model_ends plan c a).state.loop)
+  pub closed : (plan : Plan) (c : Course ModelEnd) (a : Turn) (conn : Conn) → c.halt ≡ None → (readied model_ends plan c a).state.halt ≡ None
       → a.happening ≡ happening.Accepted conn
-      → (went plan c a).calls
-      ≡ (readied plan c a).calls ++ Turns (until (readied plan c a).state.loop.sessions) a.happening ∷ closed_by (role_of (opening_of plan (readied plan c a).state.loop)) conn.0
+      → (went model_ends plan c a).calls
+      ≡ (readied model_ends plan c a).calls ++ Turns (until model_ends (readied model_ends plan c a).state.loop.sessions) a.happening ∷ closed_by (role_of (opening_of plan (readied model_ends plan c a).state.loop)) conn.0
 
 -- ---- the one that was dialled
 
@@ -66,7 +67,7 @@ call_of None plan caller word = Unserved 0
 call_of (Some mind) plan caller word = Call caller.engine plan.rbc word
 
 -- with the user and the random word that come next
-abbrev pub call_by : Plan → Caller → Loop → Event
+abbrev pub call_by : Plan → Caller → Loop ModelEnd → Event
 call_by plan caller l = call_of (next_user l.users) plan caller (next_u64 l.words).0
 
 -- the first event, with its connection
@@ -81,8 +82,8 @@ pub record BeginsWith (calls first : List wires.Call) : Type 0 where
 
 -- of a dial that opened its connection: its first event is that one; where it isn't opened, it is closed at once
 pub record DialIsOpened : Type 0 where
-  pub event : (plan : Plan) (caller : Caller) (c : Course) (address : List ℕ) (a : Dialled) (conn : ℕ) → a.conn ≡ Some conn
-      → first_event (dials plan caller c address a).entries ≡ Some (conn, call_by plan caller c.loop)
-  pub closed : (plan : Plan) (caller : Caller) (c : Course) (address : List ℕ) (a : Dialled) (conn : ℕ) → a.conn ≡ Some conn
-      → BeginsWith (dials plan caller c address a).calls
+  pub event : (plan : Plan) (caller : Caller) (c : Course ModelEnd) (address : List ℕ) (a : Dialled) (conn : ℕ) → a.conn ≡ Some conn
+      → first_event (dials model_ends plan caller c address a).entries ≡ Some (conn, call_by plan caller c.loop)
+  pub closed : (plan : Plan) (caller : Caller) (c : Course ModelEnd) (address : List ℕ) (a : Dialled) (conn : ℕ) → a.conn ≡ Some conn
+      → BeginsWith (dials model_ends plan caller c address a).calls
       (Dials address (Some conn) ∷ closed_by (role_of (call_by plan caller c.loop)) conn)

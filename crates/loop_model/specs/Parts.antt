@@ -7,7 +7,7 @@ use Rattle.loop_model.specs.Journals.{Entry}
 use Rattle.loop_model.specs.Sessions.{Session}
 
 -- the session of a number
-unfoldable pub session_of : ℕ → List Session → Option Session
+unfoldable pub session_of : {E : Type 0} → ℕ → List (Session E) → Option (Session E)
 session_of conn [] = None
 session_of conn (s ∷ ss) = if s.number == conn then Some s else session_of conn ss
 

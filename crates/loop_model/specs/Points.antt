@@ -1,4 +1,5 @@
 -- More of what holds of the loop, whatever the outside answers: of what is read, of the events of a session, of ticks and of closings.
+use Rattle.loop_model.specs.Ends.{ModelEnd, model_ends}
 use Rattle.std.specs.Prelude.{ℕ, ◌≡◌, ◌==◌, Bool, true, false, ◌||◌, if◌then◌else◌, List, [], ◌∷◌, ◌++◌, Option, Some, None}
 use Rattle.er_trace.specs.declared.event.Event.{Event}
 use Rattle.er_trace.specs.declared.event.Event.TheVariants.{Call, Answer, Octets, Send, Take, Release, Tick, Ended, Fault, Stalled, Full, Unserved}
@@ -54,11 +55,11 @@ has_stalled [] = false
 has_stalled (x ∷ xs) = is_stalled x.event || has_stalled xs
 
 -- the joined octets of a connection's events are a beginning of those taken from it, and all of them where it never stalled
-pub record IsHeard (conn : ℕ) (o : Out Course) : Type 0 where
+pub record IsHeard (conn : ℕ) (o : Out (Course ModelEnd)) : Type 0 where
   pub beginning : IsBeginning (heard_of (of conn o.entries)) (taken_of conn o.calls)
   pub all : has_stalled (of conn o.entries) ≡ false → heard_of (of conn o.entries) ≡ taken_of conn o.calls
 
-abbrev pub AreHeard : Out Course → Type 0
+abbrev pub AreHeard : Out (Course ModelEnd) → Type 0
 AreHeard o = (conn : ℕ) → IsHeard conn o
 
 abbrev pub OctetsAreHeard : Type 0
@@ -132,7 +133,7 @@ IsSpoken (Some mind) xs = (last : Mind) × Leads (speech_of mind) xs (speech_of 
 
 -- the sends and the release of each connection are the replies of its user, in order, each behind the event that it answers
 pub record UsersReply : Type 0 where
-  pub serving : (plan : Plan) (c : Course) (turns : List Turn) → IsServing plan c turns
-      → (conn : ℕ) → IsSpoken (user_of conn (run plan c turns).entries c.loop.users) (of conn (run plan c turns).entries)
-  pub dialling : (plan : Plan) (caller : Caller) (c : Course) (address : List ℕ) (a : Dialled) → IsDialling plan caller c address a
-      → (conn : ℕ) → IsSpoken (user_of conn (dials plan caller c address a).entries c.loop.users) (of conn (dials plan caller c address a).entries)
+  pub serving : (plan : Plan) (c : Course ModelEnd) (turns : List Turn) → IsServing plan c turns
+      → (conn : ℕ) → IsSpoken (user_of conn (run model_ends plan c turns).entries c.loop.users) (of conn (run model_ends plan c turns).entries)
+  pub dialling : (plan : Plan) (caller : Caller) (c : Course ModelEnd) (address : List ℕ) (a : Dialled) → IsDialling plan caller c address a
+      → (conn : ℕ) → IsSpoken (user_of conn (dials model_ends plan caller c address a).entries c.loop.users) (of conn (dials model_ends plan caller c address a).entries)

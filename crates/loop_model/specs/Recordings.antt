@@ -1,4 +1,5 @@
 -- The recording of a loop replays to itself: a replay refuses no event of the journal, and prints what the loop printed.
+use Rattle.loop_model.specs.Ends.{ModelEnd}
 use Rattle.std.specs.Prelude.{◌≡◌, List, ◌++◌, map}
 use Rattle.safety_automaton.specs.Keys.{key_at}
 use Rattle.er_trace.specs.declared.entry.Entry.{Entry as Event_line}
@@ -18,7 +19,7 @@ pub record ReplaysTo (plan : Plan) (lines : List Event_line) (xs : List Entry) :
   pub taken : AreTaken plan.settings (key_at plan.keys) lines
   pub printed : trace.printed plan.settings (key_at plan.keys) lines ≡ header plan.settings ++ text xs
 
-abbrev pub IsReplayed : Plan → Out Course → Type 0
+abbrev pub IsReplayed : Plan → Out (Course ModelEnd) → Type 0
 IsReplayed plan o = (lines : List Event_line) → AreEvents lines o.entries → ReplaysTo plan lines o.entries
 
 abbrev pub RecordingsReplay : Type 0

@@ -1,16 +1,17 @@
 -- The session of one connection: its end, its user, and the octets that wait to be written (this profile). Each event is given to the
--- end, its octets join those that wait, the user hears of it, and what the user says are events in their turn.
+-- end, its octets join those that wait, the user hears of it, and what the user says are events in their turn. All of it is said of any
+-- kind of end.
 use Rattle.std.specs.Prelude.{ℕ, ◌+◌, ◌==◌, nat_lt, Bool, true, false, ◌||◌, if◌then◌else◌, List, [], ◌∷◌, ◌++◌, length, take, drop, Option, Some, None, is_some}
 use Rattle.er_base.specs.declared.release.Release.{Release}
 use Rattle.safety_automaton.specs.Keys.{key_at}
 use Rattle.safety_automaton.specs.Keys as keys
 use Rattle.end_model.specs.Outcomes.{Outcome, ConnectedTo, Accepted, Taken, NothingToTake, Refused, WasReleased, Octets}
 use Rattle.end_model.specs.Ends as end
-use Rattle.er_end.specs.KeptEnds.{KEnd, happens, tells, used_of, waiting_in}
 use Rattle.er_trace.specs.declared.event.Event.{Event}
 use Rattle.er_trace.specs.declared.event.Event.TheVariants as event
 use Rattle.er_users.specs.Saying.{is_text}
 use Rattle.er_users.specs.Users.{Mind, mind_of, Callers, Heard, Connected, Message, Said, said, quiet}
+use Rattle.loop_model.specs.Ends.{EndOps}
 use Rattle.loop_model.specs.Journals.{Entry}
 use Rattle.loop_model.specs.Outs.{runs, exactly}
 
@@ -19,10 +20,10 @@ pub record Rules : Type 0 where
   pub keys : List keys.Entry
   pub setup : ℕ
 
-pub record Session : Type 0 where
+pub record Session (E : Type 0) : Type 0 where
   -- the number of its connection
   pub number : ℕ
-  pub end : KEnd
+  pub end : E
   -- its user, until that heard of the release
   pub mind : Option Mind
   -- the octets that wait to be written
@@ -35,9 +36,6 @@ pub record Session : Type 0 where
 -- the most octets that may wait
 abbrev pub most_output : ℕ
 most_output = 262144
-
-abbrev pub is_released : Session → Bool
-is_released s = is_some s.end.core.released
 
 -- ---- one event
 
@@ -66,18 +64,6 @@ event_of r Ends = end.Ended
 event_of r Faults = end.Fault
 event_of r Stalls = end.Stalled
 
--- as the journal has it: of octets those that the end uses
-abbrev pub written : KEnd → Given → Event
-written k (Begins engine rbc rb) = event.Call engine rbc rb
-written k (Hears octets) = event.Octets (take (used_of k octets) octets)
-written k (Sends text) = event.Send text
-written k Takes = event.Take
-written k (Leaves sub) = event.Release sub
-written k Ticks = event.Tick
-written k Ends = event.Ended
-written k Faults = event.Fault
-written k Stalls = event.Stalled
-
 -- a connection is closed behind these
 abbrev pub breaks : Given → Bool
 breaks (Begins engine rbc rb) = false
@@ -90,17 +76,6 @@ breaks Ends = true
 breaks Faults = true
 breaks Stalls = true
 
--- the end behind an event, and its outcomes
-unfoldable pub end_after : Rules → ℕ → KEnd → Given → KEnd
-end_after r m k g = happens m (event_of r g) k
-
-unfoldable pub outcomes_of : Rules → ℕ → KEnd → Given → List Outcome
-outcomes_of r m k g = tells m (event_of r g) k
-
--- an event, as the journal has it
-abbrev pub entry_of : Rules → ℕ → Session → Given → Entry
-entry_of r m s g = record { moment = m; conn = s.number; event = written s.end g; outcomes = outcomes_of r m s.end g }
-
 -- the octets for the line among outcomes
 abbrev pub octets_in : List Outcome → List ℕ
 octets_in [] = []
@@ -111,24 +86,6 @@ octets_in (NothingToTake ∷ outcomes) = octets_in outcomes
 octets_in (Refused refusal ∷ outcomes) = octets_in outcomes
 octets_in (WasReleased release ∷ outcomes) = octets_in outcomes
 octets_in (Octets octets ∷ outcomes) = octets ++ octets_in outcomes
-
--- the session stalls: the event follows directly
-abbrev pub stalled : Rules → ℕ → Session → Session × List Entry
-stalled r m s = (record s { end = end_after r m s.end Stalls; broken = true }, entry_of r m s Stalls ∷ [])
-
--- octets join those that wait, or the session stalls where all together would be too many
-unfoldable pub joined : Rules → ℕ → Session → List ℕ → Session × List Entry
-joined r m s octets =
-    if nat_lt most_output (length s.output + length octets) then stalled r m s
-    else (record s { output = s.output ++ octets }, [])
-
--- an event is given to the end, and the octets that the end gives join those that wait
-unfoldable pub fed : Rules → ℕ → Session → Given → Session × List Entry
-fed r m s g =
-    let b = joined r m (record s { end = end_after r m s.end g; broken = s.broken || breaks g }) (octets_in (outcomes_of r m s.end g)) in
-    (b.0, entry_of r m s g ∷ b.1)
-
--- ---- the user
 
 -- what the user hears of outcomes: that the connection was made; a message that was taken. (No message has another length.)
 abbrev pub heard_in : List Outcome → Option Heard
@@ -163,31 +120,11 @@ hears (Some mind) (Some heard) free = let a = said mind.kind mind heard free in 
 abbrev pub silence : Said
 silence = quiet (mind_of Callers [])
 
--- ---- events with what follows them
-
--- an event, what the user hears of it, and the replies
-unfoldable pub dealt : Rules → ℕ → Session → Given → Said → Session × List Entry
-dealt r m s g free =
-    let a = fed r m s g in
-    let b = hears s.mind (heard_in (outcomes_of r m s.end g)) free in
-    let c = runs (fed r m) (record a.0 { mind = b.0 }) b.1 in
-    (c.0, a.1 ++ c.1)
-
--- the messages that wait are taken
-abbrev pub waiting : Session → ℕ
-waiting s = length (waiting_in s.end)
-
-unfoldable pub takes_all : Rules → ℕ → Session → List Said → Session × List Entry
-takes_all r m s frees = runs (λ t free. dealt r m t Takes free) s (exactly (waiting s) silence frees)
-
 -- a user whose session was released hears of it, and is let go; the session is closed after the set-up time at the latest
-abbrev pub parts : Option Release → Option Mind → ℕ → Session → Session
+abbrev pub parts : {E : Type 0} → Option Release → Option Mind → ℕ → Session E → Session E
 parts None mind at s = s
 parts (Some release) None at s = s
 parts (Some release) (Some mind) at s = record s { mind = None; closing = Some at }
-
-abbrev pub parted : Rules → ℕ → Session → Session
-parted r m s = parts s.end.core.released s.mind (m + r.setup) s
 
 -- what a user's object says while an event is handled: to the event, then to each message that it takes
 pub record Says : Type 0 where
@@ -197,25 +134,92 @@ pub record Says : Type 0 where
 abbrev pub nothing_said : Says
 nothing_said = record { first = silence; rest = [] }
 
--- an event with all that follows it
-unfoldable pub handled : Rules → ℕ → Session → Given → Says → Session × List Entry
-handled r m s g says =
-    let a = dealt r m s g says.first in
-    let b = takes_all r m a.0 says.rest in
-    (parted r m b.0, a.1 ++ b.1)
+-- ---- sessions over ends of a kind
 
--- ---- octets of a read
+module _ {E : Type 0} (o : EndOps E) where
+  abbrev pub is_released : Session E → Bool
+  is_released s = is_some (o.released s.end)
 
--- the next part of them, as far as the end uses it at once; nothing where none is left, or the session broke off
-unfoldable pub poured : Rules → ℕ → Session × List ℕ → Says → (Session × List ℕ) × List Entry
-poured r m x says =
-    if (length x.1 == 0) || x.0.broken then (x, [])
-    else
-    let a = handled r m x.0 (Hears x.1) says in
-    ((a.0, drop (used_of x.0.end x.1) x.1), a.1)
+  -- as the journal has it: of octets those that the end uses
+  abbrev pub written : E → Given → Event
+  written k (Begins engine rbc rb) = event.Call engine rbc rb
+  written k (Hears octets) = event.Octets (take (o.used k octets) octets)
+  written k (Sends text) = event.Send text
+  written k Takes = event.Take
+  written k (Leaves sub) = event.Release sub
+  written k Ticks = event.Tick
+  written k Ends = event.Ended
+  written k Faults = event.Fault
+  written k Stalls = event.Stalled
 
--- part by part
-unfoldable pub pours : Rules → ℕ → Session → List ℕ → List Says → Session × List Entry
-pours r m s octets says =
-    let a = runs (poured r m) (s, octets) (exactly (length octets) nothing_said says) in
-    (a.0.0, a.1)
+  -- the end behind an event, and its outcomes
+  unfoldable pub end_after : Rules → ℕ → E → Given → E
+  end_after r m k g = o.happens m (event_of r g) k
+
+  unfoldable pub outcomes_of : Rules → ℕ → E → Given → List Outcome
+  outcomes_of r m k g = o.tells m (event_of r g) k
+
+  -- an event, as the journal has it
+  abbrev pub entry_of : Rules → ℕ → Session E → Given → Entry
+  entry_of r m s g = record { moment = m; conn = s.number; event = written s.end g; outcomes = outcomes_of r m s.end g }
+
+  -- the session stalls: the event follows directly
+  abbrev pub stalled : Rules → ℕ → Session E → Session E × List Entry
+  stalled r m s = (record s { end = end_after r m s.end Stalls; broken = true }, entry_of r m s Stalls ∷ [])
+
+  -- octets join those that wait, or the session stalls where all together would be too many
+  unfoldable pub joined : Rules → ℕ → Session E → List ℕ → Session E × List Entry
+  joined r m s octets =
+      if nat_lt most_output (length s.output + length octets) then stalled r m s
+      else (record s { output = s.output ++ octets }, [])
+
+  -- an event is given to the end, and the octets that the end gives join those that wait
+  unfoldable pub fed : Rules → ℕ → Session E → Given → Session E × List Entry
+  fed r m s g =
+      let b = joined r m (record s { end = end_after r m s.end g; broken = s.broken || breaks g }) (octets_in (outcomes_of r m s.end g)) in
+      (b.0, entry_of r m s g ∷ b.1)
+
+  -- ---- the user
+
+  -- ---- events with what follows them
+
+  -- an event, what the user hears of it, and the replies
+  unfoldable pub dealt : Rules → ℕ → Session E → Given → Said → Session E × List Entry
+  dealt r m s g free =
+      let a = fed r m s g in
+      let b = hears s.mind (heard_in (outcomes_of r m s.end g)) free in
+      let c = runs (fed r m) (record a.0 { mind = b.0 }) b.1 in
+      (c.0, a.1 ++ c.1)
+
+  -- the messages that wait are taken
+  abbrev pub waiting : Session E → ℕ
+  waiting s = o.waiting s.end
+
+  unfoldable pub takes_all : Rules → ℕ → Session E → List Said → Session E × List Entry
+  takes_all r m s frees = runs (λ t free. dealt r m t Takes free) s (exactly (waiting s) silence frees)
+
+  abbrev pub parted : Rules → ℕ → Session E → Session E
+  parted r m s = parts (o.released s.end) s.mind (m + r.setup) s
+
+  -- an event with all that follows it
+  unfoldable pub handled : Rules → ℕ → Session E → Given → Says → Session E × List Entry
+  handled r m s g says =
+      let a = dealt r m s g says.first in
+      let b = takes_all r m a.0 says.rest in
+      (parted r m b.0, a.1 ++ b.1)
+
+  -- ---- octets of a read
+
+  -- the next part of them, as far as the end uses it at once; nothing where none is left, or the session broke off
+  unfoldable pub poured : Rules → ℕ → Session E × List ℕ → Says → (Session E × List ℕ) × List Entry
+  poured r m x says =
+      if (length x.1 == 0) || x.0.broken then (x, [])
+      else
+      let a = handled r m x.0 (Hears x.1) says in
+      ((a.0, drop (o.used x.0.end x.1) x.1), a.1)
+
+  -- part by part
+  unfoldable pub pours : Rules → ℕ → Session E → List ℕ → List Says → Session E × List Entry
+  pours r m s octets says =
+      let a = runs (poured r m) (s, octets) (exactly (length octets) nothing_said says) in
+      (a.0.0, a.1)

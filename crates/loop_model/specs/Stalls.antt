@@ -1,5 +1,6 @@
 -- An event `stalled` comes exactly where the octets that wait and the new ones together are too many, directly behind the event that gave
 -- the new ones.
+use Rattle.loop_model.specs.Ends.{ModelEnd, model_ends}
 use Rattle.std.specs.Prelude.{ℕ, ◌≡◌, ◌+◌, ◌≤◌, nat_lt, Bool, false, if◌then◌else◌, List, [], ◌∷◌, length}
 use Rattle.loop_model.specs.Journals.{Entry}
 use Rattle.loop_model.specs.Sessions.{Rules, Session, Begins, most_output, octets_in}
@@ -30,19 +31,19 @@ StallSo waiting [] = Unit {0}
 StallSo waiting (x ∷ xs) = (begins_stalled xs ≡ are_too_many waiting (count_of x)) × StallSo (waiting_then waiting (count_of x)) xs
 
 -- and the first event of a visit is none
-pub record IsStalledSo (s : Session) (xs : List Entry) : Type 0 where
+pub record IsStalledSo (s : Session ModelEnd) (xs : List Entry) : Type 0 where
   pub first : begins_stalled xs ≡ false
   pub rest : StallSo (length s.output) xs
 
-abbrev pub IsBounded : Session → Type 0
+abbrev pub IsBounded : Session ModelEnd → Type 0
 IsBounded s = length s.output ≤ most_output
 
-abbrev pub AreBounded : List Session → Type 0
+abbrev pub AreBounded : List (Session ModelEnd) → Type 0
 AreBounded [] = Unit {0}
 AreBounded (s ∷ ss) = IsBounded s × AreBounded ss
 
 -- of each visit of a session, and of the opening of a dial; and no more than 262,144 octets wait at a live connection
 pub record StallsAreTold : Type 0 where
-  pub at_visit : (r : Rules) (m : ℕ) (visit : Visit) (s : Session) (a : Met) → IsBounded s → IsStalledSo s (visited r m visit s a).entries
-  pub at_opening : (r : Rules) (m : ℕ) (s : Session) (engine rbc rb : ℕ) (a : Met) → IsBounded s → IsStalledSo s (served r m s (Begins engine rbc rb) a).entries
-  pub bounded : (plan : Plan) (c : Course) (turns : List Turn) → AreBounded c.loop.sessions → AreBounded (run plan c turns).state.loop.sessions
+  pub at_visit : (r : Rules) (m : ℕ) (visit : Visit) (s : Session ModelEnd) (a : Met) → IsBounded s → IsStalledSo s (visited model_ends r m visit s a).entries
+  pub at_opening : (r : Rules) (m : ℕ) (s : Session ModelEnd) (engine rbc rb : ℕ) (a : Met) → IsBounded s → IsStalledSo s (served model_ends r m s (Begins engine rbc rb) a).entries
+  pub bounded : (plan : Plan) (c : Course ModelEnd) (turns : List Turn) → AreBounded c.loop.sessions → AreBounded (run model_ends plan c turns).state.loop.sessions

@@ -1,7 +1,7 @@
 -- What holds of the events of each turn: ticks, ends of lines, random words, and what is closed.
+use Rattle.loop_model.specs.Ends.{ModelEnd, model_ends}
 use Rattle.std.specs.Prelude.{ℕ, ◌≡◌, ◌≤◌, ◌==◌, max, Bool, true, false, ◌&&◌, ◌||◌, if◌then◌else◌, List, [], ◌∷◌, ◌++◌, length, Some, None}
 use Rattle.rand_core.specs.Stream.{Stream, next_u64}
-use Rattle.er_end.specs.KeptEnds.{deadline_of}
 use Rattle.er_trace.specs.declared.event.Event.{Event}
 use Rattle.er_trace.specs.declared.event.Event.TheVariants.{Call, Answer, Octets, Send, Take, Release, Tick, Ended, Fault, Stalled, Full, Unserved}
 use Rattle.link_trait.specs.Wires as wires
@@ -36,15 +36,15 @@ ticked [] = []
 ticked (x ∷ xs) = if is_tick x.event then x.conn ∷ ticked xs else ticked xs
 
 -- the live connections whose deadline has come
-abbrev pub due_at : ℕ → List Session → List ℕ
+abbrev pub due_at : ℕ → List (Session ModelEnd) → List ℕ
 due_at m [] = []
-due_at m (s ∷ ss) = if is_due m (deadline_of s.end) then s.number ∷ due_at m ss else due_at m ss
+due_at m (s ∷ ss) = if is_due m (model_ends.deadline s.end) then s.number ∷ due_at m ss else due_at m ss
 
 -- in each turn those are ticked, each once, in rising number, whose deadline is at or below the moment before the turn
 abbrev pub TicksAreDue : Type 0
 TicksAreDue =
-    (plan : Plan) (c : Course) (a : Turn) → c.halt ≡ None → Rises 0 (numbers c.loop.sessions)
-    → ticked (went plan c a).entries ≡ due_at (max c.loop.moment a.first) c.loop.sessions
+    (plan : Plan) (c : Course ModelEnd) (a : Turn) → c.halt ≡ None → Rises 0 (numbers c.loop.sessions)
+    → ticked (went model_ends plan c a).entries ≡ due_at (max c.loop.moment a.first) c.loop.sessions
 
 -- ---- ends of lines
 
@@ -85,9 +85,9 @@ ends_of (call ∷ calls) = ended_by call ++ ends_of calls
 
 -- `ended` comes exactly where a read answered that the line ended
 pub record EndsAreTold : Type 0 where
-  pub serving : (plan : Plan) (c : Course) (turns : List Turn) → ended (run plan c turns).entries ≡ ends_of (run plan c turns).calls
-  pub dialling : (plan : Plan) (caller : Caller) (c : Course) (address : List ℕ) (a : Dialled)
-      → ended (dials plan caller c address a).entries ≡ ends_of (dials plan caller c address a).calls
+  pub serving : (plan : Plan) (c : Course ModelEnd) (turns : List Turn) → ended (run model_ends plan c turns).entries ≡ ends_of (run model_ends plan c turns).calls
+  pub dialling : (plan : Plan) (caller : Caller) (c : Course ModelEnd) (address : List ℕ) (a : Dialled)
+      → ended (dials model_ends plan caller c address a).entries ≡ ends_of (dials model_ends plan caller c address a).calls
 
 -- ---- random words
 
@@ -117,23 +117,23 @@ AreNext (word ∷ words) stream = (word ≡ (next_u64 stream).0) × AreNext word
 
 -- each end that is opened has the next random word
 pub record WordsAreNext : Type 0 where
-  pub serving : (plan : Plan) (c : Course) (turns : List Turn) → AreNext (words_of (run plan c turns).entries) c.loop.words
-  pub dialling : (plan : Plan) (caller : Caller) (c : Course) (address : List ℕ) (a : Dialled)
-      → AreNext (words_of (dials plan caller c address a).entries) c.loop.words
+  pub serving : (plan : Plan) (c : Course ModelEnd) (turns : List Turn) → AreNext (words_of (run model_ends plan c turns).entries) c.loop.words
+  pub dialling : (plan : Plan) (caller : Caller) (c : Course ModelEnd) (address : List ℕ) (a : Dialled)
+      → AreNext (words_of (dials model_ends plan caller c address a).entries) c.loop.words
 
 -- ---- closing
 
 -- a session that neither broke off nor is released with nothing that waits to be written
-abbrev pub IsKept : Session → Type 0
-IsKept s = (s.broken || (is_released s && (length s.output == 0))) ≡ false
+abbrev pub IsKept : Session ModelEnd → Type 0
+IsKept s = (s.broken || (is_released model_ends s && (length s.output == 0))) ≡ false
 
-abbrev pub AreKept : List Session → Type 0
+abbrev pub AreKept : List (Session ModelEnd) → Type 0
 AreKept [] = Unit {0}
 AreKept (s ∷ ss) = IsKept s × AreKept ss
 
 -- one that broke off is closed at once, and a released one as soon as nothing waits: none such is left behind a turn
 abbrev pub OthersAreClosed : Type 0
-OthersAreClosed = (plan : Plan) (c : Course) (turns : List Turn) → AreKept c.loop.sessions → AreKept (run plan c turns).state.loop.sessions
+OthersAreClosed = (plan : Plan) (c : Course ModelEnd) (turns : List Turn) → AreKept c.loop.sessions → AreKept (run model_ends plan c turns).state.loop.sessions
 
 -- ---- progress
 
@@ -175,6 +175,6 @@ pub record IsProgress (conn : ℕ) (calls : List wires.Call) : Type 0 where
 -- a turn in which a live connection is readable that isn't released takes an octet from it where one waits, or the read fails
 abbrev pub ReadableProgress : Type 0
 ReadableProgress =
-    (plan : Plan) (c : Course) (a : Turn) (conn : Conn) (s : Session) → c.halt ≡ None → (readied plan c a).state.halt ≡ None
-    → a.happening ≡ happening.Readable conn → session_of conn.0 (readied plan c a).state.loop.sessions ≡ Some s → is_released s ≡ false
-    → AreRead (went plan c a).calls → IsProgress conn.0 (went plan c a).calls
+    (plan : Plan) (c : Course ModelEnd) (a : Turn) (conn : Conn) (s : Session ModelEnd) → c.halt ≡ None → (readied model_ends plan c a).state.halt ≡ None
+    → a.happening ≡ happening.Readable conn → session_of conn.0 (readied model_ends plan c a).state.loop.sessions ≡ Some s → is_released model_ends s ≡ false
+    → AreRead (went model_ends plan c a).calls → IsProgress conn.0 (went model_ends plan c a).calls

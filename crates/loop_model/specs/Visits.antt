@@ -1,10 +1,10 @@
 -- What the loop does at one session (this profile): a tick, a read, a write, and what follows them, writing and closing.
 use Rattle.std.specs.Prelude.{ℕ, ◌==◌, nat_le, Bool, true, false, ◌&&◌, ◌||◌, if◌then◌else◌, List, [], ◌∷◌, length, drop, Option, Some, None}
 use Rattle.end_model.specs.Steps.{first_of as first_moment}
-use Rattle.er_end.specs.KeptEnds.{deadline_of}
 use Rattle.link_trait.specs.Wires.{Reading, Gave, NotNow, End, Failed, Reads, Writes, Closes}
 use Rattle.link_trait.specs.declared.wires.WriteAnswer.{WriteAnswer}
 use Rattle.link_trait.specs.declared.wires.WriteAnswer.TheVariants as write
+use Rattle.loop_model.specs.Ends.{EndOps}
 use Rattle.loop_model.specs.Journals.{Entry}
 use Rattle.loop_model.specs.Outs.{Out, still, next, prints, makes, acts, exactly, first_of}
 use Rattle.loop_model.specs.Sessions.{Rules, Session, is_released, Given, Ticks, Ends, Faults, Says, nothing_said, handled, pours}
@@ -21,24 +21,24 @@ pub data Flow : Type 0 where
   PutOff : Flow
   Failing : Flow
 
-abbrev pub after_write : WriteAnswer → Session → Session × Flow
+abbrev pub after_write : {E : Type 0} → WriteAnswer → Session E → Session E × Flow
 after_write (write.Some n) s = (record s { output = drop n s.output }, Going)
 after_write write.NotNow s = (s, PutOff)
 after_write write.Failed s = (s, Failing)
 
 -- one write of all that waits, where something does and none before was put off or failed
-abbrev pub writes_if : Flow → Session → WriteAnswer → Out (Session × Flow)
+abbrev pub writes_if : {E : Type 0} → Flow → Session E → WriteAnswer → Out (Session E × Flow)
 writes_if Going s answer =
     if length s.output == 0 then still (s, Going)
     else makes (Writes s.number s.output answer) (after_write answer s)
 writes_if PutOff s answer = still (s, PutOff)
 writes_if Failing s answer = still (s, Failing)
 
-unfoldable pub writes_once : Session × Flow → WriteAnswer → Out (Session × Flow)
+unfoldable pub writes_once : {E : Type 0} → Session E × Flow → WriteAnswer → Out (Session E × Flow)
 writes_once x answer = writes_if x.1 x.0 answer
 
 -- until nothing waits, or there is no room, or a write failed. A write takes an octet at least
-unfoldable pub writes : Session → List WriteAnswer → Out (Session × Flow)
+unfoldable pub writes : {E : Type 0} → Session E → List WriteAnswer → Out (Session E × Flow)
 writes s answers = acts writes_once (s, Going) (exactly (length s.output) write.NotNow answers)
 
 -- what came of writing: the answers of the writes, and what the user said to a fault
@@ -49,39 +49,13 @@ pub record Wrote : Type 0 where
 abbrev pub nothing_wrote : Wrote
 nothing_wrote = record { answers = []; says = nothing_said }
 
--- a failed write: the event fault, but for a session that is released
-abbrev pub fault_unless : Bool → Rules → ℕ → Session → Says → Session × List Entry
-fault_unless true r m s says = (record s { broken = true }, [])
-fault_unless false r m s says = handled r m s Faults says
-
-abbrev pub flowed : Rules → ℕ → Session × Flow → Says → Out Session
-flowed r m (s, Going) says = still s
-flowed r m (s, PutOff) says = still s
-flowed r m (s, Failing) says = prints (fault_unless (is_released s) r m s says)
-
--- the output is written; nothing more is written to a session that broke off
-abbrev pub written_unless : Bool → Rules → ℕ → Session → Wrote → Out Session
-written_unless true r m s a = still s
-written_unless false r m s a = next (writes s a.answers) (λ x. flowed r m x a.says)
-
-unfoldable pub written : Rules → ℕ → Session → Wrote → Out Session
-written r m s a = written_unless s.broken r m s a
-
 -- ---- closing
 
-abbrev pub closed : Session → Out (List Session)
+abbrev pub closed : {E : Type 0} → Session E → Out (List (Session E))
 closed s = makes (Closes s.number) []
 
-abbrev pub stays : Session → Out (List Session)
+abbrev pub stays : {E : Type 0} → Session E → Out (List (Session E))
 stays s = still (s ∷ [])
-
--- as soon as it broke off, or once it is released and nothing waits
-unfoldable pub settled : Session → Out (List Session)
-settled s = if s.broken || (is_released s && (length s.output == 0)) then closed s else stays s
-
--- what follows the events of a happening
-unfoldable pub rests : Rules → ℕ → Session → Wrote → Out (List Session)
-rests r m s a = next (written r m s a) settled
 
 -- ---- visits
 
@@ -108,36 +82,65 @@ abbrev pub is_due : ℕ → Option ℕ → Bool
 is_due m None = false
 is_due m (Some at) = nat_le at m
 
--- what comes of a read
-abbrev pub came : Reading → Rules → ℕ → Session → List Says → Session × List Entry
-came (Gave octets) r m s says = pours r m s octets says
-came NotNow r m s says = (s, [])
-came End r m s says = handled r m s Ends (first_of nothing_said says)
-came Failed r m s says = handled r m s Faults (first_of nothing_said says)
+-- ---- what is done at a session
 
--- one read
-unfoldable pub read_once : Rules → ℕ → Session → Met → Out Session
-read_once r m s a =
-    next (makes (Reads s.number most_read a.waits a.reading) s) (λ t. prints (came a.reading r m t a.says))
+module _ {E : Type 0} (o : EndOps E) where
+  -- a failed write: the event fault, but for a session that is released
+  abbrev pub fault_unless : Bool → Rules → ℕ → Session E → Says → Session E × List Entry
+  fault_unless true r m s says = (record s { broken = true }, [])
+  fault_unless false r m s says = handled o r m s Faults says
 
--- a read that gave nothing yet is no event, and nothing follows it
-abbrev pub rests_behind : Reading → Rules → ℕ → Session → Wrote → Out (List Session)
-rests_behind (Gave octets) r m s a = rests r m s a
-rests_behind NotNow r m s a = stays s
-rests_behind End r m s a = rests r m s a
-rests_behind Failed r m s a = rests r m s a
+  abbrev pub flowed : Rules → ℕ → Session E × Flow → Says → Out (Session E)
+  flowed r m (s, Going) says = still s
+  flowed r m (s, PutOff) says = still s
+  flowed r m (s, Failing) says = prints (fault_unless (is_released o s) r m s says)
 
--- an event, and what follows the events of a happening
-unfoldable pub served : Rules → ℕ → Session → Given → Met → Out (List Session)
-served r m s g a = next (prints (handled r m s g (first_of nothing_said a.says))) (λ t. rests r m t a.wrote)
+  -- the output is written; nothing more is written to a session that broke off
+  abbrev pub written_unless : Bool → Rules → ℕ → Session E → Wrote → Out (Session E)
+  written_unless true r m s a = still s
+  written_unless false r m s a = next (writes s a.answers) (λ x. flowed r m x a.says)
 
--- a tick comes where the deadline of the end has come; a read comes where the session isn't released
-unfoldable pub visited : Rules → ℕ → Visit → Session → Met → Out (List Session)
-visited r m Tick s a = if is_due m (deadline_of s.end) then served r m s Ticks a else stays s
-visited r m Read s a = if is_released s then stays s else next (read_once r m s a) (λ t. rests_behind a.reading r m t a.wrote)
-visited r m Write s a = rests r m s a.wrote
-visited r m Expire s a = if is_due m s.closing then closed s else stays s
+  unfoldable pub written : Rules → ℕ → Session E → Wrote → Out (Session E)
+  written r m s a = written_unless s.broken r m s a
 
--- when a session is to be visited next: the deadline of its end, and once it is released its closing moment
-abbrev pub wakes : Session → Option ℕ
-wakes s = first_moment (deadline_of s.end) s.closing
+  -- as soon as it broke off, or once it is released and nothing waits
+  unfoldable pub settled : Session E → Out (List (Session E))
+  settled s = if s.broken || (is_released o s && (length s.output == 0)) then closed s else stays s
+
+  -- what follows the events of a happening
+  unfoldable pub rests : Rules → ℕ → Session E → Wrote → Out (List (Session E))
+  rests r m s a = next (written r m s a) settled
+
+  -- what comes of a read
+  abbrev pub came : Reading → Rules → ℕ → Session E → List Says → Session E × List Entry
+  came (Gave octets) r m s says = pours o r m s octets says
+  came NotNow r m s says = (s, [])
+  came End r m s says = handled o r m s Ends (first_of nothing_said says)
+  came Failed r m s says = handled o r m s Faults (first_of nothing_said says)
+
+  -- one read
+  unfoldable pub read_once : Rules → ℕ → Session E → Met → Out (Session E)
+  read_once r m s a =
+      next (makes (Reads s.number most_read a.waits a.reading) s) (λ t. prints (came a.reading r m t a.says))
+
+  -- a read that gave nothing yet is no event, and nothing follows it
+  abbrev pub rests_behind : Reading → Rules → ℕ → Session E → Wrote → Out (List (Session E))
+  rests_behind (Gave octets) r m s a = rests r m s a
+  rests_behind NotNow r m s a = stays s
+  rests_behind End r m s a = rests r m s a
+  rests_behind Failed r m s a = rests r m s a
+
+  -- an event, and what follows the events of a happening
+  unfoldable pub served : Rules → ℕ → Session E → Given → Met → Out (List (Session E))
+  served r m s g a = next (prints (handled o r m s g (first_of nothing_said a.says))) (λ t. rests r m t a.wrote)
+
+  -- a tick comes where the deadline of the end has come; a read comes where the session isn't released
+  unfoldable pub visited : Rules → ℕ → Visit → Session E → Met → Out (List (Session E))
+  visited r m Tick s a = if is_due m (o.deadline s.end) then served r m s Ticks a else stays s
+  visited r m Read s a = if is_released o s then stays s else next (read_once r m s a) (λ t. rests_behind a.reading r m t a.wrote)
+  visited r m Write s a = rests r m s a.wrote
+  visited r m Expire s a = if is_due m s.closing then closed s else stays s
+
+  -- when a session is to be visited next: the deadline of its end, and once it is released its closing moment
+  abbrev pub wakes : Session E → Option ℕ
+  wakes s = first_moment (o.deadline s.end) s.closing

@@ -1,7 +1,7 @@
 -- What is written and closed, and when: output is written until nothing waits or there is no room; what waits is what was told and not
 -- given; a released connection is closed at its closing moment; a turn waits until the least of the moments that are left.
+use Rattle.loop_model.specs.Ends.{ModelEnd, model_ends}
 use Rattle.std.specs.Prelude.{ℕ, ◌≡◌, ◌≤◌, ◌⊎◌, Bool, true, false, ◌||◌, if◌then◌else◌, List, [], ◌∷◌, ◌++◌, drop, Option, Some, None}
-use Rattle.er_end.specs.KeptEnds.{deadline_of}
 use Rattle.er_trace.specs.declared.event.Event.{Event}
 use Rattle.er_trace.specs.declared.event.Event.TheVariants.{Call, Answer, Octets, Send, Take, Release, Tick, Ended, Fault, Stalled, Full, Unserved}
 use Rattle.link_trait.specs.Wires as wires
@@ -69,27 +69,27 @@ pub record IsInOrder (conn : ℕ) (xs : List Entry) (calls : List wires.Call) : 
   pub left : left_after [] calls ≡ []
 
 -- then the octets given to it are all the joined octets of its outcomes
-abbrev pub IsAllGiven : Plan → Out Course → Type 0
+abbrev pub IsAllGiven : Plan → Out (Course ModelEnd) → Type 0
 IsAllGiven plan o = (conn : ℕ) → IsInOrder conn (of conn o.entries) (calls_at conn o.calls) → given_of conn o.calls ≡ octets_of (of conn o.entries)
 
 abbrev pub AllAreGiven : Type 0
 AllAreGiven = Holds IsAllGiven
 
 -- and what waits at a live connection is the rest of them, which is what the last write left
-pub record Waits (conn : ℕ) (s : Session) (o : Out Course) : Type 0 where
+pub record Waits (conn : ℕ) (s : Session ModelEnd) (o : Out (Course ModelEnd)) : Type 0 where
   pub rest : given_of conn o.calls ++ s.output ≡ octets_of (of conn o.entries)
   pub left : s.output ≡ left_after [] (calls_at conn o.calls)
 
-abbrev pub AllWait : Plan → Out Course → Type 0
-AllWait plan o = (conn : ℕ) (s : Session) → session_of conn o.state.loop.sessions ≡ Some s → Waits conn s o
+abbrev pub AllWait : Plan → Out (Course ModelEnd) → Type 0
+AllWait plan o = (conn : ℕ) (s : Session ModelEnd) → session_of conn o.state.loop.sessions ≡ Some s → Waits conn s o
 
 abbrev pub RestWaits : Type 0
 RestWaits = Holds AllWait
 
 -- none such had an event behind which it is closed at once, or a read or a write that failed
-abbrev pub IsWhole : Plan → Out Course → Type 0
+abbrev pub IsWhole : Plan → Out (Course ModelEnd) → Type 0
 IsWhole plan o =
-    (conn : ℕ) (s : Session) → session_of conn o.state.loop.sessions ≡ Some s
+    (conn : ℕ) (s : Session ModelEnd) → session_of conn o.state.loop.sessions ≡ Some s
     → (has_broken (of conn o.entries) ≡ false) × (has_failed (calls_at conn o.calls) ≡ false)
 
 abbrev pub LiveAreWhole : Type 0
@@ -129,9 +129,9 @@ last_answer last [] = last
 last_answer last (call ∷ calls) = last_answer (answered call last) calls
 
 -- octets wait at a live connection only where the last write found no room
-abbrev pub IsWritten : Plan → Out Course → Type 0
+abbrev pub IsWritten : Plan → Out (Course ModelEnd) → Type 0
 IsWritten plan o =
-    (conn : ℕ) (s : Session) → session_of conn o.state.loop.sessions ≡ Some s → AllTakeOne (calls_at conn o.calls)
+    (conn : ℕ) (s : Session ModelEnd) → session_of conn o.state.loop.sessions ≡ Some s → AllTakeOne (calls_at conn o.calls)
     → (s.output ≡ []) ⊎ (last_answer None (calls_at conn o.calls) ≡ Some write.NotNow)
 
 abbrev pub OutputIsWritten : Type 0
@@ -165,30 +165,30 @@ EndAtFailure (call ∷ calls) = (is_failed call ≡ true → WriteNone calls) ×
 -- in a visit in which the line ends or the session stalls nothing is written, and behind a read or a write that fails nothing is. (Behind
 -- that visit the session is closed: no live one broke off)
 pub record BrokenAreLeft : Type 0 where
-  pub stopped : (r : Rules) (m : ℕ) (visit : Visit) (s : Session) (a : Met) → IsBounded s
-      → has_stopped (visited r m visit s a).entries ≡ true → WriteNone (visited r m visit s a).calls
-  pub failed : (r : Rules) (m : ℕ) (visit : Visit) (s : Session) (a : Met) → EndAtFailure (visited r m visit s a).calls
+  pub stopped : (r : Rules) (m : ℕ) (visit : Visit) (s : Session ModelEnd) (a : Met) → IsBounded s
+      → has_stopped (visited model_ends r m visit s a).entries ≡ true → WriteNone (visited model_ends r m visit s a).calls
+  pub failed : (r : Rules) (m : ℕ) (visit : Visit) (s : Session ModelEnd) (a : Met) → EndAtFailure (visited model_ends r m visit s a).calls
 
 -- ---- closing moments
 
 -- the sessions whose closing moment has come, and the others
-abbrev pub expired : ℕ → List Session → List wires.Call
+abbrev pub expired : ℕ → List (Session ModelEnd) → List wires.Call
 expired m [] = []
 expired m (s ∷ ss) = if is_due m s.closing then Closes s.number ∷ expired m ss else expired m ss
 
-abbrev pub unexpired : ℕ → List Session → List Session
+abbrev pub unexpired : ℕ → List (Session ModelEnd) → List (Session ModelEnd)
 unexpired m [] = []
 unexpired m (s ∷ ss) = if is_due m s.closing then unexpired m ss else s ∷ unexpired m ss
 
 -- before a turn, behind the ticks, exactly those are closed whose closing moment is at or below the moment
 pub record ExpiredAreClosed : Type 0 where
-  pub state : (r : Rules) (m : ℕ) (ss : List Session) (a : Sweeps) → Rises 0 (numbers ss)
-      → (before r m ss a).state ≡ unexpired m (swept (visited r m Ticks) (numbers ss) ss a.ticks).state
-  pub entries : (r : Rules) (m : ℕ) (ss : List Session) (a : Sweeps) → Rises 0 (numbers ss)
-      → (before r m ss a).entries ≡ (swept (visited r m Ticks) (numbers ss) ss a.ticks).entries
-  pub calls : (r : Rules) (m : ℕ) (ss : List Session) (a : Sweeps) → Rises 0 (numbers ss)
-      → (before r m ss a).calls
-      ≡ (swept (visited r m Ticks) (numbers ss) ss a.ticks).calls ++ expired m (swept (visited r m Ticks) (numbers ss) ss a.ticks).state
+  pub state : (r : Rules) (m : ℕ) (ss : List (Session ModelEnd)) (a : Sweeps) → Rises 0 (numbers ss)
+      → (before model_ends r m ss a).state ≡ unexpired m (swept (visited model_ends r m Ticks) (numbers ss) ss a.ticks).state
+  pub entries : (r : Rules) (m : ℕ) (ss : List (Session ModelEnd)) (a : Sweeps) → Rises 0 (numbers ss)
+      → (before model_ends r m ss a).entries ≡ (swept (visited model_ends r m Ticks) (numbers ss) ss a.ticks).entries
+  pub calls : (r : Rules) (m : ℕ) (ss : List (Session ModelEnd)) (a : Sweeps) → Rises 0 (numbers ss)
+      → (before model_ends r m ss a).calls
+      ≡ (swept (visited model_ends r m Ticks) (numbers ss) ss a.ticks).calls ++ expired m (swept (visited model_ends r m Ticks) (numbers ss) ss a.ticks).state
 
 -- ---- until when a turn waits
 
@@ -197,30 +197,30 @@ IsNotBefore m None = Unit {0}
 IsNotBefore m (Some at) = m ≤ at
 
 -- no deadline and no closing moment lies before this one
-abbrev pub NoneIsBefore : ℕ → List Session → Type 0
+abbrev pub NoneIsBefore : ℕ → List (Session ModelEnd) → Type 0
 NoneIsBefore m [] = Unit {0}
-NoneIsBefore m (s ∷ ss) = IsNotBefore m (deadline_of s.end) × IsNotBefore m s.closing × NoneIsBefore m ss
+NoneIsBefore m (s ∷ ss) = IsNotBefore m (model_ends.deadline s.end) × IsNotBefore m s.closing × NoneIsBefore m ss
 
 -- it is one of them
-abbrev pub IsOneOf : ℕ → List Session → Type 0
+abbrev pub IsOneOf : ℕ → List (Session ModelEnd) → Type 0
 IsOneOf m [] = ⊥
-IsOneOf m (s ∷ ss) = (deadline_of s.end ≡ Some m) ⊎ ((s.closing ≡ Some m) ⊎ IsOneOf m ss)
+IsOneOf m (s ∷ ss) = (model_ends.deadline s.end ≡ Some m) ⊎ ((s.closing ≡ Some m) ⊎ IsOneOf m ss)
 
 -- there is none
-abbrev pub HaveNone : List Session → Type 0
+abbrev pub HaveNone : List (Session ModelEnd) → Type 0
 HaveNone [] = Unit {0}
-HaveNone (s ∷ ss) = (deadline_of s.end ≡ None) × (s.closing ≡ None) × HaveNone ss
+HaveNone (s ∷ ss) = (model_ends.deadline s.end ≡ None) × (s.closing ≡ None) × HaveNone ss
 
-abbrev pub IsLeast : Option ℕ → List Session → Type 0
+abbrev pub IsLeast : Option ℕ → List (Session ModelEnd) → Type 0
 IsLeast None ss = HaveNone ss
 IsLeast (Some m) ss = NoneIsBefore m ss × IsOneOf m ss
 
 -- the turn comes behind what is done before it, and waits until the least of the deadlines and closing moments that are left
-pub record WaitsUntil (plan : Plan) (c : Course) (a : Turn) : Type 0 where
+pub record WaitsUntil (plan : Plan) (c : Course ModelEnd) (a : Turn) : Type 0 where
   pub until : Option ℕ
   pub rest : List wires.Call
-  pub is : (went plan c a).calls ≡ (readied plan c a).calls ++ Turns until a.happening ∷ rest
-  pub least : IsLeast until (readied plan c a).state.loop.sessions
+  pub is : (went model_ends plan c a).calls ≡ (readied model_ends plan c a).calls ++ Turns until a.happening ∷ rest
+  pub least : IsLeast until (readied model_ends plan c a).state.loop.sessions
 
 abbrev pub TurnsWait : Type 0
-TurnsWait = (plan : Plan) (c : Course) (a : Turn) → c.halt ≡ None → (readied plan c a).state.halt ≡ None → WaitsUntil plan c a
+TurnsWait = (plan : Plan) (c : Course ModelEnd) (a : Turn) → c.halt ≡ None → (readied model_ends plan c a).state.halt ≡ None → WaitsUntil plan c a

@@ -3,8 +3,17 @@
 ghost use Rattle.loop_model.specs.Points.{OctetsAreHeard, UsersReply};
 ghost use Rattle.loop_model.specs.Expiries.{ClosingsAreInTime};
 ghost use Rattle.loop_model.specs.Faulted.{FaultsAreTold};
+ghost use Rattle.loop_model.specs.Takings.{AllAreTaken};
+ghost use Rattle.loop_model.specs.Cuts.{EventsAreCut, TurnsCut, RestsAreDropped};
+ghost use Rattle.loop_model.specs.Walks.{SessionsAreLed};
+ghost use Rattle.loop_model.specs.Moments.{EventsAreTimed};
+ghost use Rattle.loop_model.specs.Records.{RecordsBegin, ClosedExactly, HaltsRest};
+ghost use Rattle.loop_model.specs.Lawful.{TurnsAreLawful, JournalsAreLawful};
 ghost use Rattle.loop_model.specs.Openings.{OpeningsAreTold, DialIsOpened};
 ghost use Rattle.loop_model.specs.Recordings.{RecordingsReplay};
+ghost use Rattle.loop_model.specs.Visitings.{TurnsVisit};
+ghost use Rattle.loop_model.specs.Shows.{EndsShow};
+ghost use Rattle.loop_model.specs.Settling.{WritableIsWritten, VisitsWrite, ClosesHaveReasons};
 ghost use Rattle.loop_model.specs.Stalls.{StallsAreTold};
 ghost use Rattle.loop_model.specs.Turnings.{EndsAreTold, OthersAreClosed, ReadableProgress, TicksAreDue, WordsAreNext};
 ghost use Rattle.loop_model.specs.Writings.{AllAreGiven, BrokenAreLeft, ExpiredAreClosed, LiveAreWhole, OutputIsWritten, RestWaits, TurnsWait};
@@ -15,18 +24,13 @@ ghost use Rattle.loop_model.specs.Laws.{ConnectionsAreIsolated, JournalIsPrinted
 pub fn journal()
     ensures isolated { ConnectionsAreIsolated }
     ensures printed { JournalIsPrinted }
-{
-    er_end::laws::standing();
-}
+{}
 
 /// A replay refuses no event of the journal, whatever the numbers of their lines, and what it prints is what the loop printed: the
 /// recording of a loop replays to itself.
 pub fn recordings()
     ensures { RecordingsReplay }
-{
-    er_end::laws::standing();
-    er_end::laws::keeping();
-}
+{}
 
 /// The octets given to a connection are a beginning of those of its outcomes, in order.
 pub fn octets()
@@ -46,17 +50,14 @@ pub fn octets_given()
 /// The joined octets of a connection's events are a beginning of those taken from it, and all of them where it never stalled.
 pub fn octets_taken()
     ensures { OctetsAreHeard }
-{
-    er_end::laws::keeping();
-    er_end::laws::used_octets();
-}
+{}
 
 /// The sends and the release of each connection are, in order, the replies that the relation of its user's kind gives to what the user
 /// hears, each behind the event that it answers, from the mind of the user that the connection took; in the end no reply is due.
 pub fn replies()
     ensures { UsersReply }
 {
-    er_end::laws::keeping();
+    end_model::laws::released_rest();
 }
 
 /// No call is made on a connection that was closed.
@@ -72,10 +73,7 @@ pub fn faults()
 /// A connection has one event `fault`, where a read or a write of it failed and its events before hadn't released it; it has none elsewhere.
 pub fn faults_told()
     ensures { FaultsAreTold }
-{
-    er_end::laws::standing();
-    er_end::laws::keeping();
-}
+{}
 
 /// Before a turn nothing is read. Behind it a connection is read from once, exactly where it is readable, live and not released.
 pub fn reads()
@@ -109,16 +107,12 @@ pub fn endings()
 /// behind the event that gave the new ones; and no more wait at a live connection.
 pub fn stalls()
     ensures { StallsAreTold }
-{
-    er_end::laws::keeping();
-}
+{}
 
 /// In a visit in which a line ends or a session stalls nothing is written to it, and behind a read or a write that fails nothing is.
 pub fn broken()
     ensures { BrokenAreLeft }
-{
-    er_end::laws::keeping();
-}
+{}
 
 /// Each end that is opened has the next random word.
 pub fn words()
@@ -153,7 +147,71 @@ pub fn moments()
 /// A live connection has a closing moment exactly where its events released it: the set-up time behind the event that did.
 pub fn closing_moments()
     ensures { ClosingsAreInTime }
-{
-    er_end::laws::standing();
-    er_end::laws::keeping();
-}
+{}
+
+/// A connection that is ticked, read from or written to is closed only where its line ended or failed, it stalled, or a write of it failed, or
+/// where its end is released and all that waited and all that was told were given.
+pub fn closing_reasons()
+    ensures { ClosesHaveReasons }
+{}
+
+/// Where octets wait at a connection that is writable, it is written to at once; and what is left behind a tick, which comes before a turn, or behind
+/// a writable happening waits for room.
+pub fn visits_write()
+    ensures first { WritableIsWritten }
+    ensures rest { VisitsWrite }
+{}
+
+/// The end of a live connection is the one, of the end model, that its events so far lead to.
+pub fn live_ends()
+    ensures { SessionsAreLed }
+{}
+
+/// In a turn the events before it have the greatest moment that the clock answered up to the one answer before it, those behind it the
+/// greatest up to the one answer behind it; the events of the opening of a dial the greatest up to the one answer before it.
+pub fn clock()
+    ensures { EventsAreTimed }
+{}
+
+/// The record of a loop that serves begins with one listen at the address handed in, that of a loop that dials with one dial of it, and
+/// neither comes again. A loop halts as closed exactly where it dials, none of its turns ended or failed, and no session is live; nothing
+/// comes behind a halt.
+pub fn records()
+    ensures begin { RecordsBegin }
+    ensures closed { ClosedExactly }
+    ensures rest { HaltsRest }
+{}
+
+/// Messages are taken as long as one waits: at the end that a connection's events so far lead to, one at least waits before a take, none
+/// before what comes from the line, the clock or the loop, and none behind the last event.
+pub fn takes()
+    ensures { AllAreTaken }
+{}
+
+/// The journal of a loop is lawful for the record of its calls. Of each turn of a loop that has come so far: its openings, its one read, its ticks,
+/// until when it waits, and the moments of its events. Of the whole: the outcomes of each connection, what was heard of it and when it ended or failed,
+/// the takes, the octets that were given and those that wait, the calls on open connections, and what is live then.
+pub fn lawful()
+    ensures turns { TurnsAreLawful }
+    ensures journals { JournalsAreLawful }
+{}
+
+/// The octets that are read are cut behind each frame that they close, and nowhere else: of the octets of an event none but the last closes
+/// a frame, unless the end is released; and octets that close none, or come to a released end, are the last of their connection in their
+/// turn. No octets come behind a stall.
+pub fn cuts()
+    ensures events { EventsAreCut }
+    ensures turns { TurnsCut }
+    ensures dropped { RestsAreDropped }
+{}
+
+/// What is done at the live connections in a turn: before it each is visited, in rising number, and then those are closed whose closing moment
+/// has come; behind it the one that is readable or writable is, and no other.
+pub fn visits()
+    ensures { TurnsVisit }
+{}
+
+/// What the loop asks of an end is what the end model says: its deadline, its release, how many messages wait, and which octets one event has.
+pub fn ends()
+    ensures { EndsShow }
+{}

@@ -1,4 +1,5 @@
 -- A dial that opened its connection and no other: its recording is its own replay with any keys among which its caller's is found.
+use Rattle.loop_model.specs.Ends.{ModelEnd, model_ends}
 use Rattle.std.proofs.Common.{◌≡◌, ◌∙◌, ℕ, max, inl, inr, false, List, [], ◌∷◌, ◌++◌, map, Option, Some, None, refl, sym, ap, subst, append_assoc, true≢false}
 use Rattle.std.proofs.lemmas.Bool.{cases_Bool}
 use Rattle.safety_automaton.specs.Keys.{key_at}
@@ -62,20 +63,20 @@ opened_rest xs ys none = nil_rest (opened_in xs) (opened_in ys) (sym (opened-app
 -- ---- turns that accept no connection
 
 module _ (told : OpeningsAreTold) (plan : Plan) where
-  accepts_none : (c : Course) (a : Turn) (conn : Conn) → c.halt ≡ None → (readied plan c a).state.halt ≡ None → a.happening ≡ happening.Accepted conn
-      → opened_in (went plan c a).calls ≡ [] → ⊥
+  accepts_none : (c : Course ModelEnd) (a : Turn) (conn : Conn) → c.halt ≡ None → (readied model_ends plan c a).state.halt ≡ None → a.happening ≡ happening.Accepted conn
+      → opened_in (went model_ends plan c a).calls ≡ [] → ⊥
   unfolding opened_in
   accepts_none c a conn on ready accepted none =
-      let d = readied plan c a in
+      let d = readied model_ends plan c a in
       let rest = closed_by (role_of (opening_of plan d.state.loop)) conn.0 in
       let calls = told.closed plan c a conn on ready accepted in
-      let turns : opened_in (Turns (until d.state.loop.sessions) a.happening ∷ rest) ≡ [] =
-      opened_rest d.calls (Turns (until d.state.loop.sessions) a.happening ∷ rest) (ap opened_in (sym calls) ∙ none) in
+      let turns : opened_in (Turns (until model_ends d.state.loop.sessions) a.happening ∷ rest) ≡ [] =
+      opened_rest d.calls (Turns (until model_ends d.state.loop.sessions) a.happening ∷ rest) (ap opened_in (sym calls) ∙ none) in
       let first : conn.0 ∷ opened_in rest ≡ [] = ap (λ (h : Happening). parts.opened_by h ++ opened_in rest) (sym accepted) ∙ turns in
       cc
 
-  due_none : (c : Course) (a : Turn) (what : Happening) (e : Event) → c.halt ≡ None → (readied plan c a).state.halt ≡ None → a.happening ≡ what
-      → opened_in (went plan c a).calls ≡ [] → openings_due what e ≡ []
+  due_none : (c : Course ModelEnd) (a : Turn) (what : Happening) (e : Event) → c.halt ≡ None → (readied model_ends plan c a).state.halt ≡ None → a.happening ≡ what
+      → opened_in (went model_ends plan c a).calls ≡ [] → openings_due what e ≡ []
   due_none c a (happening.Accepted conn) e on ready is none = absurd (accepts_none c a conn on ready is none)
   due_none c a (happening.Readable conn) e on ready is none = refl
   due_none c a (happening.Writable conn) e on ready is none = refl
@@ -83,31 +84,31 @@ module _ (told : OpeningsAreTold) (plan : Plan) where
   due_none c a happening.Ended e on ready is none = refl
   due_none c a happening.Failed e on ready is none = refl
 
-  unless_none : (c : Course) (a : Turn) (halt : Option Halt) (e : Event) → c.halt ≡ None → (readied plan c a).state.halt ≡ halt
-      → opened_in (went plan c a).calls ≡ [] → openings_unless halt a.happening e ≡ []
+  unless_none : (c : Course ModelEnd) (a : Turn) (halt : Option Halt) (e : Event) → c.halt ≡ None → (readied model_ends plan c a).state.halt ≡ halt
+      → opened_in (went model_ends plan c a).calls ≡ [] → openings_unless halt a.happening e ≡ []
   unless_none c a (Some halt) e on is none = refl
   unless_none c a None e on is none = due_none c a a.happening e on is refl none
 
-  halted_none : (c : Course) (a : Turn) (halt : Halt) → c.halt ≡ Some halt → openings (went plan c a).entries ≡ []
+  halted_none : (c : Course ModelEnd) (a : Turn) (halt : Halt) → c.halt ≡ Some halt → openings (went model_ends plan c a).entries ≡ []
   unfolding went openings
-  halted_none c a halt is = ap (λ z. openings (went_unless z plan c a).entries) is
+  halted_none c a halt is = ap (λ z. openings (went_unless model_ends z plan c a).entries) is
 
-  went_none : (c : Course) (a : Turn) (halt : Option Halt) → c.halt ≡ halt → opened_in (went plan c a).calls ≡ [] → openings (went plan c a).entries ≡ []
+  went_none : (c : Course ModelEnd) (a : Turn) (halt : Option Halt) → c.halt ≡ halt → opened_in (went model_ends plan c a).calls ≡ [] → openings (went model_ends plan c a).entries ≡ []
   went_none c a (Some halt) is none = halted_none c a halt is
   went_none c a None is none =
-      let d = readied plan c a in
+      let d = readied model_ends plan c a in
       told.events plan c a is ∙ unless_none c a d.state.halt (opening_of plan d.state.loop) is refl none
 
-  turns_none : (c : Course) (turns : List Turn) → opened_in (acts (went plan) c turns).calls ≡ [] → openings (acts (went plan) c turns).entries ≡ []
+  turns_none : (c : Course ModelEnd) (turns : List Turn) → opened_in (acts (went model_ends plan) c turns).calls ≡ [] → openings (acts (went model_ends plan) c turns).entries ≡ []
   unfolding acts openings
   turns_none c [] none = refl
   turns_none c (a ∷ turns) none =
-      let o = went plan c a in
-      let rest = acts (went plan) o.state turns in
+      let o = went model_ends plan c a in
+      let rest = acts (went model_ends plan) o.state turns in
       none_two o.entries rest.entries (went_none c a c.halt refl (opened_first o.calls rest.calls none))
       (turns_none o.state turns (opened_rest o.calls rest.calls none))
 
-  run_none : (c : Course) (turns : List Turn) → opened_in (run plan c turns).calls ≡ [] → openings (run plan c turns).entries ≡ []
+  run_none : (c : Course ModelEnd) (turns : List Turn) → opened_in (run model_ends plan c turns).calls ≡ [] → openings (run model_ends plan c turns).entries ≡ []
   unfolding run
   run_none c turns none = turns_none c (exactly plan.turns nothing_comes turns) none
 
@@ -149,37 +150,37 @@ module _ (f g : Finds) where
   found_lines [] p = tt
   found_lines (e ∷ lines) p = (p.0, found_lines lines p.1)
 
-  called_found : (user : Option Mind) (plan : Plan) (caller : Caller) (l : Loop) (conn : ℕ) (a : Met)
-      → FindsToo f g l.moment caller.engine plan.rbc → AreFoundToo f g (lines_of (called_by user plan caller l conn a).entries)
+  called_found : (user : Option Mind) (plan : Plan) (caller : Caller) (l : Loop ModelEnd) (conn : ℕ) (a : Met)
+      → FindsToo f g l.moment caller.engine plan.rbc → AreFoundToo f g (lines_of (called_by model_ends user plan caller l conn a).entries)
   called_found None plan caller l conn a key = (tt, tt)
   called_found (Some mind) plan caller l conn a key =
-      let s = begun conn (calling plan caller l) mind in
+      let s = begun conn (calling model_ends plan caller l) mind in
       let given = Begins caller.engine plan.rbc (next_u64 l.words).0 in
-      found_first (entry_of (rules_of plan) l.moment s given) (served (rules_of plan) l.moment s given a).entries (served_first (rules_of plan) l.moment s given a) key
+      found_first (entry_of model_ends (rules_of plan) l.moment s given) (served model_ends (rules_of plan) l.moment s given a).entries (served_first (rules_of plan) l.moment s given a) key
 
-  opens_found : (plan : Plan) (caller : Caller) (c : Course) (conn : ℕ) (a : Met)
-      → FindsToo f g c.loop.moment caller.engine plan.rbc → AreFoundToo f g (lines_of (opens plan caller c conn a).entries)
+  opens_found : (plan : Plan) (caller : Caller) (c : Course ModelEnd) (conn : ℕ) (a : Met)
+      → FindsToo f g c.loop.moment caller.engine plan.rbc → AreFoundToo f g (lines_of (opens model_ends plan caller c conn a).entries)
   unfolding called
   opens_found plan caller c conn a key = called_found (next_user c.loop.users) plan caller c.loop conn a key
 
-  dial_found : (told : OpeningsAreTold) (to : Option ℕ) (plan : Plan) (caller : Caller) (c : Course) (address : List ℕ) (a : Dialled) (conn : ℕ)
-      → opened_in (dials_to to plan caller c address a).calls ≡ conn ∷ []
+  dial_found : (told : OpeningsAreTold) (to : Option ℕ) (plan : Plan) (caller : Caller) (c : Course ModelEnd) (address : List ℕ) (a : Dialled) (conn : ℕ)
+      → opened_in (dials_to model_ends to plan caller c address a).calls ≡ conn ∷ []
       → FindsToo f g (max c.loop.moment a.first) caller.engine plan.rbc
-      → AreFoundToo f g (lines_of (dials_to to plan caller c address a).entries)
+      → AreFoundToo f g (lines_of (dials_to model_ends to plan caller c address a).entries)
   unfolding opened_in
   dial_found told None plan caller c address a conn alone key = tt
   dial_found told (Some n) plan caller c address a conn alone key =
       let d = asks a.first c in
-      let o = opens plan caller d n a.met in
-      let rest = run plan o.state a.turns in
+      let o = opens model_ends plan caller d n a.met in
+      let rest = run model_ends plan o.state a.turns in
       let none : opened_in (o.calls ++ rest.calls) ≡ [] = ap tail alone in
       found_both o.entries rest.entries (opens_found plan caller d n a.met key)
       (found_none rest.entries (run_none told plan o.state a.turns (opened_rest o.calls rest.calls none)))
 
-  dials_found : OpeningsAreTold → (plan : Plan) (caller : Caller) (c : Course) (address : List ℕ) (a : Dialled) (conn : ℕ)
-      → opened_in (dials plan caller c address a).calls ≡ conn ∷ []
+  dials_found : OpeningsAreTold → (plan : Plan) (caller : Caller) (c : Course ModelEnd) (address : List ℕ) (a : Dialled) (conn : ℕ)
+      → opened_in (dials model_ends plan caller c address a).calls ≡ conn ∷ []
       → FindsToo f g (max c.loop.moment a.first) caller.engine plan.rbc
-      → AreFoundToo f g (lines_of (dials plan caller c address a).entries)
+      → AreFoundToo f g (lines_of (dials model_ends plan caller c address a).entries)
   unfolding dials
   dials_found told plan caller c address a conn alone key = dial_found told a.conn plan caller c address a conn alone key
 
@@ -187,7 +188,7 @@ module _ (f g : Finds) where
 
 pub dials_are_replays : PrintedIsRead → EventsSpeakOnce → OpeningsAreTold → OutcomesAreShort → DialsAreReplays
 dials_are_replays reads speak told short plan caller c address a conn finds h isolated replayed alone key =
-    let o = dials plan caller c address a in
+    let o = dials model_ends plan caller c address a in
     let own = key_at plan.keys in
     let r = recording_read reads short plan o h isolated in
     let p = replayed r.lines r.events in

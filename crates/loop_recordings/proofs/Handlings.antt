@@ -1,8 +1,8 @@
 -- What follows an event at a session opens no connection.
+use Rattle.loop_model.specs.Ends.{ModelEnd, model_ends}
 use Rattle.std.proofs.Common.{◌≡◌, ◌∙◌, ℕ, ◌+◌, inl, inr, Bool, true, false, ◌||◌, List, [], ◌∷◌, ◌++◌, length, Option, Some, None, refl, ap}
 use Rattle.std.specs.Prelude.{nat_lt, ◌==◌, ◌&&◌}
 use Rattle.std.proofs.lemmas.Bool.{cases_Bool}
-use Rattle.er_end.specs.KeptEnds.{KEnd}
 use Rattle.er_users.specs.Users.{Mind, Heard, Said, said}
 use Rattle.link_trait.specs.declared.wires.WriteAnswer.{WriteAnswer}
 use Rattle.trace_model.specs.Checks.{names, role_of}
@@ -69,7 +69,7 @@ IsOfEnd Ends = Unit {0}
 IsOfEnd Faults = Unit {0}
 IsOfEnd Stalls = Unit {0}
 
-unnamed : (k : KEnd) (g : Given) → IsOfEnd g → names (role_of (written k g)) ≡ false
+unnamed : (k : ModelEnd) (g : Given) → IsOfEnd g → names (role_of (written model_ends k g)) ≡ false
 unnamed k (Begins engine rbc rb) fits = absurd fits
 unnamed k (Hears octets) fits = refl
 unnamed k (Sends text) fits = refl
@@ -111,86 +111,86 @@ replies_fit (Some mind) (Some heard) free =
     let a = said mind.kind mind heard free in fit_two (sends_of a.texts) (leave_of a.leave) (sends_fit a.texts) (leave_fits a.leave)
 
 module _ (r : Rules) (m : ℕ) where
-  joined_none : (s : Session) (octets : List ℕ) → openings (joined r m s octets).1 ≡ []
+  joined_none : (s : Session ModelEnd) (octets : List ℕ) → openings (joined model_ends r m s octets).1 ≡ []
   unfolding joined openings
   joined_none s octets =
       elim (cases_Bool (nat_lt most_output (length s.output + length octets))) [ inl p ↦ rw p refl | inr p ↦ rw p refl ]
 
-  fed_first : (s : Session) (g : Given) → IsFirst (entry_of r m s g) (fed r m s g).1
+  fed_first : (s : Session ModelEnd) (g : Given) → IsFirst (entry_of model_ends r m s g) (fed model_ends r m s g).1
   unfolding fed
   fed_first s g =
-      let t : Session = record s { end = end_after r m s.end g; broken = s.broken || breaks g } in
-      let octets = octets_in (outcomes_of r m s.end g) in
-      record { rest = (joined r m t octets).1; is = refl; none = joined_none t octets }
+      let t : Session ModelEnd = record s { end = end_after model_ends r m s.end g; broken = s.broken || breaks g } in
+      let octets = octets_in (outcomes_of model_ends r m s.end g) in
+      record { rest = (joined model_ends r m t octets).1; is = refl; none = joined_none t octets }
 
-  dealt_first : (s : Session) (g : Given) (free : Said) → IsFirst (entry_of r m s g) (dealt r m s g free).1
+  dealt_first : (s : Session ModelEnd) (g : Given) (free : Said) → IsFirst (entry_of model_ends r m s g) (dealt model_ends r m s g free).1
   unfolding dealt
   dealt_first s g free =
-      let a = fed r m s g in
-      let heard = heard_in (outcomes_of r m s.end g) in
+      let a = fed model_ends r m s g in
+      let heard = heard_in (outcomes_of model_ends r m s.end g) in
       let b = hears s.mind heard free in
-      first_more (entry_of r m s g) a.1 (runs (fed r m) (record a.0 { mind = b.0 }) b.1).1 (fed_first s g)
-      (runs_none (fed r m) IsOfEnd (λ t h fits. first_none (entry_of r m t h) (fed r m t h).1 (fed_first t h) (unnamed t.end h fits)) (record a.0 { mind = b.0 }) b.1
+      first_more (entry_of model_ends r m s g) a.1 (runs (fed model_ends r m) (record a.0 { mind = b.0 }) b.1).1 (fed_first s g)
+      (runs_none (fed model_ends r m) IsOfEnd (λ t h fits. first_none (entry_of model_ends r m t h) (fed model_ends r m t h).1 (fed_first t h) (unnamed t.end h fits)) (record a.0 { mind = b.0 }) b.1
       (replies_fit s.mind heard free))
 
-  takes_none : (s : Session) (frees : List Said) → openings (takes_all r m s frees).1 ≡ []
+  takes_none : (s : Session ModelEnd) (frees : List Said) → openings (takes_all model_ends r m s frees).1 ≡ []
   unfolding takes_all
   takes_none s frees =
-      runs_none (λ t free. dealt r m t Takes free) Any (λ t free fits. first_none (entry_of r m t Takes) (dealt r m t Takes free).1 (dealt_first t Takes free) refl) s
-      (exactly (waiting s) silence frees) (all_any (exactly (waiting s) silence frees))
+      runs_none (λ t free. dealt model_ends r m t Takes free) Any (λ t free fits. first_none (entry_of model_ends r m t Takes) (dealt model_ends r m t Takes free).1 (dealt_first t Takes free) refl) s
+      (exactly (waiting model_ends s) silence frees) (all_any (exactly (waiting model_ends s) silence frees))
 
-  handled_first : (s : Session) (g : Given) (says : Says) → IsFirst (entry_of r m s g) (handled r m s g says).1
+  handled_first : (s : Session ModelEnd) (g : Given) (says : Says) → IsFirst (entry_of model_ends r m s g) (handled model_ends r m s g says).1
   unfolding handled
   handled_first s g says =
-      let a = dealt r m s g says.first in
-      first_more (entry_of r m s g) a.1 (takes_all r m a.0 says.rest).1 (dealt_first s g says.first) (takes_none a.0 says.rest)
+      let a = dealt model_ends r m s g says.first in
+      first_more (entry_of model_ends r m s g) a.1 (takes_all model_ends r m a.0 says.rest).1 (dealt_first s g says.first) (takes_none a.0 says.rest)
 
   -- ---- writing and closing
 
-  write_none : (flow : Flow) (s : Session) (answer : WriteAnswer) → openings (writes_if flow s answer).entries ≡ []
+  write_none : (flow : Flow) (s : Session ModelEnd) (answer : WriteAnswer) → openings (writes_if flow s answer).entries ≡ []
   unfolding openings
   write_none Going s answer = elim (cases_Bool (length s.output == 0)) [ inl p ↦ rw p refl | inr p ↦ rw p refl ]
   write_none PutOff s answer = refl
   write_none Failing s answer = refl
 
-  once_none : (x : Session × Flow) (answer : WriteAnswer) → openings (writes_once x answer).entries ≡ []
+  once_none : (x : Session ModelEnd × Flow) (answer : WriteAnswer) → openings (writes_once x answer).entries ≡ []
   unfolding writes_once
   once_none x answer = write_none x.1 x.0 answer
 
-  writes_none : (s : Session) (answers : List WriteAnswer) → openings (writes s answers).entries ≡ []
+  writes_none : (s : Session ModelEnd) (answers : List WriteAnswer) → openings (writes s answers).entries ≡ []
   unfolding writes
   writes_none s answers = acts_none writes_once once_none (s, Going) _
 
-  fault_none : (released : Bool) (s : Session) (says : Says) → openings (fault_unless released r m s says).1 ≡ []
+  fault_none : (released : Bool) (s : Session ModelEnd) (says : Says) → openings (fault_unless model_ends released r m s says).1 ≡ []
   unfolding openings
   fault_none true s says = refl
-  fault_none false s says = first_none (entry_of r m s Faults) (handled r m s Faults says).1 (handled_first s Faults says) refl
+  fault_none false s says = first_none (entry_of model_ends r m s Faults) (handled model_ends r m s Faults says).1 (handled_first s Faults says) refl
 
-  flowed_none : (s : Session) (flow : Flow) (says : Says) → openings (flowed r m (s, flow) says).entries ≡ []
+  flowed_none : (s : Session ModelEnd) (flow : Flow) (says : Says) → openings (flowed model_ends r m (s, flow) says).entries ≡ []
   unfolding openings
   flowed_none s Going says = refl
   flowed_none s PutOff says = refl
-  flowed_none s Failing says = fault_none (is_released s) s says
+  flowed_none s Failing says = fault_none (is_released model_ends s) s says
 
-  written_none : (broken : Bool) (s : Session) (a : Wrote) → openings (written_unless broken r m s a).entries ≡ []
+  written_none : (broken : Bool) (s : Session ModelEnd) (a : Wrote) → openings (written_unless model_ends broken r m s a).entries ≡ []
   unfolding openings
   written_none true s a = refl
   written_none false s a =
       let x = (writes s a.answers).state in
-      none_two (writes s a.answers).entries (flowed r m x a.says).entries (writes_none s a.answers) (flowed_none x.0 x.1 a.says)
+      none_two (writes s a.answers).entries (flowed model_ends r m x a.says).entries (writes_none s a.answers) (flowed_none x.0 x.1 a.says)
 
-  settled_none : (s : Session) → openings (settled s).entries ≡ []
+  settled_none : (s : Session ModelEnd) → openings (settled model_ends s).entries ≡ []
   unfolding settled openings
-  settled_none s = elim (cases_Bool (s.broken || (is_released s && (length s.output == 0)))) [ inl p ↦ rw p refl | inr p ↦ rw p refl ]
+  settled_none s = elim (cases_Bool (s.broken || (is_released model_ends s && (length s.output == 0)))) [ inl p ↦ rw p refl | inr p ↦ rw p refl ]
 
-  rests_none : (s : Session) (a : Wrote) → openings (rests r m s a).entries ≡ []
+  rests_none : (s : Session ModelEnd) (a : Wrote) → openings (rests model_ends r m s a).entries ≡ []
   unfolding rests visits.written
   rests_none s a =
-      none_two (visits.written r m s a).entries (settled (visits.written r m s a).state).entries (written_none s.broken s a) (settled_none (visits.written r m s a).state)
+      none_two (visits.written model_ends r m s a).entries (settled model_ends (visits.written model_ends r m s a).state).entries (written_none s.broken s a) (settled_none (visits.written model_ends r m s a).state)
 
-  pub served_first : (s : Session) (g : Given) (a : Met) → IsFirst (entry_of r m s g) (served r m s g a).entries
+  pub served_first : (s : Session ModelEnd) (g : Given) (a : Met) → IsFirst (entry_of model_ends r m s g) (served model_ends r m s g a).entries
   unfolding served
   served_first s g a =
       let says = first_of nothing_said a.says in
-      let h = handled r m s g says in
-      first_more (entry_of r m s g) h.1 (rests r m h.0 a.wrote).entries (handled_first s g says) (rests_none h.0 a.wrote)
+      let h = handled model_ends r m s g says in
+      first_more (entry_of model_ends r m s g) h.1 (rests model_ends r m h.0 a.wrote).entries (handled_first s g says) (rests_none h.0 a.wrote)

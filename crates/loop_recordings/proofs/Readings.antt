@@ -1,4 +1,5 @@
 -- The recording of a journal is read as its events.
+use Rattle.loop_model.specs.Ends.{ModelEnd}
 use Rattle.std.proofs.Common.{◌≡◌, ℕ, ◌+◌, ◌<◌, ◌≤◌, ◌^◌, inl, List, [], ◌∷◌, ◌++◌, map, length, Ok, refl, sym, ◌∙◌, ap, subst, append_assoc, arith}
 use Rattle.er_base.specs.LineTexts.{line_text, lines_text}
 use Rattle.er_settings.specs.declared.settings.Settings.{Settings}
@@ -116,11 +117,11 @@ pub record IsReadAs (settings : Settings) (xs : List Entry) (recording : List �
 usual_allowed : AllAllowed usual_settings
 usual_allowed = record { modulo = inl refl; window = refl; credit = refl; size = refl; t1 = refl; n2 = refl; setup = refl }
 
-text_recorded : (plan : Plan) (o : Out Course) → text_printed plan.settings (lines_printed o.entries) ≡ recording_of plan o
+text_recorded : (plan : Plan) (o : Out (Course ModelEnd)) → text_printed plan.settings (lines_printed o.entries) ≡ recording_of plan o
 unfolding printed header
 text_recorded plan o = ap (λ z. line_text (header_words plan.settings) ++ z) (text_lines o.entries)
 
-pub recording_read : PrintedIsRead → OutcomesAreShort → (plan : Plan) (o : Out Course) → IsRecorded plan o → IsIsolated plan o
+pub recording_read : PrintedIsRead → OutcomesAreShort → (plan : Plan) (o : Out (Course ModelEnd)) → IsRecorded plan o → IsIsolated plan o
     → IsReadAs plan.settings o.entries (recording_of plan o)
 recording_read reads short plan o h isolated =
     let lines = lines_printed o.entries in

@@ -1,4 +1,5 @@
 -- A recording is its own replay.
+use Rattle.loop_model.specs.Ends.{ModelEnd}
 use Rattle.std.proofs.Common.{◌≡◌, ◌∙◌, refl, ◌++◌}
 use Rattle.er_trace.specs.Laws.{PrintedIsRead}
 use Rattle.loop_model.specs.Journals.{text, header}
@@ -8,7 +9,7 @@ use Rattle.end_bounds.specs.Shorts.{OutcomesAreShort}
 use Rattle.loop_recordings.specs.Recordings.{recording_of, RecordingsAreReplays}
 use Rattle.loop_recordings.proofs.Readings.{recording_read}
 
-pub header_and_text : (plan : Plan) (o : Out Course) → header plan.settings ++ text o.entries ≡ recording_of plan o
+pub header_and_text : (plan : Plan) (o : Out (Course ModelEnd)) → header plan.settings ++ text o.entries ≡ recording_of plan o
 unfolding printed
 header_and_text plan o = refl
 

@@ -1,4 +1,5 @@
 -- The recording of a loop is its own replay: it is read as a trace, and what a replay of this trace prints is the recording.
+use Rattle.loop_model.specs.Ends.{ModelEnd, model_ends}
 use Rattle.std.specs.Prelude.{ℕ, ◌≡◌, ◌≤◌, max, true, List, [], ◌∷◌, length, Some, Ok}
 use Rattle.des_block.specs.declared.triple_key.TripleKey.{TripleKey}
 use Rattle.er_settings.specs.Ranges.{usual_settings}
@@ -23,12 +24,12 @@ pub record IsItsOwnReplay (finds : Finds) (recording : List ℕ) : Type 0 where
   pub printed : replay.printed trace.settings finds trace.entries ≡ recording
 
 -- what a loop printed: the header and its journal
-abbrev pub recording_of : Plan → Out Course → List ℕ
+abbrev pub recording_of : Plan → Out (Course ModelEnd) → List ℕ
 recording_of plan o = printed true plan o.entries
 
 -- a loop whose recording can be read: its links have the usual settings, its journal is in the grammar of traces, and all is no longer than
 -- a file of a trace may be
-pub record IsRecorded (plan : Plan) (o : Out Course) : Type 0 where
+pub record IsRecorded (plan : Plan) (o : Out (Course ModelEnd)) : Type 0 where
   pub settings : plan.settings ≡ usual_settings
   pub grammar : AreInGrammar o.entries
   pub fits : length (recording_of plan o) ≤ 16777216
@@ -36,7 +37,7 @@ pub record IsRecorded (plan : Plan) (o : Out Course) : Type 0 where
 -- of each loop, with its own keys
 abbrev pub RecordingsAreReplays : Type 0
 RecordingsAreReplays =
-    (plan : Plan) (o : Out Course) → IsRecorded plan o → IsIsolated plan o → IsReplayed plan o
+    (plan : Plan) (o : Out (Course ModelEnd)) → IsRecorded plan o → IsIsolated plan o → IsReplayed plan o
     → IsItsOwnReplay (key_at plan.keys) (recording_of plan o)
 
 -- what one look-up finds for a pair at a moment, the other finds too
@@ -47,17 +48,17 @@ FindsToo own finds now engine rbc = (kmac : TripleKey) → own now engine rbc �
 -- an end that calls looks up no other key
 abbrev pub DialsAreReplays : Type 0
 DialsAreReplays =
-    (plan : Plan) (caller : Caller) (c : Course) (address : List ℕ) (a : Dialled) (conn : ℕ) (finds : Finds)
-    → IsRecorded plan (dials plan caller c address a) → IsIsolated plan (dials plan caller c address a)
-    → IsReplayed plan (dials plan caller c address a) → opened_in (dials plan caller c address a).calls ≡ conn ∷ []
+    (plan : Plan) (caller : Caller) (c : Course ModelEnd) (address : List ℕ) (a : Dialled) (conn : ℕ) (finds : Finds)
+    → IsRecorded plan (dials model_ends plan caller c address a) → IsIsolated plan (dials model_ends plan caller c address a)
+    → IsReplayed plan (dials model_ends plan caller c address a) → opened_in (dials model_ends plan caller c address a).calls ≡ conn ∷ []
     → FindsToo (key_at plan.keys) finds (max c.loop.moment a.first) caller.engine plan.rbc
-    → IsItsOwnReplay finds (recording_of plan (dials plan caller c address a))
+    → IsItsOwnReplay finds (recording_of plan (dials model_ends plan caller c address a))
 
 -- so of each dial whose own keys have the caller's, with any keys among which that one is found then
 abbrev pub CallersKeySuffices : Type 0
 CallersKeySuffices =
-    (plan : Plan) (caller : Caller) (c : Course) (address : List ℕ) (a : Dialled) (conn : ℕ) (finds : Finds)
-    → IsDialling plan caller c address a → IsRecorded plan (dials plan caller c address a)
-    → opened_in (dials plan caller c address a).calls ≡ conn ∷ []
+    (plan : Plan) (caller : Caller) (c : Course ModelEnd) (address : List ℕ) (a : Dialled) (conn : ℕ) (finds : Finds)
+    → IsDialling plan caller c address a → IsRecorded plan (dials model_ends plan caller c address a)
+    → opened_in (dials model_ends plan caller c address a).calls ≡ conn ∷ []
     → finds (max c.loop.moment a.first) caller.engine plan.rbc ≡ Some caller.kmac
-    → IsItsOwnReplay finds (recording_of plan (dials plan caller c address a))
+    → IsItsOwnReplay finds (recording_of plan (dials model_ends plan caller c address a))

@@ -1,7 +1,12 @@
+pub mod CarriedLoops
+pub mod CarriedSessions
+pub mod CarriedVisits
+pub mod Carrying
 pub mod Deals
 pub mod Givings
 pub mod Grammars
 pub mod Hearings
+pub mod Paired
 pub mod Pourings
 pub mod Takings
 pub mod Written

@@ -1,4 +1,5 @@
 -- How the lines of events that were written are the text of what a part of the loop prints.
+use Rattle.loop_session.specs.Keeping.{kept_ends}
 use Rattle.std.proofs.Common.{if◌then◌else◌, ◌≡◌, ℕ, ◌≤◌, Bool, true, false, not, ◌||◌, List, [], ◌∷◌, ◌++◌, length, Option, Result, Ok, Err, refl, sym, ◌∙◌, ap, subst, append-nil, append_assoc, inl, inr, arith, eqb-true}
 use Rattle.std.proofs.lemmas.Bool.{cases_Bool}
 use Rattle.std.specs.Prelude.{◌==◌}
@@ -10,6 +11,7 @@ use Rattle.trace_model.specs.Printed.{outcomes_text}
 use Rattle.er_end.specs.KeptEnds.{KEnd, happens, tells}
 use Rattle.er_users.specs.Saying.{Spoken}
 use Rattle.er_users.specs.Users.{Mind, Heard}
+use Rattle.link_trait.specs.States.{SinkState}
 use Rattle.link_trait.specs.Outside.{Grew, GrewPart, Rose}
 use Rattle.link_trait.specs.Growth.{grew_nothing, grew_then, part_nothing, part_then, part_more}
 use Rattle.loop_model.specs.Grammar.{IsInGrammar, AreInGrammar}
@@ -27,30 +29,30 @@ nothing_put a f (x ∷ xs) p = absurd (let q : ⊥ = omega (arith, eqb-true (len
 -- ---- a part that broke off at once
 
 -- the sink failed
-pub put_broke : (a b : Option (List ℕ)) (f g : ℕ) (line : List ℕ) → GrewPart a b line → Rose f g → Breaks a b f g line Sink
-put_broke a b f g line p q = record { begun = p; failed = q }
+pub put_broke : (a b : SinkState) (line : List ℕ) → GrewPart a.held b.held line → Rose a.faults b.faults → Breaks a b line Sink
+put_broke a b line p q = record { begun = p; failed = q }
 
 -- memory ran out before anything was written
-pub breaks_wanted : (a : Option (List ℕ)) (f : ℕ) (line : List ℕ) (want : Want) → Breaks a a f f line (NoMemory want)
-breaks_wanted a f line want = record { begun = part_nothing a line; failed = (let p : f ≤ f = omega arith in p) }
+pub breaks_wanted : (a : SinkState) (line : List ℕ) (want : Want) → Breaks a a line (NoMemory want)
+breaks_wanted a line want = record { begun = part_nothing a.held line; failed = (let p : a.faults ≤ a.faults = omega arith in p) }
 
-wanted_as : (a : Option (List ℕ)) (f : ℕ) (line : List ℕ) (fault : LoopFault) (want : Want) → fault ≡ NoMemory want → Breaks a a f f line fault
-wanted_as a f line fault want p = subst (λ z. Breaks a a f f line z) (sym p) (breaks_wanted a f line want)
+wanted_as : (a : SinkState) (line : List ℕ) (fault : LoopFault) (want : Want) → fault ≡ NoMemory want → Breaks a a line fault
+wanted_as a line fault want p = subst (λ z. Breaks a a line z) (sym p) (breaks_wanted a line want)
 
-pub puts_wanted : {T : Type 0} (a : Option (List ℕ)) (f : ℕ) (line : List ℕ) (res : Result T LoopFault) (fault : LoopFault) (want : Want)
-    → res ≡ Err fault → fault ≡ NoMemory want → Puts a a f f line res
-puts_wanted a f line (Ok done) fault want p q = absurd cc
-puts_wanted a f line (Err other) fault want p q = wanted_as a f line other want cc
+pub puts_wanted : {T : Type 0} (a : SinkState) (line : List ℕ) (res : Result T LoopFault) (fault : LoopFault) (want : Want)
+    → res ≡ Err fault → fault ≡ NoMemory want → Puts a a line res
+puts_wanted a line (Ok done) fault want p q = absurd cc
+puts_wanted a line (Err other) fault want p q = wanted_as a line other want cc
 
-pub prints_wanted : {T S : Type 0} (a : Option (List ℕ)) (f : ℕ) (new : S) (o : S × List Entry) (res : Result T LoopFault) (fault : LoopFault) (want : Want)
-    → res ≡ Err fault → fault ≡ NoMemory want → Prints a a f f new o res
-prints_wanted a f new o (Ok done) fault want p q = absurd cc
-prints_wanted a f new o (Err other) fault want p q = wanted_as a f (text o.1) other want cc
+pub prints_wanted : {T S : Type 0} (a : SinkState) (new : S) (o : S × List Entry) (res : Result T LoopFault) (fault : LoopFault) (want : Want)
+    → res ≡ Err fault → fault ≡ NoMemory want → Prints a a new o res
+prints_wanted a new o (Ok done) fault want p q = absurd cc
+prints_wanted a new o (Err other) fault want p q = wanted_as a (text o.1) other want cc
 
-pub wanted : {T S A : Type 0} (a : Option (List ℕ)) (f : ℕ) (new : S) (plain : A) (model : A → S × List Entry) (res : Result T LoopFault) (fault : LoopFault) (want : Want)
-    → res ≡ Err fault → fault ≡ NoMemory want → Chooses a a f f new model res
-wanted a f new plain model (Ok done) fault want p q = absurd cc
-wanted a f new plain model (Err other) fault want p q = record { answers = plain; breaks = wanted_as a f (text (model plain).1) other want cc }
+pub wanted : {T S A : Type 0} (a : SinkState) (new : S) (plain : A) (model : A → S × List Entry) (res : Result T LoopFault) (fault : LoopFault) (want : Want)
+    → res ≡ Err fault → fault ≡ NoMemory want → Chooses a a new model res
+wanted a new plain model (Ok done) fault want p q = absurd cc
+wanted a new plain model (Err other) fault want p q = record { answers = plain; breaks = wanted_as a (text (model plain).1) other want cc }
 
 -- ---- texts
 
@@ -74,12 +76,12 @@ one_text x = sym (append-nil (entry_text x))
 
 -- ---- one part behind another
 
-pub breaks_as : (a b : Option (List ℕ)) (f g : ℕ) (xs ys : List ℕ) (fault : LoopFault) → xs ≡ ys → Breaks a b f g xs fault → Breaks a b f g ys fault
-breaks_as a b f g xs ys fault p q = subst (λ z. Breaks a b f g z fault) p q
+pub breaks_as : (a b : SinkState) (xs ys : List ℕ) (fault : LoopFault) → xs ≡ ys → Breaks a b xs fault → Breaks a b ys fault
+breaks_as a b xs ys fault p q = subst (λ z. Breaks a b z fault) p q
 
 -- a part that broke off, with all that would have come behind it
-pub breaks_more : (a b : Option (List ℕ)) (f g : ℕ) (xs ys : List ℕ) (fault : LoopFault) → Breaks a b f g xs fault → Breaks a b f g (xs ++ ys) fault
-breaks_more a b f g xs ys fault p = record { begun = part_more a b xs ys p.begun; failed = p.failed }
+pub breaks_more : (a b : SinkState) (xs ys : List ℕ) (fault : LoopFault) → Breaks a b xs fault → Breaks a b (xs ++ ys) fault
+breaks_more a b xs ys fault p = record { begun = part_more a.held b.held xs ys p.begun; failed = p.failed }
 
 failed_behind : (f g h : ℕ) (fault : LoopFault) → f ≤ g → FailedFor fault g h → FailedFor fault f h
 failed_behind f g h Wires p q = q
@@ -87,28 +89,28 @@ failed_behind f g h Sink p q = (let r : Rose g h = q in omega (arith, p, r))
 failed_behind f g h (NoMemory want) p q = (let r : g ≤ h = q in omega (arith, p, r))
 
 -- a part behind one that was done broke off
-pub breaks_behind : (a b c : Option (List ℕ)) (f g h : ℕ) (xs ys : List ℕ) (fault : LoopFault) → Grew a b xs → f ≤ g → Breaks b c g h ys fault → Breaks a c f h (xs ++ ys) fault
-breaks_behind a b c f g h xs ys fault p q r = record { begun = part_then a b c xs ys p r.begun; failed = failed_behind f g h fault q r.failed }
+pub breaks_behind : (a b c : SinkState) (xs ys : List ℕ) (fault : LoopFault) → Grew a.held b.held xs → a.faults ≤ b.faults → Breaks b c ys fault → Breaks a c (xs ++ ys) fault
+breaks_behind a b c xs ys fault p q r = record { begun = part_then a.held b.held c.held xs ys p r.begun; failed = failed_behind a.faults b.faults c.faults fault q r.failed }
 
-pub breaks_first : (a b : Option (List ℕ)) (f g : ℕ) (xs ys : List Entry) (fault : LoopFault) → Breaks a b f g (text xs) fault → Breaks a b f g (text (xs ++ ys)) fault
-breaks_first a b f g xs ys fault p = breaks_as a b f g (text xs ++ text ys) (text (xs ++ ys)) fault (sym (text_parts xs ys)) (breaks_more a b f g (text xs) (text ys) fault p)
+pub breaks_first : (a b : SinkState) (xs ys : List Entry) (fault : LoopFault) → Breaks a b (text xs) fault → Breaks a b (text (xs ++ ys)) fault
+breaks_first a b xs ys fault p = breaks_as a b (text xs ++ text ys) (text (xs ++ ys)) fault (sym (text_parts xs ys)) (breaks_more a b (text xs) (text ys) fault p)
 
-pub breaks_then : {S : Type 0} (a b c : Option (List ℕ)) (f g h : ℕ) (mid : S) (x : S × List Entry) (ys : List Entry) (fault : LoopFault)
-    → Printed a b f g mid x → Breaks b c g h (text ys) fault → Breaks a c f h (text (x.1 ++ ys)) fault
-breaks_then a b c f g h mid x ys fault p q =
-    breaks_as a c f h (text x.1 ++ text ys) (text (x.1 ++ ys)) fault (sym (text_parts x.1 ys)) (breaks_behind a b c f g h (text x.1) (text ys) fault p.printed p.later q)
+pub breaks_then : {S : Type 0} (a b c : SinkState) (mid : S) (x : S × List Entry) (ys : List Entry) (fault : LoopFault)
+    → Printed a b mid x → Breaks b c (text ys) fault → Breaks a c (text (x.1 ++ ys)) fault
+breaks_then a b c mid x ys fault p q =
+    breaks_as a c (text x.1 ++ text ys) (text (x.1 ++ ys)) fault (sym (text_parts x.1 ys)) (breaks_behind a b c (text x.1) (text ys) fault p.printed p.later q)
 
-pub printed_then : {S T : Type 0} (a b c : Option (List ℕ)) (f g h : ℕ) (mid : S) (new : T) (x : S × List Entry) (y : T × List Entry)
-    → Printed a b f g mid x → Printed b c g h new y → Printed a c f h new (y.0, x.1 ++ y.1)
-printed_then a b c f g h mid new x y p q = record {
+pub printed_then : {S T : Type 0} (a b c : SinkState) (mid : S) (new : T) (x : S × List Entry) (y : T × List Entry)
+    → Printed a b mid x → Printed b c new y → Printed a c new (y.0, x.1 ++ y.1)
+printed_then a b c mid new x y p q = record {
   state = q.state;
-  printed = subst (λ z. Grew a c z) (sym (text_parts x.1 y.1)) (grew_then a b c (text x.1) (text y.1) p.printed q.printed);
-  later = (let u : f ≤ g = p.later in let v : g ≤ h = q.later in omega arith);
+  printed = subst (λ z. Grew a.held c.held z) (sym (text_parts x.1 y.1)) (grew_then a.held b.held c.held (text x.1) (text y.1) p.printed q.printed);
+  later = (let u : a.faults ≤ b.faults = p.later in let v : b.faults ≤ c.faults = q.later in omega arith);
   in_grammar = grammar_parts x.1 y.1 p.in_grammar q.in_grammar;
 }
 
-pub printed_nothing : {S : Type 0} (a : Option (List ℕ)) (f : ℕ) (s : S) → Printed a a f f s (s, [])
-printed_nothing a f s = record { state = refl; printed = grew_nothing a; later = omega arith; in_grammar = tt }
+pub printed_nothing : {S : Type 0} (a : SinkState) (s : S) → Printed a a s (s, [])
+printed_nothing a s = record { state = refl; printed = grew_nothing a.held; later = omega arith; in_grammar = tt }
 
 -- ---- an event given to an end
 
@@ -118,46 +120,46 @@ if_is_or true false = refl
 if_is_or false true = refl
 if_is_or false false = refl
 
-pub gave_of : (r : Rules) (m : ℕ) (s s0 : Session) (g : Given) (now : Session) (line before : List ℕ) (fits : Bool)
+pub gave_of : (r : Rules) (m : ℕ) (s s0 : Session KEnd) (g : Given) (now : Session KEnd) (line before : List ℕ) (fits : Bool)
     → s ≡ s0
     → now ≡ record s0 { end = now.end; mind = now.mind; output = now.output; broken = now.broken }
     → now.broken ≡ (if breaks g then true else s0.broken)
     → now.end ≡ happens m (event_of r g) s0.end
     → before ≡ []
-    → line ≡ (before ++ line_text (entry_words m s0.number (written s0.end g))) ++ outcomes_text s0.number (tells m (event_of r g) s0.end)
+    → line ≡ (before ++ line_text (entry_words m s0.number (written kept_ends s0.end g))) ++ outcomes_text s0.number (tells m (event_of r g) s0.end)
     → (fits ≡ not (too_many s0.output (octets_in (tells m (event_of r g) s0.end)))) × (now.output ≡ joined_to s0.output (octets_in (tells m (event_of r g) s0.end)))
-    → IsInGrammar (happened m s0.number (written s0.end g) (tells m (event_of r g) s0.end))
+    → IsInGrammar (happened m s0.number (written kept_ends s0.end g) (tells m (event_of r g) s0.end))
     → Gave r m s g now line fits
 unfolding end_after outcomes_of
 gave_of r m s s0 g now line before fits same is broken e p q joins grammar =
-    subst (λ (z : Session). Gave r m z g now line fits) (sym same)
+    subst (λ (z : Session KEnd). Gave r m z g now line fits) (sym same)
     (record {
-      text = lines_are (entry_of r m s0 g) line before p q;
+      text = lines_are (entry_of kept_ends r m s0 g) line before p q;
       state =
           is
-          ∙ ap (λ (z : KEnd). let t : Session = record s0 { end = z; mind = now.mind; output = now.output; broken = now.broken } in t) e
-          ∙ ap (λ (z : List ℕ). let t : Session = record s0 { end = happens m (event_of r g) s0.end; mind = now.mind; output = z; broken = now.broken } in t) joins.1
-          ∙ ap (λ (z : Bool). let t : Session = record s0 { end = happens m (event_of r g) s0.end; mind = now.mind; output = joined_to s0.output (octets_in (tells m (event_of r g) s0.end)); broken = z } in t)
+          ∙ ap (λ (z : KEnd). let t : Session KEnd = record s0 { end = z; mind = now.mind; output = now.output; broken = now.broken } in t) e
+          ∙ ap (λ (z : List ℕ). let t : Session KEnd = record s0 { end = happens m (event_of r g) s0.end; mind = now.mind; output = z; broken = now.broken } in t) joins.1
+          ∙ ap (λ (z : Bool). let t : Session KEnd = record s0 { end = happens m (event_of r g) s0.end; mind = now.mind; output = joined_to s0.output (octets_in (tells m (event_of r g) s0.end)); broken = z } in t)
           (broken ∙ if_is_or s0.broken (breaks g));
       fits = joins.0;
       in_grammar = grammar;
     })
 
 -- an event whose octets fit
-fits_is : (r : Rules) (m : ℕ) (s : Session) (g : Given) → too_many s.output (octets_of r m s g) ≡ false
-    → fed r m s g ≡ (record s { end = end_after r m s.end g; output = s.output ++ octets_of r m s g; broken = s.broken || breaks g }, entry_of r m s g ∷ [])
+fits_is : (r : Rules) (m : ℕ) (s : Session KEnd) (g : Given) → too_many s.output (octets_of r m s g) ≡ false
+    → fed kept_ends r m s g ≡ (record s { end = end_after kept_ends r m s.end g; output = s.output ++ octets_of r m s g; broken = s.broken || breaks g }, entry_of kept_ends r m s g ∷ [])
 unfolding fed joined
 fits_is r m s g p = rw p refl
 
 -- an event whose octets are too many
-stalls_is : (r : Rules) (m : ℕ) (s : Session) (g : Given) → too_many s.output (octets_of r m s g) ≡ true
-    → fed r m s g
-    ≡ (let b = stalled r m (record s { end = end_after r m s.end g; broken = s.broken || breaks g }) in (b.0, entry_of r m s g ∷ b.1))
+stalls_is : (r : Rules) (m : ℕ) (s : Session KEnd) (g : Given) → too_many s.output (octets_of r m s g) ≡ true
+    → fed kept_ends r m s g
+    ≡ (let b = stalled kept_ends r m (record s { end = end_after kept_ends r m s.end g; broken = s.broken || breaks g }) in (b.0, entry_of kept_ends r m s g ∷ b.1))
 unfolding fed joined
 stalls_is r m s g p = rw p refl
 
 -- its user isn't touched
-pub same_mind : (r : Rules) (m : ℕ) (s : Session) (g : Given) → with_mind s.mind (fed r m s g) ≡ fed r m s g
+pub same_mind : (r : Rules) (m : ℕ) (s : Session KEnd) (g : Given) → with_mind s.mind (fed kept_ends r m s g) ≡ fed kept_ends r m s g
 unfolding fed joined
 same_mind r m s g = elim (cases_Bool (too_many s.output (octets_of r m s g))) [ inl p ↦ rw p refl | inr p ↦ rw p refl ]
 
@@ -169,98 +171,98 @@ not_false : (b : Bool) → false ≡ not b → b ≡ true
 not_false true p = refl
 not_false false p = p
 
-pub tell_breaks : (a b : Option (List ℕ)) (f g : ℕ) (r : Rules) (m : ℕ) (s now : Session) (e : Given) (line : List ℕ) (fits : Bool) (fault : LoopFault)
-    → Gave r m s e now line fits → Breaks a b f g line fault → Breaks a b f g (text (with_mind now.mind (fed r m s e)).1) fault
+pub tell_breaks : (a b : SinkState) (r : Rules) (m : ℕ) (s now : Session KEnd) (e : Given) (line : List ℕ) (fits : Bool) (fault : LoopFault)
+    → Gave r m s e now line fits → Breaks a b line fault → Breaks a b (text (with_mind now.mind (fed kept_ends r m s e)).1) fault
 unfolding fed
-tell_breaks a b f g r m s now e line fits fault gave broke =
-    let o = joined r m (record s { end = end_after r m s.end e; broken = s.broken || breaks e }) (octets_in (outcomes_of r m s.end e)) in
-    breaks_more a b f g (entry_text (entry_of r m s e)) (text o.1) fault
-    (breaks_as a b f g line (entry_text (entry_of r m s e)) fault gave.text broke)
+tell_breaks a b r m s now e line fits fault gave broke =
+    let o = joined kept_ends r m (record s { end = end_after kept_ends r m s.end e; broken = s.broken || breaks e }) (octets_in (outcomes_of kept_ends r m s.end e)) in
+    breaks_more a b (entry_text (entry_of kept_ends r m s e)) (text o.1) fault
+    (breaks_as a b line (entry_text (entry_of kept_ends r m s e)) fault gave.text broke)
 
-pub tell_fits : (a b : Option (List ℕ)) (f g : ℕ) (r : Rules) (m : ℕ) (s now : Session) (e : Given) (line : List ℕ) (fits : Bool)
-    → Gave r m s e now line fits → fits ≡ true → Grew a b line × (f ≤ g) → Printed a b f g now (with_mind now.mind (fed r m s e))
-tell_fits a b f g r m s now e line fits gave all grew =
+pub tell_fits : (a b : SinkState) (r : Rules) (m : ℕ) (s now : Session KEnd) (e : Given) (line : List ℕ) (fits : Bool)
+    → Gave r m s e now line fits → fits ≡ true → Grew a.held b.held line × (a.faults ≤ b.faults) → Printed a b now (with_mind now.mind (fed kept_ends r m s e))
+tell_fits a b r m s now e line fits gave all grew =
     let few : too_many s.output (octets_of r m s e) ≡ false = not_true (too_many s.output (octets_of r m s e)) (sym all ∙ gave.fits) in
-    subst (λ (z : Session × List Entry). Printed a b f g now (with_mind now.mind z)) (sym (fits_is r m s e few))
+    subst (λ (z : Session KEnd × List Entry). Printed a b now (with_mind now.mind z)) (sym (fits_is r m s e few))
     (record {
       state =
           gave.state
-          ∙ ap (λ (z : Bool). let t : Session = record s { end = end_after r m s.end e; mind = now.mind; output = (if z then s.output else s.output ++ octets_of r m s e); broken = s.broken || breaks e } in t) few;
-      printed = subst (λ z. Grew a b z) (gave.text ∙ one_text (entry_of r m s e)) grew.0;
+          ∙ ap (λ (z : Bool). let t : Session KEnd = record s { end = end_after kept_ends r m s.end e; mind = now.mind; output = (if z then s.output else s.output ++ octets_of r m s e); broken = s.broken || breaks e } in t) few;
+      printed = subst (λ z. Grew a.held b.held z) (gave.text ∙ one_text (entry_of kept_ends r m s e)) grew.0;
       later = grew.1;
       in_grammar = (gave.in_grammar, tt);
     })
 
-prints_behind : (a b c : Option (List ℕ)) (f g h : ℕ) (x : Entry) (new : Session) (o : Session × List Entry) (res : Result (Unit {0}) LoopFault)
-    → Grew a b (entry_text x) → f ≤ g → IsInGrammar x → Prints b c g h new o res → Prints a c f h new (o.0, x ∷ o.1) res
-prints_behind a b c f g h x new o (Ok done) p q i r = record {
+prints_behind : (a b c : SinkState) (x : Entry) (new : Session KEnd) (o : Session KEnd × List Entry) (res : Result (Unit {0}) LoopFault)
+    → Grew a.held b.held (entry_text x) → a.faults ≤ b.faults → IsInGrammar x → Prints b c new o res → Prints a c new (o.0, x ∷ o.1) res
+prints_behind a b c x new o (Ok done) p q i r = record {
   state = r.state;
-  printed = grew_then a b c (entry_text x) (text o.1) p r.printed;
-  later = (let y : g ≤ h = r.later in omega arith);
+  printed = grew_then a.held b.held c.held (entry_text x) (text o.1) p r.printed;
+  later = (let y : b.faults ≤ c.faults = r.later in omega arith);
   in_grammar = (i, r.in_grammar);
 }
-prints_behind a b c f g h x new o (Err fault) p q i r = breaks_behind a b c f g h (entry_text x) (text o.1) fault p q r
+prints_behind a b c x new o (Err fault) p q i r = breaks_behind a b c (entry_text x) (text o.1) fault p q r
 
-pub tell_stalls : (a b c : Option (List ℕ)) (f g h : ℕ) (r : Rules) (m : ℕ) (s now new : Session) (e : Given) (line : List ℕ) (fits : Bool) (res : Result (Unit {0}) LoopFault)
-    → Gave r m s e now line fits → fits ≡ false → Grew a b line × (f ≤ g) → Prints b c g h new (stalled r m now) res
-    → Prints a c f h new (with_mind now.mind (fed r m s e)) res
-tell_stalls a b c f g h r m s now new e line fits res gave not_all grew rest =
+pub tell_stalls : (a b c : SinkState) (r : Rules) (m : ℕ) (s now new : Session KEnd) (e : Given) (line : List ℕ) (fits : Bool) (res : Result (Unit {0}) LoopFault)
+    → Gave r m s e now line fits → fits ≡ false → Grew a.held b.held line × (a.faults ≤ b.faults) → Prints b c new (stalled kept_ends r m now) res
+    → Prints a c new (with_mind now.mind (fed kept_ends r m s e)) res
+tell_stalls a b c r m s now new e line fits res gave not_all grew rest =
     let many : too_many s.output (octets_of r m s e) ≡ true = not_false (too_many s.output (octets_of r m s e)) (sym not_all ∙ gave.fits) in
-    let s2 : Session = record s { end = end_after r m s.end e; mind = now.mind; broken = s.broken || breaks e } in
+    let s2 : Session KEnd = record s { end = end_after kept_ends r m s.end e; mind = now.mind; broken = s.broken || breaks e } in
     let there : now ≡ s2 =
     gave.state
-    ∙ ap (λ (z : Bool). let t : Session = record s { end = end_after r m s.end e; mind = now.mind; output = (if z then s.output else s.output ++ octets_of r m s e); broken = s.broken || breaks e } in t) many in
-    subst (λ (z : Session × List Entry). Prints a c f h new (with_mind now.mind z) res) (sym (stalls_is r m s e many))
-    (prints_behind a b c f g h (entry_of r m s e) new (stalled r m s2) res
-    (subst (λ z. Grew a b z) gave.text grew.0) grew.1 gave.in_grammar
-    (subst (λ (z : Session). Prints b c g h new (stalled r m z) res) there rest))
+    ∙ ap (λ (z : Bool). let t : Session KEnd = record s { end = end_after kept_ends r m s.end e; mind = now.mind; output = (if z then s.output else s.output ++ octets_of r m s e); broken = s.broken || breaks e } in t) many in
+    subst (λ (z : Session KEnd × List Entry). Prints a c new (with_mind now.mind z) res) (sym (stalls_is r m s e many))
+    (prints_behind a b c (entry_of kept_ends r m s e) new (stalled kept_ends r m s2) res
+    (subst (λ z. Grew a.held b.held z) gave.text grew.0) grew.1 gave.in_grammar
+    (subst (λ (z : Session KEnd). Prints b c new (stalled kept_ends r m z) res) there rest))
 
-pub stall_prints : (a b : Option (List ℕ)) (f g : ℕ) (r : Rules) (m : ℕ) (s s0 : Session) (end' : KEnd) (line before : List ℕ) (res : Result (Unit {0}) LoopFault)
+pub stall_prints : (a b : SinkState) (r : Rules) (m : ℕ) (s s0 : Session KEnd) (end' : KEnd) (line before : List ℕ) (res : Result (Unit {0}) LoopFault)
     → s ≡ s0 → end' ≡ happens m (event_of r Stalls) s0.end → before ≡ []
-    → line ≡ (before ++ line_text (entry_words m s0.number (written s0.end Stalls))) ++ outcomes_text s0.number (tells m (event_of r Stalls) s0.end)
-    → IsInGrammar (happened m s0.number (written s0.end Stalls) (tells m (event_of r Stalls) s0.end))
-    → Puts a b f g line res → Prints a b f g (record s0 { end = end'; broken = true }) (stalled r m s) res
+    → line ≡ (before ++ line_text (entry_words m s0.number (written kept_ends s0.end Stalls))) ++ outcomes_text s0.number (tells m (event_of r Stalls) s0.end)
+    → IsInGrammar (happened m s0.number (written kept_ends s0.end Stalls) (tells m (event_of r Stalls) s0.end))
+    → Puts a b line res → Prints a b (record s0 { end = end'; broken = true }) (stalled kept_ends r m s) res
 unfolding end_after outcomes_of
-stall_prints a b f g r m s s0 end' line before res same e p q grammar puts =
-    subst (λ (z : Session). Prints a b f g (record s0 { end = end'; broken = true }) (stalled r m z) res) (sym same)
-    (puts_prints res (lines_are (entry_of r m s0 Stalls) line before p q ∙ one_text (entry_of r m s0 Stalls)) puts)
+stall_prints a b r m s s0 end' line before res same e p q grammar puts =
+    subst (λ (z : Session KEnd). Prints a b (record s0 { end = end'; broken = true }) (stalled kept_ends r m z) res) (sym same)
+    (puts_prints res (lines_are (entry_of kept_ends r m s0 Stalls) line before p q ∙ one_text (entry_of kept_ends r m s0 Stalls)) puts)
   where
-    puts_prints : (res : Result (Unit {0}) LoopFault) → line ≡ text (entry_of r m s0 Stalls ∷ []) → Puts a b f g line res
-        → Prints a b f g (record s0 { end = end'; broken = true }) (stalled r m s0) res
+    puts_prints : (res : Result (Unit {0}) LoopFault) → line ≡ text (entry_of kept_ends r m s0 Stalls ∷ []) → Puts a b line res
+        → Prints a b (record s0 { end = end'; broken = true }) (stalled kept_ends r m s0) res
     puts_prints (Ok done) is p = record {
-      state = ap (λ (z : KEnd). let t : Session = record s0 { end = z; broken = true } in t) e;
-      printed = subst (λ z. Grew a b z) is p.0;
+      state = ap (λ (z : KEnd). let t : Session KEnd = record s0 { end = z; broken = true } in t) e;
+      printed = subst (λ z. Grew a.held b.held z) is p.0;
       later = p.1;
       in_grammar = (grammar, tt);
     }
-    puts_prints (Err fault) is p = breaks_as a b f g line (text (entry_of r m s0 Stalls ∷ [])) fault is p
+    puts_prints (Err fault) is p = breaks_as a b line (text (entry_of kept_ends r m s0 Stalls ∷ [])) fault is p
 
 -- an event of which no user hears
-pub given_prints : (a b : Option (List ℕ)) (f g : ℕ) (r : Rules) (m : ℕ) (s : Session) (mind : Option Mind) (new : Session) (e : Given) (res : Result (Unit {0}) LoopFault)
-    → mind ≡ s.mind → Prints a b f g new (with_mind mind (fed r m s e)) res → Prints a b f g new (fed r m s e) res
-given_prints a b f g r m s mind new e res same p =
-    subst (λ (z : Session × List Entry). Prints a b f g new z res) (ap (λ (z : Option Mind). with_mind z (fed r m s e)) same ∙ same_mind r m s e) p
+pub given_prints : (a b : SinkState) (r : Rules) (m : ℕ) (s : Session KEnd) (mind : Option Mind) (new : Session KEnd) (e : Given) (res : Result (Unit {0}) LoopFault)
+    → mind ≡ s.mind → Prints a b new (with_mind mind (fed kept_ends r m s e)) res → Prints a b new (fed kept_ends r m s e) res
+given_prints a b r m s mind new e res same p =
+    subst (λ (z : Session KEnd × List Entry). Prints a b new z res) (ap (λ (z : Option Mind). with_mind z (fed kept_ends r m s e)) same ∙ same_mind r m s e) p
 
-pub heard_as : (r : Rules) (m : ℕ) (s s0 : Session) (g : Given) (mind : Option Mind) (spoken : Spoken) → s ≡ s0
-    → HeardSo s0.mind (heard_in (tells m (event_of r g) s0.end)) mind spoken → HeardSo s.mind (heard_in (outcomes_of r m s.end g)) mind spoken
+pub heard_as : (r : Rules) (m : ℕ) (s s0 : Session KEnd) (g : Given) (mind : Option Mind) (spoken : Spoken) → s ≡ s0
+    → HeardSo s0.mind (heard_in (tells m (event_of r g) s0.end)) mind spoken → HeardSo s.mind (heard_in (outcomes_of kept_ends r m s.end g)) mind spoken
 unfolding outcomes_of
-heard_as r m s s0 g mind spoken same heard = subst (λ (z : Session). HeardSo z.mind (heard_in (outcomes_of r m z.end g)) mind spoken) (sym same) heard
+heard_as r m s s0 g mind spoken same heard = subst (λ (z : Session KEnd). HeardSo z.mind (heard_in (outcomes_of kept_ends r m z.end g)) mind spoken) (sym same) heard
 
-pub told_as : (r : Rules) (m : ℕ) (s s0 : Session) (g : Given) (peer : Option ℕ) → s ≡ s0
-    → heard_in (tells m (event_of r g) s0.end) ≡ peer_heard peer → heard_in (outcomes_of r m s.end g) ≡ peer_heard peer
+pub told_as : (r : Rules) (m : ℕ) (s s0 : Session KEnd) (g : Given) (peer : Option ℕ) → s ≡ s0
+    → heard_in (tells m (event_of r g) s0.end) ≡ peer_heard peer → heard_in (outcomes_of kept_ends r m s.end g) ≡ peer_heard peer
 unfolding outcomes_of
-told_as r m s s0 g peer same told = subst (λ (z : Session). heard_in (outcomes_of r m z.end g) ≡ peer_heard peer) (sym same) told
+told_as r m s s0 g peer same told = subst (λ (z : Session KEnd). heard_in (outcomes_of kept_ends r m z.end g) ≡ peer_heard peer) (sym same) told
 
 -- the same lines, by another name
-pub gave_by : (r : Rules) (m : ℕ) (s : Session) (g : Given) (now : Session) (xs ys : List ℕ) (fits : Bool) → ys ≡ xs → Gave r m s g now xs fits → Gave r m s g now ys fits
+pub gave_by : (r : Rules) (m : ℕ) (s : Session KEnd) (g : Given) (now : Session KEnd) (xs ys : List ℕ) (fits : Bool) → ys ≡ xs → Gave r m s g now xs fits → Gave r m s g now ys fits
 gave_by r m s g now xs ys fits p gave = subst (λ z. Gave r m s g now z fits) (sym p) gave
 
 -- the same, though the user has heard of it
-pub gave_mind : (r : Rules) (m : ℕ) (s now now0 : Session) (g : Given) (mind : Option Mind) (lines : List ℕ) (fits : Bool) → now ≡ now0
+pub gave_mind : (r : Rules) (m : ℕ) (s now now0 : Session KEnd) (g : Given) (mind : Option Mind) (lines : List ℕ) (fits : Bool) → now ≡ now0
     → Gave r m s g now lines fits → Gave r m s g (record now0 { mind = mind }) lines fits
 gave_mind r m s now now0 g mind lines fits same gave = record {
   text = gave.text;
-  state = ap (λ (z : Session). let t : Session = record z { mind = mind } in t) (sym same ∙ gave.state);
+  state = ap (λ (z : Session KEnd). let t : Session KEnd = record z { mind = mind } in t) (sym same ∙ gave.state);
   fits = gave.fits;
   in_grammar = gave.in_grammar;
 }

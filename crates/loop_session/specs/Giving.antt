@@ -1,5 +1,7 @@
 -- Representation: what the code makes of an event at an end: lines, octets that join those that wait, what the user hears; no claim rests
 -- on it.
+use Rattle.er_end.specs.KeptEnds.{KEnd}
+use Rattle.loop_session.specs.Keeping.{kept_ends}
 use Rattle.std.specs.Prelude.{◌≡◌, ℕ, ◌+◌, nat_lt, not, Bool, ◌||◌, if◌then◌else◌, List, ◌++◌, length, Option, Some, None, Result, Ok, Err}
 use Rattle.er_users.specs.Saying.{Spoken}
 use Rattle.er_users.specs.Users.{Mind, Heard, Connected, Said}
@@ -37,24 +39,24 @@ peer_heard None = None
 peer_heard (Some peer) = Some (Connected peer)
 
 -- the octets for the line that came of an event
-abbrev pub octets_of : Rules → ℕ → Session → Given → List ℕ
-octets_of r m s g = octets_in (outcomes_of r m s.end g)
+abbrev pub octets_of : Rules → ℕ → Session KEnd → Given → List ℕ
+octets_of r m s g = octets_in (outcomes_of kept_ends r m s.end g)
 
 -- a session behind an event that was given to its end, before it stalls, with this mind of its user
-abbrev pub behind : Rules → ℕ → Session → Given → Option Mind → Session
+abbrev pub behind : Rules → ℕ → Session KEnd → Given → Option Mind → Session KEnd
 behind r m s g mind = record s {
-  end = end_after r m s.end g;
+  end = end_after kept_ends r m s.end g;
   mind = mind;
   output = joined_to s.output (octets_of r m s g);
   broken = s.broken || breaks g;
 }
 
 -- an event was given to the end of a session: the lines of it, whether its octets fit, and that it is in the grammar of traces
-pub record Gave (r : Rules) (m : ℕ) (s : Session) (g : Given) (now : Session) (lines : List ℕ) (all_fit : Bool) : Type 0 where
-  pub text : lines ≡ entry_text (entry_of r m s g)
+pub record Gave (r : Rules) (m : ℕ) (s : Session KEnd) (g : Given) (now : Session KEnd) (lines : List ℕ) (all_fit : Bool) : Type 0 where
+  pub text : lines ≡ entry_text (entry_of kept_ends r m s g)
   pub state : now ≡ behind r m s g now.mind
   pub fits : all_fit ≡ not (too_many s.output (octets_of r m s g))
-  pub in_grammar : IsInGrammar (entry_of r m s g)
+  pub in_grammar : IsInGrammar (entry_of kept_ends r m s g)
 
 -- what a user said, as events
 abbrev pub events_of : Spoken → List Given

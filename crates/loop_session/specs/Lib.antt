@@ -1,2 +1,4 @@
 pub mod Giving
 pub mod Parts
+pub mod Keeping
+pub mod Standing

@@ -1,8 +1,11 @@
 -- Contract: how a part of the loop that calls no wires ends: what it leaves and prints, or where it breaks off.
+use Rattle.er_end.specs.KeptEnds.{KEnd}
+use Rattle.loop_session.specs.Keeping.{kept_ends}
 use Rattle.std.specs.Prelude.{◌≡◌, ℕ, ◌≤◌, List, length, drop, Option, Result, Ok, Err}
 use Rattle.safety_automaton.specs.Keys as keys
 use Rattle.er_users.specs.Users.{Mind}
 use Rattle.link_trait.specs.Outside.{Grew, GrewPart, Rose}
+use Rattle.link_trait.specs.States.{SinkState}
 use Rattle.loop_model.specs.Grammar.{AreInGrammar}
 use Rattle.loop_model.specs.Journals.{Entry, text}
 use Rattle.loop_model.specs.Outs.{runs}
@@ -22,53 +25,53 @@ FailedFor Sink f g = Rose f g
 FailedFor (NoMemory want) f g = f ≤ g
 
 -- a part broke off, since the sink failed or memory ran out: a beginning of its text was written
-pub record Breaks (before now : Option (List ℕ)) (f g : ℕ) (line : List ℕ) (fault : LoopFault) : Type 0 where
-  pub begun : GrewPart before now line
-  pub failed : FailedFor fault f g
+pub record Breaks (before now : SinkState) (line : List ℕ) (fault : LoopFault) : Type 0 where
+  pub begun : GrewPart before.held now.held line
+  pub failed : FailedFor fault before.faults now.faults
 
 -- a text was written, or the part broke off
-abbrev pub Puts : {T : Type 0} → Option (List ℕ) → Option (List ℕ) → ℕ → ℕ → List ℕ → Result T LoopFault → Type 0
-Puts before now f g line (Ok done) = Grew before now line × (f ≤ g)
-Puts before now f g line (Err fault) = Breaks before now f g line fault
+abbrev pub Puts : {T : Type 0} → SinkState → SinkState → List ℕ → Result T LoopFault → Type 0
+Puts before now line (Ok done) = Grew before.held now.held line × (before.faults ≤ now.faults)
+Puts before now line (Err fault) = Breaks before now line fault
 
 -- a part left this state, the text of its events was written, and they are in the grammar of traces
-pub record Printed {S : Type 0} (before now : Option (List ℕ)) (f g : ℕ) (new : S) (a : S × List Entry) : Type 0 where
+pub record Printed {S : Type 0} (before now : SinkState) (new : S) (a : S × List Entry) : Type 0 where
   pub state : new ≡ a.0
-  pub printed : Grew before now (text a.1)
-  pub later : f ≤ g
+  pub printed : Grew before.held now.held (text a.1)
+  pub later : before.faults ≤ now.faults
   pub in_grammar : AreInGrammar a.1
 
-abbrev pub Prints : {T S : Type 0} → Option (List ℕ) → Option (List ℕ) → ℕ → ℕ → S → S × List Entry → Result T LoopFault → Type 0
-Prints before now f g new a (Ok done) = Printed before now f g new a
-Prints before now f g new a (Err fault) = Breaks before now f g (text a.1) fault
+abbrev pub Prints : {T S : Type 0} → SinkState → SinkState → S → S × List Entry → Result T LoopFault → Type 0
+Prints before now new a (Ok done) = Printed before now new a
+Prints before now new a (Err fault) = Breaks before now (text a.1) fault
 
 -- there are answers for which the model gives this state and prints what was written
-pub record Chose {S A : Type 0} (before now : Option (List ℕ)) (f g : ℕ) (new : S) (model : A → S × List Entry) : Type 0 where
+pub record Chose {S A : Type 0} (before now : SinkState) (new : S) (model : A → S × List Entry) : Type 0 where
   pub answers : A
-  pub is : Printed before now f g new (model answers)
+  pub is : Printed before now new (model answers)
 
 -- there are answers for which what was written is a beginning of what the model prints
-pub record BrokeOff {S A : Type 0} (before now : Option (List ℕ)) (f g : ℕ) (model : A → S × List Entry) (fault : LoopFault) : Type 0 where
+pub record BrokeOff {S A : Type 0} (before now : SinkState) (model : A → S × List Entry) (fault : LoopFault) : Type 0 where
   pub answers : A
-  pub breaks : Breaks before now f g (text (model answers).1) fault
+  pub breaks : Breaks before now (text (model answers).1) fault
 
-abbrev pub Chooses : {T S A : Type 0} → Option (List ℕ) → Option (List ℕ) → ℕ → ℕ → S → (A → S × List Entry) → Result T LoopFault → Type 0
-Chooses before now f g new model (Ok done) = Chose before now f g new model
-Chooses before now f g new model (Err fault) = BrokeOff before now f g model fault
+abbrev pub Chooses : {T S A : Type 0} → SinkState → SinkState → S → (A → S × List Entry) → Result T LoopFault → Type 0
+Chooses before now new model (Ok done) = Chose before now new model
+Chooses before now new model (Err fault) = BrokeOff before now model fault
 
 -- a part was done once for each of so many answers
-pub record WentSome {S A : Type 0} (count : ℕ) (before now : Option (List ℕ)) (f g : ℕ) (part : S → A → S × List Entry) (old new : S) : Type 0 where
+pub record WentSome {S A : Type 0} (count : ℕ) (before now : SinkState) (part : S → A → S × List Entry) (old new : S) : Type 0 where
   pub answers : List A
   pub many : length answers ≡ count
-  pub is : Printed before now f g new (runs part old answers)
+  pub is : Printed before now new (runs part old answers)
 
 -- the same part, but the session's user has another mind
-abbrev pub with_mind : Option Mind → Session × List Entry → Session × List Entry
+abbrev pub with_mind : Option Mind → Session KEnd × List Entry → Session KEnd × List Entry
 with_mind mind a = (record a.0 { mind = mind }, a.1)
 
 -- so many octets of a read were given to the end
-pub record Pouring (r : Rules) (m : ℕ) (octets : List ℕ) (count : ℕ) (before now : Option (List ℕ)) (f g : ℕ) (old new : Session) : Type 0 where
+pub record Pouring (r : Rules) (m : ℕ) (octets : List ℕ) (count : ℕ) (before now : SinkState) (old new : Session KEnd) : Type 0 where
   pub answers : List Says
   pub few : length answers ≤ count
   pub most : count ≤ length octets
-  pub is : Printed before now f g (new, drop count octets) (runs (poured r m) (old, octets) answers)
+  pub is : Printed before now (new, drop count octets) (runs (poured kept_ends r m) (old, octets) answers)

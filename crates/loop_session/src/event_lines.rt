@@ -12,8 +12,8 @@ use link_trait::Sink;
 /// Writes the lines of events, where there are any.
 #[tactic(auto, using(crate::proofs::Written::nothing_put, crate::proofs::Written::put_broke))]
 pub fn write_lines<S: Sink>(lines: &[u8], sink: &mut S) -> Result<(), LoopFault>
-    ensures puts { Puts (S.held sink.old) (S.held sink.new) (S.faults sink.old) (S.faults sink.new) lines.now result }
-    ensures later { S.faults sink.old ≤ S.faults sink.new }
+    ensures puts { Puts (S.state sink.old) (S.state sink.new) lines.now result }
+    ensures later { (S.state sink.old).faults ≤ (S.state sink.new).faults }
 {
     if lines.is_empty() {
         return Ok(());
@@ -32,9 +32,9 @@ pub fn write_event<S: Sink>(
     scratch: &mut Scratch,
     sink: &mut S,
 ) -> Result<(), LoopFault>
-    ensures puts { Puts (S.held sink.old) (S.held sink.new) (S.faults sink.old) (S.faults sink.new)
+    ensures puts { Puts (S.state sink.old) (S.state sink.new)
         (text (record { moment = moment; conn = conn; event = event; outcomes = [] } ∷ [])) result }
-    ensures later { S.faults sink.old ≤ S.faults sink.new }
+    ensures later { (S.state sink.old).faults ≤ (S.state sink.new).faults }
 {
     let entry = Entry {
         line: 0,

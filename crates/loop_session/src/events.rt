@@ -2,10 +2,11 @@
 
 ghost use Rattle.std.specs.Prelude.{◌≡◌, ◌≤◌, ◌<◌, ◌^◌, ◌-◌, List, length, drop, IfOk};
 ghost use Rattle.safety_automaton.specs.Keys as keys;
-ghost use Rattle.er_end.specs.KeptEnds.{used_of};
+ghost use Rattle.er_end.specs.KeptEnds.{KEnd, used_of};
 ghost use Rattle.loop_model.specs.Sessions.{Session as LoopSession, Given, Begins, Hears, Ticks, Ends, Faults, heard_in, outcomes_of, handled, pours};
 ghost use Rattle.loop_session.specs.Giving.{Gave, peer_heard};
 ghost use Rattle.loop_session.specs.Parts.{rules, Chooses};
+ghost use Rattle.loop_session.specs.Keeping.{kept_ends};
 
 use crate::gives::{Called, Came, give_ended, give_fault, give_octets, give_start, give_tick};
 use crate::hearing::hear_connected;
@@ -38,12 +39,12 @@ impl<U: SafeUser> Session<U> {
     ) -> Result<(), LoopFault>
         requires moment { when.moment ≤ 1000000000000000 }
         requires setup { when.setup ≤ 600000 }
-        ensures chooses { (entries : List keys.Entry) (s : LoopSession) (g : Given)
+        ensures chooses { (entries : List keys.Entry) (s : LoopSession KEnd) (g : Given)
             → Gave (rules entries when.setup) when.moment s g self.old scratch.old.line.items came.fits
-            → self.old.mind ≡ s.mind → heard_in (outcomes_of (rules entries when.setup) when.moment s.end g) ≡ peer_heard came.connected
-            → Chooses (S.held sink.old) (S.held sink.new) (S.faults sink.old) (S.faults sink.new) self.new (handled (rules entries when.setup) when.moment s g) result }
+            → self.old.mind ≡ s.mind → heard_in (outcomes_of kept_ends (rules entries when.setup) when.moment s.end g) ≡ peer_heard came.connected
+            → Chooses (S.state sink.old) (S.state sink.new) self.new (handled kept_ends (rules entries when.setup) when.moment s g) result }
         ensures number { self.new.number ≡ self.old.number }
-        ensures later { S.faults sink.old ≤ S.faults sink.new }
+        ensures later { (S.state sink.old).faults ≤ (S.state sink.new).faults }
     {
         hear_connected(&mut self.user, came.connected, &mut scratch.replies);
         match self.answer(came.fits, when.moment, scratch, sink) {
@@ -67,10 +68,10 @@ impl<U: SafeUser> Session<U> {
     ) -> Result<(), LoopFault>
         requires moment { when.moment ≤ 1000000000000000 }
         requires setup { when.setup ≤ 600000 }
-        ensures chooses { (entries : List keys.Entry) → Chooses (S.held sink.old) (S.held sink.new) (S.faults sink.old) (S.faults sink.new) self.new
-            (handled (rules entries when.setup) when.moment self.old Ticks) result }
+        ensures chooses { (entries : List keys.Entry) → Chooses (S.state sink.old) (S.state sink.new) self.new
+            (handled kept_ends (rules entries when.setup) when.moment self.old Ticks) result }
         ensures number { self.new.number ≡ self.old.number }
-        ensures later { S.faults sink.old ≤ S.faults sink.new }
+        ensures later { (S.state sink.old).faults ≤ (S.state sink.new).faults }
     {
         scratch.line.clear();
         let came = give_tick(
@@ -95,10 +96,10 @@ impl<U: SafeUser> Session<U> {
         requires engine { call.now.engine < 2 ^ 24 }
         requires rbc { call.now.rbc < 2 ^ 24 }
         requires setup { when.setup ≤ 600000 }
-        ensures chooses { (entries : List keys.Entry) → Chooses (S.held sink.old) (S.held sink.new) (S.faults sink.old) (S.faults sink.new) self.new
-            (handled (rules entries when.setup) when.moment self.old (Begins call.now.engine call.now.rbc call.now.rb)) result }
+        ensures chooses { (entries : List keys.Entry) → Chooses (S.state sink.old) (S.state sink.new) self.new
+            (handled kept_ends (rules entries when.setup) when.moment self.old (Begins call.now.engine call.now.rbc call.now.rb)) result }
         ensures number { self.new.number ≡ self.old.number }
-        ensures later { S.faults sink.old ≤ S.faults sink.new }
+        ensures later { (S.state sink.old).faults ≤ (S.state sink.new).faults }
     {
         scratch.line.clear();
         let came = give_start(
@@ -121,10 +122,10 @@ impl<U: SafeUser> Session<U> {
     ) -> Result<(), LoopFault>
         requires moment { when.moment ≤ 1000000000000000 }
         requires setup { when.setup ≤ 600000 }
-        ensures chooses { (entries : List keys.Entry) → Chooses (S.held sink.old) (S.held sink.new) (S.faults sink.old) (S.faults sink.new) self.new
-            (handled (rules entries when.setup) when.moment self.old Ends) result }
+        ensures chooses { (entries : List keys.Entry) → Chooses (S.state sink.old) (S.state sink.new) self.new
+            (handled kept_ends (rules entries when.setup) when.moment self.old Ends) result }
         ensures number { self.new.number ≡ self.old.number }
-        ensures later { S.faults sink.old ≤ S.faults sink.new }
+        ensures later { (S.state sink.old).faults ≤ (S.state sink.new).faults }
     {
         scratch.line.clear();
         let came = give_ended(
@@ -147,10 +148,10 @@ impl<U: SafeUser> Session<U> {
     ) -> Result<(), LoopFault>
         requires moment { when.moment ≤ 1000000000000000 }
         requires setup { when.setup ≤ 600000 }
-        ensures chooses { (entries : List keys.Entry) → Chooses (S.held sink.old) (S.held sink.new) (S.faults sink.old) (S.faults sink.new) self.new
-            (handled (rules entries when.setup) when.moment self.old Faults) result }
+        ensures chooses { (entries : List keys.Entry) → Chooses (S.state sink.old) (S.state sink.new) self.new
+            (handled kept_ends (rules entries when.setup) when.moment self.old Faults) result }
         ensures number { self.new.number ≡ self.old.number }
-        ensures later { S.faults sink.old ≤ S.faults sink.new }
+        ensures later { (S.state sink.old).faults ≤ (S.state sink.new).faults }
     {
         scratch.line.clear();
         let came = give_fault(
@@ -176,13 +177,13 @@ impl<U: SafeUser> Session<U> {
         requires moment { when.moment ≤ 1000000000000000 }
         requires octets { length octets.now ≤ 4096 }
         requires setup { when.setup ≤ 600000 }
-        ensures chooses { Chooses (S.held sink.old) (S.held sink.new) (S.faults sink.old) (S.faults sink.new) self.new
-            (handled (rules (K.entries keys.now) when.setup) when.moment self.old (Hears octets.now)) result }
+        ensures chooses { Chooses (S.state sink.old) (S.state sink.new) self.new
+            (handled kept_ends (rules (K.entries keys.now) when.setup) when.moment self.old (Hears octets.now)) result }
         ensures used { IfOk result (λ used. used ≡ used_of self.old.end octets.now) }
         ensures within { IfOk result (λ used. used ≤ length octets.now) }
         ensures moves { IfOk result (λ used. 0 < length octets.now → 0 < used) }
         ensures number { self.new.number ≡ self.old.number }
-        ensures later { S.faults sink.old ≤ S.faults sink.new }
+        ensures later { (S.state sink.old).faults ≤ (S.state sink.new).faults }
     {
         scratch.line.clear();
         let given = give_octets(
@@ -212,10 +213,10 @@ impl<U: SafeUser> Session<U> {
         requires moment { when.moment ≤ 1000000000000000 }
         requires octets { length octets.now ≤ 4096 }
         requires setup { when.setup ≤ 600000 }
-        ensures chooses { Chooses (S.held sink.old) (S.held sink.new) (S.faults sink.old) (S.faults sink.new) self.new
-            (pours (rules (K.entries keys.now) when.setup) when.moment self.old octets.now) result }
+        ensures chooses { Chooses (S.state sink.old) (S.state sink.new) self.new
+            (pours kept_ends (rules (K.entries keys.now) when.setup) when.moment self.old octets.now) result }
         ensures number { self.new.number ≡ self.old.number }
-        ensures later { S.faults sink.old ≤ S.faults sink.new }
+        ensures later { (S.state sink.old).faults ≤ (S.state sink.new).faults }
     {
         let mut at = 0;
         while at < octets.len() {

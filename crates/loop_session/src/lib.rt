@@ -9,6 +9,7 @@ mod events;
 mod gives;
 mod hearing;
 mod join;
+pub mod laws;
 mod loop_fault;
 mod parting;
 mod ranges;

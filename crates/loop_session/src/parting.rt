@@ -4,6 +4,7 @@ ghost use Rattle.std.specs.Prelude.{◌≡◌, ◌≤◌, List};
 ghost use Rattle.safety_automaton.specs.Keys as keys;
 ghost use Rattle.loop_model.specs.Sessions.{parted};
 ghost use Rattle.loop_session.specs.Parts.{rules};
+ghost use Rattle.loop_session.specs.Keeping.{kept_ends};
 
 use crate::session::Session;
 use crate::when::When;
@@ -14,7 +15,7 @@ impl<U: SafeUser> Session<U> {
     pub(crate) fn part(&mut self, when: When)
         requires moment { when.moment ≤ 1000000000000000 }
         requires setup { when.setup ≤ 600000 }
-        ensures parts { (entries : List keys.Entry) → self.new ≡ parted (rules entries when.setup) when.moment self.old }
+        ensures parts { (entries : List keys.Entry) → self.new ≡ parted kept_ends (rules entries when.setup) when.moment self.old }
         ensures number { self.new.number ≡ self.old.number }
     {
         let Some(why) = self.end.released() else {

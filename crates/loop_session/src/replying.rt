@@ -5,6 +5,8 @@ ghost use Rattle.loop_model.specs.Outs.{runs};
 ghost use Rattle.loop_model.specs.Sessions.{Rules, Session as LoopSession, Given, Sends, Leaves, Takes, heard_in, outcomes_of, stalled, fed, dealt, takes_all};
 ghost use Rattle.loop_session.specs.Giving.{Gave, HeardSo, events_of};
 ghost use Rattle.loop_session.specs.Parts.{Prints, Chooses, with_mind};
+ghost use Rattle.er_end.specs.KeptEnds.{KEnd};
+ghost use Rattle.loop_session.specs.Keeping.{kept_ends};
 
 use crate::event_lines::write_lines;
 use crate::gives::{give_release, give_send, give_stalled, give_take};
@@ -23,9 +25,9 @@ impl<U: SafeUser> Session<U> {
         sink: &mut S,
     ) -> Result<(), LoopFault>
         requires { moment ≤ 1000000000000000 }
-        ensures prints { (r : Rules) → Prints (S.held sink.old) (S.held sink.new) (S.faults sink.old) (S.faults sink.new) self.new (stalled r moment self.old) result }
+        ensures prints { (r : Rules) → Prints (S.state sink.old) (S.state sink.new) self.new (stalled kept_ends r moment self.old) result }
         ensures number { self.new.number ≡ self.old.number }
-        ensures later { S.faults sink.old ≤ S.faults sink.new }
+        ensures later { (S.state sink.old).faults ≤ (S.state sink.new).faults }
     {
         line.clear();
         give_stalled(&mut self.end, self.number, moment, line)?;
@@ -42,10 +44,10 @@ impl<U: SafeUser> Session<U> {
         sink: &mut S,
     ) -> Result<(), LoopFault>
         requires { moment ≤ 1000000000000000 }
-        ensures prints { (r : Rules) (s : LoopSession) (g : Given) → Gave r moment s g self.old line.old.items fits
-            → Prints (S.held sink.old) (S.held sink.new) (S.faults sink.old) (S.faults sink.new) self.new (with_mind self.old.mind (fed r moment s g)) result }
+        ensures prints { (r : Rules) (s : LoopSession KEnd) (g : Given) → Gave r moment s g self.old line.old.items fits
+            → Prints (S.state sink.old) (S.state sink.new) self.new (with_mind self.old.mind (fed kept_ends r moment s g)) result }
         ensures number { self.new.number ≡ self.old.number }
-        ensures later { S.faults sink.old ≤ S.faults sink.new }
+        ensures later { (S.state sink.old).faults ≤ (S.state sink.new).faults }
     {
         match write_lines(line.as_slice(), sink) {
             Ok(()) => {}
@@ -67,9 +69,9 @@ impl<U: SafeUser> Session<U> {
     ) -> Result<(), LoopFault>
         requires moment { moment ≤ 1000000000000000 }
         requires text { length text.now ≤ 4096 }
-        ensures prints { (r : Rules) → Prints (S.held sink.old) (S.held sink.new) (S.faults sink.old) (S.faults sink.new) self.new (fed r moment self.old (Sends text.now)) result }
+        ensures prints { (r : Rules) → Prints (S.state sink.old) (S.state sink.new) self.new (fed kept_ends r moment self.old (Sends text.now)) result }
         ensures number { self.new.number ≡ self.old.number }
-        ensures later { S.faults sink.old ≤ S.faults sink.new }
+        ensures later { (S.state sink.old).faults ≤ (S.state sink.new).faults }
     {
         line.clear();
         let fits = give_send(
@@ -92,9 +94,9 @@ impl<U: SafeUser> Session<U> {
         sink: &mut S,
     ) -> Result<(), LoopFault>
         requires { moment ≤ 1000000000000000 }
-        ensures prints { (r : Rules) → Prints (S.held sink.old) (S.held sink.new) (S.faults sink.old) (S.faults sink.new) self.new (fed r moment self.old (Leaves sub)) result }
+        ensures prints { (r : Rules) → Prints (S.state sink.old) (S.state sink.new) self.new (fed kept_ends r moment self.old (Leaves sub)) result }
         ensures number { self.new.number ≡ self.old.number }
-        ensures later { S.faults sink.old ≤ S.faults sink.new }
+        ensures later { (S.state sink.old).faults ≤ (S.state sink.new).faults }
     {
         line.clear();
         let fits = give_release(
@@ -116,10 +118,10 @@ impl<U: SafeUser> Session<U> {
         sink: &mut S,
     ) -> Result<(), LoopFault>
         requires { moment ≤ 1000000000000000 }
-        ensures prints { (r : Rules) → Prints (S.held sink.old) (S.held sink.new) (S.faults sink.old) (S.faults sink.new) self.new
-            (runs (fed r moment) self.old (events_of scratch.old.replies)) result }
+        ensures prints { (r : Rules) → Prints (S.state sink.old) (S.state sink.new) self.new
+            (runs (fed kept_ends r moment) self.old (events_of scratch.old.replies)) result }
         ensures number { self.new.number ≡ self.old.number }
-        ensures later { S.faults sink.old ≤ S.faults sink.new }
+        ensures later { (S.state sink.old).faults ≤ (S.state sink.new).faults }
     {
         for k in 0..scratch.replies.len() {
             match self.send(scratch.replies.text(k), moment, &mut scratch.line, sink) {
@@ -142,11 +144,11 @@ impl<U: SafeUser> Session<U> {
         sink: &mut S,
     ) -> Result<(), LoopFault>
         requires { moment ≤ 1000000000000000 }
-        ensures chooses { (r : Rules) (s : LoopSession) (g : Given) → Gave r moment s g self.old scratch.old.line.items fits
-            → HeardSo s.mind (heard_in (outcomes_of r moment s.end g)) self.old.mind scratch.old.replies
-            → Chooses (S.held sink.old) (S.held sink.new) (S.faults sink.old) (S.faults sink.new) self.new (dealt r moment s g) result }
+        ensures chooses { (r : Rules) (s : LoopSession KEnd) (g : Given) → Gave r moment s g self.old scratch.old.line.items fits
+            → HeardSo s.mind (heard_in (outcomes_of kept_ends r moment s.end g)) self.old.mind scratch.old.replies
+            → Chooses (S.state sink.old) (S.state sink.new) self.new (dealt kept_ends r moment s g) result }
         ensures number { self.new.number ≡ self.old.number }
-        ensures later { S.faults sink.old ≤ S.faults sink.new }
+        ensures later { (S.state sink.old).faults ≤ (S.state sink.new).faults }
     {
         match self.tell(fits, moment, &mut scratch.line, sink) {
             Ok(()) => {}
@@ -163,9 +165,9 @@ impl<U: SafeUser> Session<U> {
         sink: &mut S,
     ) -> Result<(), LoopFault>
         requires { moment ≤ 1000000000000000 }
-        ensures chooses { (r : Rules) → Chooses (S.held sink.old) (S.held sink.new) (S.faults sink.old) (S.faults sink.new) self.new (dealt r moment self.old Takes) result }
+        ensures chooses { (r : Rules) → Chooses (S.state sink.old) (S.state sink.new) self.new (dealt kept_ends r moment self.old Takes) result }
         ensures number { self.new.number ≡ self.old.number }
-        ensures later { S.faults sink.old ≤ S.faults sink.new }
+        ensures later { (S.state sink.old).faults ≤ (S.state sink.new).faults }
     {
         scratch.line.clear();
         let fits = give_take(
@@ -188,9 +190,9 @@ impl<U: SafeUser> Session<U> {
         sink: &mut S,
     ) -> Result<(), LoopFault>
         requires { moment ≤ 1000000000000000 }
-        ensures chooses { (r : Rules) → Chooses (S.held sink.old) (S.held sink.new) (S.faults sink.old) (S.faults sink.new) self.new (takes_all r moment self.old) result }
+        ensures chooses { (r : Rules) → Chooses (S.state sink.old) (S.state sink.new) self.new (takes_all kept_ends r moment self.old) result }
         ensures number { self.new.number ≡ self.old.number }
-        ensures later { S.faults sink.old ≤ S.faults sink.new }
+        ensures later { (S.state sink.old).faults ≤ (S.state sink.new).faults }
     {
         for _ in 0..self.end.waiting() {
             match self.take(moment, scratch, sink) {

@@ -6,6 +6,7 @@ ghost use Rattle.er_end.specs.KeptEnds.{deadline_of};
 ghost use Rattle.loop_model.specs.Sessions.{is_released};
 ghost use Rattle.loop_model.specs.Visits.{wakes};
 ghost use Rattle.loop_model.specs.Loops.{begun};
+ghost use Rattle.loop_session.specs.Keeping.{kept_ends};
 
 use bytes::BytesMut;
 use er_end::End;
@@ -26,9 +27,10 @@ pub struct Session<U: SafeUser> {
 
 impl<U: SafeUser> Model for Session<U> {
     ghost use Rattle.std.specs.Prelude.{option_map};
+    ghost use Rattle.er_end.specs.KeptEnds.{KEnd};
     ghost use Rattle.loop_model.specs.Sessions.{Session as LoopSession};
 
-    ghost Value = { LoopSession };
+    ghost Value = { LoopSession KEnd };
 
     ghost view = { λ s. record { number = s.number; end = s.end; mind = option_map U.mind s.user; output = s.output.items; broken = s.broken; closing = s.closing } };
 }
@@ -84,7 +86,7 @@ impl<U: SafeUser> Session<U> {
 
     /// Whether its end was released.
     pub fn is_released(&self) -> bool
-        ensures { result ≡ is_released self.now }
+        ensures { result ≡ is_released kept_ends self.now }
     {
         self.end.released().is_some()
     }
@@ -106,7 +108,7 @@ impl<U: SafeUser> Session<U> {
     /// The moment at which the session is to be visited next: the first of the deadline of its end and, once that was released, its
     /// closing moment.
     pub fn wakes(&self) -> Option<u64>
-        ensures { result ≡ wakes self.now }
+        ensures { result ≡ wakes kept_ends self.now }
     {
         first_of(self.end.deadline(), self.closing)
     }

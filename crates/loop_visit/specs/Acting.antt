@@ -1,55 +1,13 @@
--- How a part of the loop that calls wires ends: what it leaves, prints and calls, or where it breaks off. What is seen of the outside, how
--- wires answer, and how a beginning of calls was made are words of what is claimed of the loop, too.
-use Rattle.std.specs.Prelude.{◌≡◌, ℕ, ◌+◌, ◌-◌, ◌^◌, ◌≤◌, min, List, [], ◌∷◌, ◌++◌, length, Option, Result, Ok, Err}
+-- Contract: how a part of the loop that calls wires ends: what it leaves, prints and calls, or where it breaks off.
+use Rattle.std.specs.Prelude.{◌≡◌, ◌≤◌, List, ◌++◌, Result, Ok, Err}
 use Rattle.link_trait.specs.Outside.{Grew, GrewPart}
-use Rattle.link_trait.specs.Wires.{Call, Listens, Dials, Turns, Reads, Writes, Closes, Reading, Gave, NotNow, End, Failed}
-use Rattle.link_trait.specs.declared.wires.WriteAnswer.{WriteAnswer}
-use Rattle.link_trait.specs.declared.wires.WriteAnswer.TheVariants as write
+use Rattle.link_trait.specs.Wires.{Call}
 use Rattle.loop_model.specs.Grammar.{AreInGrammar}
 use Rattle.loop_model.specs.Journals.{text}
 use Rattle.loop_model.specs.Outs.{Out}
-use Rattle.loop_model.specs.Laws.{failures}
 use Rattle.loop_session.specs.declared.loop_fault.LoopFault.{LoopFault}
 use Rattle.loop_session.specs.Parts.{FailedFor}
-
--- what is seen of a sink and of wires: the octets that it holds and how often it failed, the calls made and how often they failed
-pub record Seen : Type 0 where
-  pub held : Option (List ℕ)
-  pub sunk : ℕ
-  pub calls : Option (List Call)
-  pub failed : ℕ
-
-abbrev pub seen : Option (List ℕ) → ℕ → Option (List Call) → ℕ → Seen
-seen held sunk calls failed = record { held = held; sunk = sunk; calls = calls; failed = failed }
-
--- answers as wires give them: a read that gives no octet found none that waits; one that gives octets gives one at least, and so
--- does a write that takes octets, which takes at most the piece
-abbrev pub IsReadSo : ℕ → ℕ → Reading → Type 0
-IsReadSo size waits (Gave octets) = (1 ≤ length octets) × (length octets ≤ size)
-IsReadSo size waits NotNow = waits ≡ 0
-IsReadSo size waits End = waits ≡ 0
-IsReadSo size waits Failed = Unit {0}
-
-abbrev pub IsWrittenSo : List ℕ → WriteAnswer → Type 0
-IsWrittenSo piece (write.Some n) = (1 ≤ n) × (n ≤ length piece)
-IsWrittenSo piece write.NotNow = Unit {0}
-IsWrittenSo piece write.Failed = Unit {0}
-
-abbrev pub IsAnsweredSo : Call → Type 0
-IsAnsweredSo (Listens address listens) = Unit {0}
-IsAnsweredSo (Dials address conn) = Unit {0}
-IsAnsweredSo (Turns until happening) = Unit {0}
-IsAnsweredSo (Reads conn size waits reading) = IsReadSo size waits reading
-IsAnsweredSo (Writes conn piece answer) = IsWrittenSo piece answer
-IsAnsweredSo (Closes conn) = Unit {0}
-
-abbrev pub AreAnsweredSo : List Call → Type 0
-AreAnsweredSo [] = Unit {0}
-AreAnsweredSo (call ∷ calls) = IsAnsweredSo call × AreAnsweredSo calls
-
--- the count of faults rose by the reads and writes among calls that failed, at least; or it stands at the most that it can be
-abbrev pub Counts : ℕ → ℕ → List Call → Type 0
-Counts before now calls = min (before + failures calls) (2 ^ 64 - 1) ≤ now
+use Rattle.loop_visit.specs.Seeing.{Seen, AreAnsweredSo, Counts}
 
 -- a part left this state; the text of its events was written, they are in the grammar of traces, and its calls were made
 pub record Acted {S : Type 0} (a b : Seen) (new : S) (o : Out S) : Type 0 where

@@ -1,3 +1,4 @@
+pub mod Seeing
 pub mod Acting
 pub mod Sequels
 pub mod Visiting

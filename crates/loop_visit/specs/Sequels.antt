@@ -1,8 +1,9 @@
 -- Lemmas: one part of the loop behind another; how parts end, for the proofs of the crates above.
-use Rattle.std.proofs.Common.{◌≡◌, ◌≤◌, ℕ, ◌+◌, ◌-◌, ◌^◌, min, true, false, List, [], ◌∷◌, ◌++◌, Option, refl, sym, ◌∙◌, ap, subst, append-nil, append_assoc, arith}
+use Rattle.std.proofs.Common.{◌≡◌, ◌≤◌, ℕ, ◌+◌, ◌-◌, ◌^◌, min, true, false, List, [], ◌∷◌, ◌++◌, refl, sym, ◌∙◌, ap, subst, append-nil, append_assoc, arith}
 use Rattle.er_base.specs.declared.no_memory.NoMemory.{NoMemory as Want}
 use Rattle.link_trait.specs.Outside.{Grew, GrewPart, Rose}
 use Rattle.link_trait.specs.Growth.{grew_nothing, grew_then, part_nothing, part_whole, part_then, part_more}
+use Rattle.link_trait.specs.States.{SinkState, WiresState}
 use Rattle.link_trait.specs.Wires.{Call}
 use Rattle.loop_model.specs.Grammar.{AreInGrammar}
 use Rattle.loop_model.specs.Journals.{Entry, entry_text, text}
@@ -11,7 +12,8 @@ use Rattle.loop_model.specs.Laws.{is_failed, failures}
 use Rattle.loop_session.specs.declared.loop_fault.LoopFault.{LoopFault}
 use Rattle.loop_session.specs.declared.loop_fault.LoopFault.TheVariants.{Wires, Sink, NoMemory}
 use Rattle.loop_session.specs.Parts.{FailedFor, Breaks, Printed}
-use Rattle.loop_visit.specs.Acting.{Seen, seen, IsAnsweredSo, AreAnsweredSo, Counts, Acted, Began, BreaksAt}
+use Rattle.loop_visit.specs.Acting.{Acted, Began, BreaksAt}
+use Rattle.loop_visit.specs.Seeing.{Seen, seen, IsAnsweredSo, AreAnsweredSo, Counts}
 
 -- ---- texts, answers, counts and grammar of both
 
@@ -87,22 +89,22 @@ acted_changed a b g new o p = record {
   in_grammar = p.in_grammar;
 }
 
-pub acted_prints : {S : Type 0} (h i : Option (List ℕ)) (j k : ℕ) (c : Option (List Call)) (u : ℕ) (new : S) (x : S × List Entry) → Printed h i j k new x → Acted (seen h j c u) (seen i k c u) new (prints x)
-acted_prints h i j k c u new x p = record {
+pub acted_prints : {S : Type 0} (h i : SinkState) (c : WiresState) (new : S) (x : S × List Entry) → Printed h i new x → Acted (seen h c) (seen i c) new (prints x)
+acted_prints h i c new x p = record {
   state = p.state;
   printed = p.printed;
   later = p.later;
-  told = grew_nothing c;
+  told = grew_nothing c.calls;
   answered = tt;
-  counted = counts_none u u (let z : u ≤ u = omega arith in z);
+  counted = counts_none c.faults c.faults (let z : c.faults ≤ c.faults = omega arith in z);
   in_grammar = p.in_grammar;
 }
 
-pub acted_makes : {S : Type 0} (h : Option (List ℕ)) (j : ℕ) (c d : Option (List Call)) (u v : ℕ) (s : S) (call : Call)
-    → Grew c d (call ∷ []) → IsAnsweredSo call → Counts u v (call ∷ []) → Acted (seen h j c u) (seen h j d v) s (makes call s)
-acted_makes h j c d u v s call told answered counted = record {
+pub acted_makes : {S : Type 0} (h : SinkState) (c d : WiresState) (s : S) (call : Call)
+    → Grew c.calls d.calls (call ∷ []) → IsAnsweredSo call → Counts c.faults d.faults (call ∷ []) → Acted (seen h c) (seen h d) s (makes call s)
+acted_makes h c d s call told answered counted = record {
   state = refl;
-  printed = grew_nothing h;
+  printed = grew_nothing h.held;
   later = omega arith;
   told = told;
   answered = (answered, tt);
@@ -176,11 +178,11 @@ breaks_next a b c mid o f fault p q = behind (subst (λ z. BreaksAt b c (f z) fa
 pub breaks_changed : {S T : Type 0} (a b : Seen) (g : S → T) (o : Out S) (fault : LoopFault) → BreaksAt a b o fault → BreaksAt a b (changed g o) fault
 breaks_changed a b g o fault p = record { begun = p.begun; calls = p.calls; failed = p.failed }
 
-pub breaks_prints : {S : Type 0} (h i : Option (List ℕ)) (j k : ℕ) (c : Option (List Call)) (u : ℕ) (x : S × List Entry) (fault : LoopFault) → Breaks h i j k (text x.1) fault
-    → BreaksAt (seen h j c u) (seen i k c u) (prints x) fault
-breaks_prints h i j k c u x fault p = record {
+pub breaks_prints : {S : Type 0} (h i : SinkState) (c : WiresState) (x : S × List Entry) (fault : LoopFault) → Breaks h i (text x.1) fault
+    → BreaksAt (seen h c) (seen i c) (prints x) fault
+breaks_prints h i c x fault p = record {
   begun = p.begun;
-  calls = began_none (seen h j c u) (seen i k c u) [] refl (let z : u ≤ u = omega arith in z);
+  calls = began_none (seen h c) (seen i c) [] refl (let z : c.faults ≤ c.faults = omega arith in z);
   failed = p.failed;
 }
 

@@ -4,8 +4,9 @@ ghost use Rattle.std.specs.Prelude.{◌≡◌, ◌≢◌, ◌≤◌, ℕ, length
 ghost use Rattle.link_trait.specs.Wires.{reading_of};
 ghost use Rattle.loop_model.specs.Visits.{came, read_once, rests_behind};
 ghost use Rattle.loop_model.specs.Outs.{next};
+ghost use Rattle.loop_session.specs.Keeping.{kept_ends};
 ghost use Rattle.loop_session.specs.Parts.{rules, Chooses};
-ghost use Rattle.loop_visit.specs.Acting.{seen};
+ghost use Rattle.loop_visit.specs.Seeing.{seen};
 ghost use Rattle.loop_visit.specs.Visiting.{Visits, reads};
 
 use crate::writing::rest;
@@ -47,10 +48,10 @@ fn take_in<U: SafeUser, K: KeyFinder, S: Sink>(
     requires setup { when.setup ≤ 600000 }
     requires octets { length octets.now ≤ 4096 }
     requires fits { (n : ℕ) → answer ≡ ReadAnswer.Some n → (1 ≤ n) × (n ≤ length octets.now) }
-    ensures chooses { Chooses (S.held sink.old) (S.held sink.new) (S.faults sink.old) (S.faults sink.new) session.new
-        (came (reading_of answer octets.now) (rules (K.entries keys.now) when.setup) when.moment session.old) result }
+    ensures chooses { Chooses (S.state sink.old) (S.state sink.new) session.new
+        (came kept_ends (reading_of answer octets.now) (rules (K.entries keys.now) when.setup) when.moment session.old) result }
     ensures number { session.new.number ≡ session.old.number }
-    ensures later { S.faults sink.old ≤ S.faults sink.new }
+    ensures later { (S.state sink.old).faults ≤ (S.state sink.new).faults }
 {
     match answer {
         ReadAnswer::Some(count) => session.pour(front(octets, count), keys, when, scratch, sink),
@@ -71,15 +72,15 @@ pub(crate) fn read<U: SafeUser, K: KeyFinder, W: Wires, S: Sink>(
 ) -> Result<bool, LoopFault>
     requires moment { when.moment ≤ 1000000000000000 }
     requires setup { when.setup ≤ 600000 }
-    ensures does { Visits (seen (S.held sink.old) (S.faults sink.old) (W.calls wires.old) (W.faults wires.old))
-        (seen (S.held sink.new) (S.faults sink.new) (W.calls wires.new) (W.faults wires.new))
+    ensures does { Visits (seen (S.state sink.old) (W.state wires.old))
+        (seen (S.state sink.new) (W.state wires.new))
         session.new (reads (rules (K.entries keys.now) when.setup) when.moment session.old) result }
     ensures number { session.new.number ≡ session.old.number }
-    ensures sunk { S.faults sink.old ≤ S.faults sink.new }
-    ensures count { W.faults wires.old ≤ W.faults wires.new }
-    ensures opened { W.opened wires.new ≡ W.opened wires.old }
-    ensures listening { W.listening wires.new ≡ W.listening wires.old }
-    ensures turn_count { W.turn_faults wires.new ≡ W.turn_faults wires.old }
+    ensures sunk { (S.state sink.old).faults ≤ (S.state sink.new).faults }
+    ensures count { (W.state wires.old).faults ≤ (W.state wires.new).faults }
+    ensures opened { (W.state wires.new).opened ≡ (W.state wires.old).opened }
+    ensures listening { (W.state wires.new).listening ≡ (W.state wires.old).listening }
+    ensures turn_count { (W.state wires.new).turn_faults ≡ (W.state wires.old).turn_faults }
 {
     let mut octets = [0; MOST_READ];
     let answer = wires.read(Conn(session.number()), &mut octets);

@@ -4,8 +4,9 @@ ghost use Rattle.std.specs.Prelude.{◌≡◌, ◌≤◌, ◌<◌, ◌^◌, List
 ghost use Rattle.loop_model.specs.Sessions.{Begins};
 ghost use Rattle.safety_automaton.specs.Keys as keys;
 ghost use Rattle.loop_model.specs.Visits.{visited, served, is_due, Tick as VisitTick};
+ghost use Rattle.loop_session.specs.Keeping.{kept_ends};
 ghost use Rattle.loop_session.specs.Parts.{rules};
-ghost use Rattle.loop_visit.specs.Acting.{seen};
+ghost use Rattle.loop_visit.specs.Seeing.{seen};
 ghost use Rattle.loop_visit.specs.Visiting.{visit_of, Visits};
 ghost use Rattle.loop_visit.specs.Writing.{Expires};
 
@@ -49,15 +50,15 @@ fn tick<U: SafeUser, W: Wires, S: Sink>(
 ) -> Result<bool, LoopFault>
     requires moment { when.moment ≤ 1000000000000000 }
     requires setup { when.setup ≤ 600000 }
-    ensures does { (entries : List keys.Entry) → Visits (seen (S.held sink.old) (S.faults sink.old) (W.calls wires.old) (W.faults wires.old))
-        (seen (S.held sink.new) (S.faults sink.new) (W.calls wires.new) (W.faults wires.new))
-        session.new (visited (rules entries when.setup) when.moment VisitTick session.old) result }
+    ensures does { (entries : List keys.Entry) → Visits (seen (S.state sink.old) (W.state wires.old))
+        (seen (S.state sink.new) (W.state wires.new))
+        session.new (visited kept_ends (rules entries when.setup) when.moment VisitTick session.old) result }
     ensures number { session.new.number ≡ session.old.number }
-    ensures sunk { S.faults sink.old ≤ S.faults sink.new }
-    ensures count { W.faults wires.old ≤ W.faults wires.new }
-    ensures opened { W.opened wires.new ≡ W.opened wires.old }
-    ensures listening { W.listening wires.new ≡ W.listening wires.old }
-    ensures turn_count { W.turn_faults wires.new ≡ W.turn_faults wires.old }
+    ensures sunk { (S.state sink.old).faults ≤ (S.state sink.new).faults }
+    ensures count { (W.state wires.old).faults ≤ (W.state wires.new).faults }
+    ensures opened { (W.state wires.new).opened ≡ (W.state wires.old).opened }
+    ensures listening { (W.state wires.new).listening ≡ (W.state wires.old).listening }
+    ensures turn_count { (W.state wires.new).turn_faults ≡ (W.state wires.old).turn_faults }
 {
     if is_due(when.moment, session.deadline()) {
         match session.tick(when, scratch, sink) {
@@ -71,11 +72,11 @@ fn tick<U: SafeUser, W: Wires, S: Sink>(
 
 // A session is closed, where its closing moment has come. Whether it stays.
 fn expire<U: SafeUser, W: Wires>(session: &Session<U>, when: When, wires: &mut W) -> bool
-    ensures expires { Expires (W.calls wires.old) (W.calls wires.new) (W.faults wires.old) (W.faults wires.new) when.moment session.now result }
-    ensures count { W.faults wires.old ≤ W.faults wires.new }
-    ensures opened { W.opened wires.new ≡ W.opened wires.old }
-    ensures listening { W.listening wires.new ≡ W.listening wires.old }
-    ensures turn_count { W.turn_faults wires.new ≡ W.turn_faults wires.old }
+    ensures expires { Expires (W.state wires.old) (W.state wires.new) when.moment session.now result }
+    ensures count { (W.state wires.old).faults ≤ (W.state wires.new).faults }
+    ensures opened { (W.state wires.new).opened ≡ (W.state wires.old).opened }
+    ensures listening { (W.state wires.new).listening ≡ (W.state wires.old).listening }
+    ensures turn_count { (W.state wires.new).turn_faults ≡ (W.state wires.old).turn_faults }
 {
     if is_due(when.moment, session.closing()) {
         wires.close(Conn(session.number()));
@@ -96,15 +97,15 @@ pub fn visit_session<U: SafeUser, K: KeyFinder, W: Wires, S: Sink>(
 ) -> Result<bool, LoopFault>
     requires moment { when.moment ≤ 1000000000000000 }
     requires setup { when.setup ≤ 600000 }
-    ensures does { Visits (seen (S.held sink.old) (S.faults sink.old) (W.calls wires.old) (W.faults wires.old))
-        (seen (S.held sink.new) (S.faults sink.new) (W.calls wires.new) (W.faults wires.new))
-        session.new (visited (rules (K.entries keys.now) when.setup) when.moment (visit_of visit) session.old) result }
+    ensures does { Visits (seen (S.state sink.old) (W.state wires.old))
+        (seen (S.state sink.new) (W.state wires.new))
+        session.new (visited kept_ends (rules (K.entries keys.now) when.setup) when.moment (visit_of visit) session.old) result }
     ensures number { session.new.number ≡ session.old.number }
-    ensures sunk { S.faults sink.old ≤ S.faults sink.new }
-    ensures count { W.faults wires.old ≤ W.faults wires.new }
-    ensures opened { W.opened wires.new ≡ W.opened wires.old }
-    ensures listening { W.listening wires.new ≡ W.listening wires.old }
-    ensures turn_count { W.turn_faults wires.new ≡ W.turn_faults wires.old }
+    ensures sunk { (S.state sink.old).faults ≤ (S.state sink.new).faults }
+    ensures count { (W.state wires.old).faults ≤ (W.state wires.new).faults }
+    ensures opened { (W.state wires.new).opened ≡ (W.state wires.old).opened }
+    ensures listening { (W.state wires.new).listening ≡ (W.state wires.old).listening }
+    ensures turn_count { (W.state wires.new).turn_faults ≡ (W.state wires.old).turn_faults }
 {
     match visit {
         Visit::Tick => tick(session, when, scratch, wires, sink),
@@ -133,15 +134,15 @@ pub fn begin_call<U: SafeUser, K: KeyFinder, W: Wires, S: Sink>(
     requires engine { call.now.engine < 2 ^ 24 }
     requires rbc { call.now.rbc < 2 ^ 24 }
     requires setup { when.setup ≤ 600000 }
-    ensures does { Visits (seen (S.held sink.old) (S.faults sink.old) (W.calls wires.old) (W.faults wires.old))
-        (seen (S.held sink.new) (S.faults sink.new) (W.calls wires.new) (W.faults wires.new))
-        session.new (served (rules (K.entries keys.now) when.setup) when.moment session.old (Begins call.now.engine call.now.rbc call.now.rb)) result }
+    ensures does { Visits (seen (S.state sink.old) (W.state wires.old))
+        (seen (S.state sink.new) (W.state wires.new))
+        session.new (served kept_ends (rules (K.entries keys.now) when.setup) when.moment session.old (Begins call.now.engine call.now.rbc call.now.rb)) result }
     ensures number { session.new.number ≡ session.old.number }
-    ensures sunk { S.faults sink.old ≤ S.faults sink.new }
-    ensures count { W.faults wires.old ≤ W.faults wires.new }
-    ensures opened { W.opened wires.new ≡ W.opened wires.old }
-    ensures listening { W.listening wires.new ≡ W.listening wires.old }
-    ensures turn_count { W.turn_faults wires.new ≡ W.turn_faults wires.old }
+    ensures sunk { (S.state sink.old).faults ≤ (S.state sink.new).faults }
+    ensures count { (W.state wires.old).faults ≤ (W.state wires.new).faults }
+    ensures opened { (W.state wires.new).opened ≡ (W.state wires.old).opened }
+    ensures listening { (W.state wires.new).listening ≡ (W.state wires.old).listening }
+    ensures turn_count { (W.state wires.new).turn_faults ≡ (W.state wires.old).turn_faults }
 {
     match session.call(call, when, scratch, sink) {
         Ok(()) => {}

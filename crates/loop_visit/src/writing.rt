@@ -4,8 +4,10 @@ ghost use Rattle.std.specs.Prelude.{◌≡◌, ◌≤◌, ◌||◌, ◌&&◌, �
 ghost use Rattle.safety_automaton.specs.Keys as keys;
 ghost use Rattle.loop_model.specs.Sessions.{is_released};
 ghost use Rattle.loop_model.specs.Visits.{written, settled, rests};
+ghost use Rattle.loop_session.specs.Keeping.{kept_ends};
 ghost use Rattle.loop_session.specs.Parts.{rules};
-ghost use Rattle.loop_visit.specs.Acting.{seen, Does};
+ghost use Rattle.loop_visit.specs.Acting.{Does};
+ghost use Rattle.loop_visit.specs.Seeing.{seen};
 ghost use Rattle.loop_visit.specs.Visiting.{left, Visits};
 ghost use Rattle.loop_visit.specs.Writing.{Wrote, Settles};
 
@@ -26,12 +28,12 @@ enum Flow {
 // The output is written until nothing waits, or there is no room, or a write fails.
 #[tactic(auto, using(crate::proofs::Writings::wrote_none, crate::proofs::Writings::wrote_more, crate::proofs::Writings::wrote_all))]
 fn write_all<U: SafeUser, W: Wires>(session: &mut Session<U>, wires: &mut W) -> Flow
-    ensures wrote { Wrote (W.calls wires.old) (W.calls wires.new) (W.faults wires.old) (W.faults wires.new) session.old session.new result }
+    ensures wrote { Wrote (W.state wires.old) (W.state wires.new) session.old session.new result }
     ensures number { session.new.number ≡ session.old.number }
-    ensures count { W.faults wires.old ≤ W.faults wires.new }
-    ensures opened { W.opened wires.new ≡ W.opened wires.old }
-    ensures listening { W.listening wires.new ≡ W.listening wires.old }
-    ensures turn_count { W.turn_faults wires.new ≡ W.turn_faults wires.old }
+    ensures count { (W.state wires.old).faults ≤ (W.state wires.new).faults }
+    ensures opened { (W.state wires.new).opened ≡ (W.state wires.old).opened }
+    ensures listening { (W.state wires.new).listening ≡ (W.state wires.old).listening }
+    ensures turn_count { (W.state wires.new).turn_faults ≡ (W.state wires.old).turn_faults }
 {
     while !session.output().is_empty() {
         match wires.write(Conn(session.number()), session.output()) {
@@ -53,15 +55,15 @@ fn write_out<U: SafeUser, W: Wires, S: Sink>(
 ) -> Result<(), LoopFault>
     requires moment { when.moment ≤ 1000000000000000 }
     requires setup { when.setup ≤ 600000 }
-    ensures does { (entries : List keys.Entry) → Does (seen (S.held sink.old) (S.faults sink.old) (W.calls wires.old) (W.faults wires.old))
-        (seen (S.held sink.new) (S.faults sink.new) (W.calls wires.new) (W.faults wires.new))
-        session.new (written (rules entries when.setup) when.moment session.old) result }
+    ensures does { (entries : List keys.Entry) → Does (seen (S.state sink.old) (W.state wires.old))
+        (seen (S.state sink.new) (W.state wires.new))
+        session.new (written kept_ends (rules entries when.setup) when.moment session.old) result }
     ensures number { session.new.number ≡ session.old.number }
-    ensures sunk { S.faults sink.old ≤ S.faults sink.new }
-    ensures count { W.faults wires.old ≤ W.faults wires.new }
-    ensures opened { W.opened wires.new ≡ W.opened wires.old }
-    ensures listening { W.listening wires.new ≡ W.listening wires.old }
-    ensures turn_count { W.turn_faults wires.new ≡ W.turn_faults wires.old }
+    ensures sunk { (S.state sink.old).faults ≤ (S.state sink.new).faults }
+    ensures count { (W.state wires.old).faults ≤ (W.state wires.new).faults }
+    ensures opened { (W.state wires.new).opened ≡ (W.state wires.old).opened }
+    ensures listening { (W.state wires.new).listening ≡ (W.state wires.old).listening }
+    ensures turn_count { (W.state wires.new).turn_faults ≡ (W.state wires.old).turn_faults }
 {
     if session.is_broken() {
         return Ok(());
@@ -81,11 +83,11 @@ fn write_out<U: SafeUser, W: Wires, S: Sink>(
 
 // Whether a session stays: it is closed as soon as it broke off, or once it is released and nothing waits.
 fn settle<U: SafeUser, W: Wires>(session: &Session<U>, wires: &mut W) -> bool
-    ensures settles { Settles (W.calls wires.old) (W.calls wires.new) (W.faults wires.old) (W.faults wires.new) session.now result }
-    ensures count { W.faults wires.old ≤ W.faults wires.new }
-    ensures opened { W.opened wires.new ≡ W.opened wires.old }
-    ensures listening { W.listening wires.new ≡ W.listening wires.old }
-    ensures turn_count { W.turn_faults wires.new ≡ W.turn_faults wires.old }
+    ensures settles { Settles (W.state wires.old) (W.state wires.new) session.now result }
+    ensures count { (W.state wires.old).faults ≤ (W.state wires.new).faults }
+    ensures opened { (W.state wires.new).opened ≡ (W.state wires.old).opened }
+    ensures listening { (W.state wires.new).listening ≡ (W.state wires.old).listening }
+    ensures turn_count { (W.state wires.new).turn_faults ≡ (W.state wires.old).turn_faults }
 {
     if is_done(session) {
         wires.close(Conn(session.number()));
@@ -96,7 +98,7 @@ fn settle<U: SafeUser, W: Wires>(session: &Session<U>, wires: &mut W) -> bool
 
 // Whether the connection of a session is to be closed at once.
 fn is_done<U: SafeUser>(session: &Session<U>) -> bool
-    ensures { result ≡ (session.now.broken || (is_released session.now && (length session.now.output == 0))) }
+    ensures { result ≡ (session.now.broken || (is_released kept_ends session.now && (length session.now.output == 0))) }
 {
     if session.is_broken() {
         return true;
@@ -117,15 +119,15 @@ pub(crate) fn rest<U: SafeUser, W: Wires, S: Sink>(
 ) -> Result<bool, LoopFault>
     requires moment { when.moment ≤ 1000000000000000 }
     requires setup { when.setup ≤ 600000 }
-    ensures does { (entries : List keys.Entry) → Visits (seen (S.held sink.old) (S.faults sink.old) (W.calls wires.old) (W.faults wires.old))
-        (seen (S.held sink.new) (S.faults sink.new) (W.calls wires.new) (W.faults wires.new))
-        session.new (rests (rules entries when.setup) when.moment session.old) result }
+    ensures does { (entries : List keys.Entry) → Visits (seen (S.state sink.old) (W.state wires.old))
+        (seen (S.state sink.new) (W.state wires.new))
+        session.new (rests kept_ends (rules entries when.setup) when.moment session.old) result }
     ensures number { session.new.number ≡ session.old.number }
-    ensures sunk { S.faults sink.old ≤ S.faults sink.new }
-    ensures count { W.faults wires.old ≤ W.faults wires.new }
-    ensures opened { W.opened wires.new ≡ W.opened wires.old }
-    ensures listening { W.listening wires.new ≡ W.listening wires.old }
-    ensures turn_count { W.turn_faults wires.new ≡ W.turn_faults wires.old }
+    ensures sunk { (S.state sink.old).faults ≤ (S.state sink.new).faults }
+    ensures count { (W.state wires.old).faults ≤ (W.state wires.new).faults }
+    ensures opened { (W.state wires.new).opened ≡ (W.state wires.old).opened }
+    ensures listening { (W.state wires.new).listening ≡ (W.state wires.old).listening }
+    ensures turn_count { (W.state wires.new).turn_faults ≡ (W.state wires.old).turn_faults }
 {
     match write_out(session, when, scratch, wires, sink) {
         Ok(()) => {}

@@ -1,4 +1,6 @@
 -- A connection that was accepted gets a session, or is turned away; and what is handled whole behind a turn.
+use Rattle.er_end.specs.KeptEnds.{KEnd}
+use Rattle.loop_session.specs.Keeping.{kept_ends}
 use Rattle.std.proofs.Common.{◌≡◌, ℕ, ◌-◌, ◌^◌, ◌<◌, ◌≤◌, nat_lt, true, false, List, [], ◌∷◌, ◌++◌, Option, Some, None, Result, Ok, Err, OnOk, length, take, zero, suc, slice_get, refl, sym, ◌∙◌, ap, subst, arith, length-append}
 use Rattle.std.proofs.lemmas.Bool.Decides.{nat_tests}
 use Rattle.rand_core.specs.Stream.{Stream, next_u64}
@@ -8,6 +10,7 @@ use Rattle.er_trace.specs.Ranges.{IsInRange}
 use Rattle.er_trace.specs.declared.event.Event.{Event}
 use Rattle.er_trace.specs.declared.event.Event.TheVariants as event
 use Rattle.er_users.specs.Users.{Mind}
+use Rattle.link_trait.specs.States.{SinkState, WiresState}
 use Rattle.link_trait.specs.Outside.{Grew, GrewPart}
 use Rattle.link_trait.specs.Growth.{grew_nothing, part_nothing, part_whole}
 use Rattle.link_trait.specs.Wires.{Call, Closes}
@@ -20,7 +23,8 @@ use Rattle.loop_model.specs.Loops.{Plan, Loop, turned_away, next_user, other_use
 use Rattle.loop_session.specs.Parts.{Breaks, Puts}
 use Rattle.loop_session.specs.declared.loop_fault.LoopFault.{LoopFault}
 use Rattle.loop_session.specs.declared.loop_fault.LoopFault.TheVariants.{NoMemory}
-use Rattle.loop_visit.specs.Acting.{Seen, seen, Acted, Began, BreaksAt}
+use Rattle.loop_visit.specs.Acting.{Acted, Began, BreaksAt}
+use Rattle.loop_visit.specs.Seeing.{Seen, seen}
 use Rattle.readiness_loop.specs.Books.{seat, seats, sessions, sessions_at, IsSeat, AreSeated}
 use Rattle.std.specs.BTreeMap.{BTreeMap}
 use Rattle.readiness_loop.specs.Courses.{Acts, answer_event, answered, loop_of}
@@ -30,23 +34,23 @@ failures-close : (conn : ℕ) → failures (Closes conn ∷ []) ≡ 0
 unfolding failures
 failures-close conn = refl
 
-began_nothing : (h i : Option (List ℕ)) (f g : ℕ) (calls : Option (List Call)) (failed : ℕ) (all : List Call)
-    → Began (seen h f calls failed) (seen i g calls failed) all
-began_nothing h i f g calls failed all = record {
+began_nothing : (h i : SinkState) (calls : WiresState) (all : List Call)
+    → Began (seen h calls) (seen i calls) all
+began_nothing h i calls all = record {
   part = [];
   rest = all;
   is = refl;
-  told = grew_nothing calls;
+  told = grew_nothing calls.calls;
   answered = tt;
   counted = rw failures-none (omega arith);
 }
 
 -- a line that wasn't written whole
-pub line_breaks : {S : Type 0} (h i : Option (List ℕ)) (f g : ℕ) (calls : Option (List Call)) (failed : ℕ) (o : Out S) (line : List ℕ) (fault : LoopFault)
-    → line ≡ text o.entries → Breaks h i f g line fault → BreaksAt (seen h f calls failed) (seen i g calls failed) o fault
-line_breaks h i f g calls failed o line fault is p = record {
-  begun = subst (λ z. GrewPart h i z) is p.begun;
-  calls = began_nothing h i f g calls failed o.calls;
+pub line_breaks : {S : Type 0} (h i : SinkState) (calls : WiresState) (o : Out S) (line : List ℕ) (fault : LoopFault)
+    → line ≡ text o.entries → Breaks h i line fault → BreaksAt (seen h calls) (seen i calls) o fault
+line_breaks h i calls o line fault is p = record {
+  begun = subst (λ z. GrewPart h.held i.held z) is p.begun;
+  calls = began_nothing h i calls o.calls;
   failed = p.failed;
 }
 
@@ -55,22 +59,22 @@ abbrev pub answer_line : (rbc moment conn ra : ℕ) → Entry
 answer_line rbc moment conn ra = record { moment = moment; conn = conn; event = event.Answer rbc ra; outcomes = [] }
 
 -- memory ran out before a line was written, and behind it
-pub line_wanted : (a : Option (List ℕ)) (f : ℕ) (line : List ℕ) (want : Want) → Breaks a a f f line (NoMemory want)
-line_wanted a f line want = record { begun = part_nothing a line; failed = (let p : f ≤ f = omega arith in p) }
+pub line_wanted : (a : SinkState) (line : List ℕ) (want : Want) → Breaks a a line (NoMemory want)
+line_wanted a line want = record { begun = part_nothing a.held line; failed = (let p : a.faults ≤ a.faults = omega arith in p) }
 
-pub puts_wanted : {T : Type 0} (a : Option (List ℕ)) (f : ℕ) (line : List ℕ) (r : Result T LoopFault) (fault : LoopFault) (want : Want)
-    → r ≡ Err fault → fault ≡ NoMemory want → Puts a a f f line r
-puts_wanted a f line (Ok done) fault want p q = absurd cc
-puts_wanted a f line (Err other) fault want p q =
+pub puts_wanted : {T : Type 0} (a : SinkState) (line : List ℕ) (r : Result T LoopFault) (fault : LoopFault) (want : Want)
+    → r ≡ Err fault → fault ≡ NoMemory want → Puts a a line r
+puts_wanted a line (Ok done) fault want p q = absurd cc
+puts_wanted a line (Err other) fault want p q =
     let same : other ≡ NoMemory want = cc in
-    subst (λ z. Breaks a a f f line z) (sym same) (line_wanted a f line want)
+    subst (λ z. Breaks a a line z) (sym same) (line_wanted a line want)
 
-pub puts_behind : {T : Type 0} (a b : Option (List ℕ)) (f g : ℕ) (line : List ℕ) (r : Result T LoopFault) (fault : LoopFault) (want : Want)
-    → Grew a b line × (f ≤ g) → r ≡ Err fault → fault ≡ NoMemory want → Puts a b f g line r
-puts_behind a b f g line (Ok done) fault want put p q = absurd cc
-puts_behind a b f g line (Err other) fault want put p q =
+pub puts_behind : {T : Type 0} (a b : SinkState) (line : List ℕ) (r : Result T LoopFault) (fault : LoopFault) (want : Want)
+    → Grew a.held b.held line × (a.faults ≤ b.faults) → r ≡ Err fault → fault ≡ NoMemory want → Puts a b line r
+puts_behind a b line (Ok done) fault want put p q = absurd cc
+puts_behind a b line (Err other) fault want put p q =
     let same : other ≡ NoMemory want = cc in
-    subst (λ z. Breaks a b f g line z) (sym same) (record { begun = part_whole a b line put.0; failed = put.1 })
+    subst (λ z. Breaks a b line z) (sym same) (record { begun = part_whole a.held b.held line put.0; failed = put.1 })
 
 -- an event without an outcome, in its ranges
 pub opens_so : (m conn : ℕ) (event : Event) → m ≤ 1000000000000000 → conn < 2 ^ 64 → IsInRange event
@@ -81,18 +85,18 @@ opens_so m conn event p q r = record { event = record { moment = p; conn = q; ev
 abbrev away_event : ℕ → ℕ → Event → Entry
 away_event m conn why = record { moment = m; conn = conn; event = why; outcomes = [] }
 
-pub away_breaks : (h i : Option (List ℕ)) (f g : ℕ) (calls : Option (List Call)) (failed : ℕ) (l : Loop) (m conn : ℕ) (why : Event) (fault : LoopFault)
-    → l.moment ≡ m → Breaks h i f g (text (away_event m conn why ∷ [])) fault
-    → BreaksAt (seen h f calls failed) (seen i g calls failed) (turned_away l conn why) fault
-away_breaks h i f g calls failed l m conn why fault is p =
-    line_breaks h i f g calls failed (turned_away l conn why) (text (away_event m conn why ∷ [])) fault (ap (λ z. text (away_event z conn why ∷ [])) (sym is)) p
+pub away_breaks : (h i : SinkState) (calls : WiresState) (l : Loop KEnd) (m conn : ℕ) (why : Event) (fault : LoopFault)
+    → l.moment ≡ m → Breaks h i (text (away_event m conn why ∷ [])) fault
+    → BreaksAt (seen h calls) (seen i calls) (turned_away l conn why) fault
+away_breaks h i calls l m conn why fault is p =
+    line_breaks h i calls (turned_away l conn why) (text (away_event m conn why ∷ [])) fault (ap (λ z. text (away_event z conn why ∷ [])) (sym is)) p
 
-pub away_acted : (h i : Option (List ℕ)) (f g : ℕ) (calls now : Option (List Call)) (x y : ℕ) (l : Loop) (m conn : ℕ) (why : Event)
-    → l.moment ≡ m → IsInGrammar (away_event m conn why) → Grew h i (text (away_event m conn why ∷ [])) × (f ≤ g) → Grew calls now (Closes conn ∷ []) → x ≤ y
-    → Acted (seen h f calls x) (seen i g now y) l (turned_away l conn why)
-away_acted h i f g calls now x y l m conn why is grammar p q less = record {
+pub away_acted : (h i : SinkState) (calls now : WiresState) (l : Loop KEnd) (m conn : ℕ) (why : Event)
+    → l.moment ≡ m → IsInGrammar (away_event m conn why) → Grew h.held i.held (text (away_event m conn why ∷ [])) × (h.faults ≤ i.faults) → Grew calls.calls now.calls (Closes conn ∷ []) → calls.faults ≤ now.faults
+    → Acted (seen h calls) (seen i now) l (turned_away l conn why)
+away_acted h i calls now l m conn why is grammar p q less = record {
   state = refl;
-  printed = subst (λ z. Grew h i (text (away_event z conn why ∷ []))) (sym is) p.0;
+  printed = subst (λ z. Grew h.held i.held (text (away_event z conn why ∷ []))) (sym is) p.0;
   later = p.1;
   told = q;
   answered = (tt, tt);
@@ -102,12 +106,12 @@ away_acted h i f g calls now x y l m conn why is grammar p q less = record {
 
 -- ---- accepted
 
-pub length_sessions : (newest : ℕ) (slots : Slab Session) (es : List (ℕ × ℕ)) → AreSeated newest slots es → length (sessions_at slots es) ≡ length es
+pub length_sessions : (newest : ℕ) (slots : Slab (Session KEnd)) (es : List (ℕ × ℕ)) → AreSeated newest slots es → length (sessions_at slots es) ≡ length es
 unfolding seats AreSeated
 length_sessions newest slots [] p = refl
 length_sessions newest slots (e ∷ es) p = of_seat (get slots e.1) p.1 (length_sessions newest slots es p.3)
   where
-    of_seat : (o : Option Session) → IsSeat e.0 o → length (sessions_at slots es) ≡ length es → length (seat o (sessions_at slots es)) ≡ length (e ∷ es)
+    of_seat : (o : Option (Session KEnd)) → IsSeat e.0 o → length (sessions_at slots es) ≡ length es → length (seat o (sessions_at slots es)) ≡ length (e ∷ es)
     of_seat None q h = absurd q
     of_seat (Some s) q h = omega (arith, h)
 
@@ -117,11 +121,11 @@ not_below n p = grind (arith, nat_tests, p)
 is_below : (n : ℕ) → n < 256 → nat_lt n 256 ≡ true
 is_below n p = grind (arith, nat_tests, p)
 
-acts_as : {T : Type 0} (a b : Seen) (x y : Loop) (o p : Out Loop) (r : Result T LoopFault) → y ≡ x → o ≡ p → Acts a b x o r → Acts a b y p r
+acts_as : {T : Type 0} (a b : Seen) (x y : Loop KEnd) (o p : Out (Loop KEnd)) (r : Result T LoopFault) → y ≡ x → o ≡ p → Acts a b x o r → Acts a b y p r
 acts_as a b x y o p r same is q = subst (λ z. Acts a b z p r) (sym same) (subst (λ z. Acts a b x z r) is q)
 
-pub accept_full : {T : Type 0} (a b : Seen) (plan : Plan) (l new : Loop) (conn : ℕ) (r : Result T LoopFault)
-    → 256 ≤ length l.sessions → new ≡ l → Acts a b l (turned_away l conn (event.Full 256)) r → Acts a b new (accepted plan l conn) r
+pub accept_full : {T : Type 0} (a b : Seen) (plan : Plan) (l new : Loop KEnd) (conn : ℕ) (r : Result T LoopFault)
+    → 256 ≤ length l.sessions → new ≡ l → Acts a b l (turned_away l conn (event.Full 256)) r → Acts a b new (accepted kept_ends plan l conn) r
 unfolding accepted
 accept_full a b plan l new conn r many same p =
     acts_as a b l new (turned_away l conn (event.Full 256)) _ r same (sym (rw (not_below (length l.sessions) many) refl)) p
@@ -144,16 +148,16 @@ other_ones ms m = up_to ms (length (ms ++ m ∷ []) - 1) (let h = length-append 
     up_to (n ∷ ms) zero p = absurd (let q : 0 ≡ length (n ∷ ms) = p in omega (arith, q))
     up_to (n ∷ ms) (suc i) p = ap (λ z. n ∷ z) (up_to ms i (omega (arith, p)))
 
-pub accept_unserved : {T : Type 0} (a b : Seen) (plan : Plan) (l new : Loop) (conn : ℕ) (r : Result T LoopFault)
+pub accept_unserved : {T : Type 0} (a b : Seen) (plan : Plan) (l new : Loop KEnd) (conn : ℕ) (r : Result T LoopFault)
     → length l.sessions < 256 → l.users ≡ [] → new ≡ l → Acts a b l (turned_away l conn (event.Unserved plan.handed)) r
-    → Acts a b new (accepted plan l conn) r
+    → Acts a b new (accepted kept_ends plan l conn) r
 unfolding accepted
 accept_unserved a b plan l new conn r few none same p =
     acts_as a b l new (turned_away l conn (event.Unserved plan.handed)) _ r same
-    (sym (rw (is_below (length l.sessions) few) (ap (λ z. answered_by z plan l conn) (ap next_user none)))) p
+    (sym (rw (is_below (length l.sessions) few) (ap (λ z. answered_by kept_ends z plan l conn) (ap next_user none)))) p
 
 -- the loop behind it
-abbrev pub answered_loop : Plan → Loop → List Mind → Mind → ℕ → Loop
+abbrev pub answered_loop : Plan → Loop KEnd → List Mind → Mind → ℕ → Loop KEnd
 answered_loop plan l users mind conn = record {
   sessions = l.sessions ++ answered l.words plan.settings plan.rbc l.moment conn mind ∷ [];
   users = users;
@@ -162,66 +166,66 @@ answered_loop plan l users mind conn = record {
 }
 
 -- by the result of writing the line
-answered_by_result : {T : Type 0} (h i : Option (List ℕ)) (f g : ℕ) (calls : Option (List Call)) (failed : ℕ) (plan : Plan) (l new : Loop) (users : List Mind) (mind : Mind) (conn : ℕ) (r : Result T LoopFault)
-    → l.users ≡ users ++ mind ∷ [] → answered_by (Some mind) plan l conn ≡ accepted plan l conn
+answered_by_result : {T : Type 0} (h i : SinkState) (calls : WiresState) (plan : Plan) (l new : Loop KEnd) (users : List Mind) (mind : Mind) (conn : ℕ) (r : Result T LoopFault)
+    → l.users ≡ users ++ mind ∷ [] → answered_by kept_ends (Some mind) plan l conn ≡ accepted kept_ends plan l conn
     → OnOk r (IsInGrammar (answer_event l.words plan.rbc l.moment conn))
-    → Puts h i f g (text (answer_event l.words plan.rbc l.moment conn ∷ [])) r
+    → Puts h i (text (answer_event l.words plan.rbc l.moment conn ∷ [])) r
     → OnOk r (new ≡ answered_loop plan l users mind conn)
-    → Acts (seen h f calls failed) (seen i g calls failed) new (accepted plan l conn) r
-answered_by_result h i f g calls failed plan l new users mind conn (Ok done) has same grammar p is =
-    subst (λ z. Acted (seen h f calls failed) (seen i g calls failed) new z) same
+    → Acts (seen h calls) (seen i calls) new (accepted kept_ends plan l conn) r
+answered_by_result h i calls plan l new users mind conn (Ok done) has same grammar p is =
+    subst (λ z. Acted (seen h calls) (seen i calls) new z) same
     (record {
       state = is ∙ ap (λ (z : List Mind). answered_loop plan l z mind conn) (sym (ap other_users has ∙ other_ones users mind));
       printed = p.0;
       later = p.1;
-      told = grew_nothing calls;
+      told = grew_nothing calls.calls;
       answered = tt;
       counted = rw failures-none (omega arith);
       in_grammar = (grammar, tt);
     })
-answered_by_result h i f g calls failed plan l new users mind conn (Err fault) has same grammar p is =
-    subst (λ z. BreaksAt (seen h f calls failed) (seen i g calls failed) z fault) same
-    (line_breaks h i f g calls failed (answered_by (Some mind) plan l conn) (text (answer_event l.words plan.rbc l.moment conn ∷ [])) fault refl p)
+answered_by_result h i calls plan l new users mind conn (Err fault) has same grammar p is =
+    subst (λ z. BreaksAt (seen h calls) (seen i calls) z fault) same
+    (line_breaks h i calls (answered_by kept_ends (Some mind) plan l conn) (text (answer_event l.words plan.rbc l.moment conn ∷ [])) fault refl p)
 
-pub accept_answered : {T : Type 0} (h i : Option (List ℕ)) (f g : ℕ) (calls : Option (List Call)) (failed : ℕ) (plan : Plan) (l new : Loop) (users : List Mind) (mind : Mind) (conn : ℕ) (r : Result T LoopFault)
+pub accept_answered : {T : Type 0} (h i : SinkState) (calls : WiresState) (plan : Plan) (l new : Loop KEnd) (users : List Mind) (mind : Mind) (conn : ℕ) (r : Result T LoopFault)
     → length l.sessions < 256 → l.users ≡ users ++ mind ∷ []
     → OnOk r (IsInGrammar (answer_event l.words plan.rbc l.moment conn))
-    → Puts h i f g (text (answer_event l.words plan.rbc l.moment conn ∷ [])) r
+    → Puts h i (text (answer_event l.words plan.rbc l.moment conn ∷ [])) r
     → OnOk r (new ≡ answered_loop plan l users mind conn)
-    → Acts (seen h f calls failed) (seen i g calls failed) new (accepted plan l conn) r
+    → Acts (seen h calls) (seen i calls) new (accepted kept_ends plan l conn) r
 unfolding accepted
-accept_answered h i f g calls failed plan l new users mind conn r few has grammar p is =
-    let o : Out Loop = answered_by (Some mind) plan l conn in
-    let same : o ≡ accepted plan l conn = sym (rw (is_below (length l.sessions) few) (ap (λ z. answered_by z plan l conn) (ap next_user has ∙ last_user users mind))) in
-    answered_by_result h i f g calls failed plan l new users mind conn r has same grammar p is
+accept_answered h i calls plan l new users mind conn r few has grammar p is =
+    let o : Out (Loop KEnd) = answered_by kept_ends (Some mind) plan l conn in
+    let same : o ≡ accepted kept_ends plan l conn = sym (rw (is_below (length l.sessions) few) (ap (λ z. answered_by kept_ends z plan l conn) (ap next_user has ∙ last_user users mind))) in
+    answered_by_result h i calls plan l new users mind conn r has same grammar p is
 
 -- ---- what a function's other clauses say
 
-pub same_loop : (slots slots' : Slab Session) (places places' : BTreeMap ℕ ℕ) (users users' : List Mind) (m m' : ℕ) (words : Stream)
+pub same_loop : (slots slots' : Slab (Session KEnd)) (places places' : BTreeMap ℕ ℕ) (users users' : List Mind) (m m' : ℕ) (words : Stream)
     → slots' ≡ slots → places' ≡ places → users' ≡ users → m' ≡ m → loop_of slots' places' users' m' words ≡ loop_of slots places users m words
 same_loop slots slots' places places' users users' m m' words p q r s = rw (p, q, r, s) refl
 
-pub seated_up : (low top : ℕ) (slots : Slab Session) (es : List (ℕ × ℕ)) → low ≤ top → AreSeated low slots es → AreSeated top slots es
+pub seated_up : (low top : ℕ) (slots : Slab (Session KEnd)) (es : List (ℕ × ℕ)) → low ≤ top → AreSeated low slots es → AreSeated top slots es
 unfolding AreSeated
 seated_up low top slots [] p q = tt
 seated_up low top slots (e ∷ es) p q = (let h : e.0 ≤ low = q.0 in omega (arith, h, p), q.1, q.2, seated_up low top slots es p q.3)
 
-pub away_seated : {T : Type 0} (conn : ℕ) (slots slots' : Slab Session) (places places' : BTreeMap ℕ ℕ) (r : Result T LoopFault)
+pub away_seated : {T : Type 0} (conn : ℕ) (slots slots' : Slab (Session KEnd)) (places places' : BTreeMap ℕ ℕ) (r : Result T LoopFault)
     → slots' ≡ slots → places' ≡ places → AreSeated (conn - 1) slots places.entries → OnOk r (AreSeated conn slots' places'.entries)
 away_seated conn slots slots' places places' (Ok done) p q s =
     rw (p, q) (seated_up (conn - 1) conn slots places.entries (omega arith) s)
 away_seated conn slots slots' places places' (Err fault) p q s = tt
 
-pub answered_state : {T : Type 0} (plan : Plan) (l : Loop) (slots : Slab Session) (places : BTreeMap ℕ ℕ) (users users' : List Mind) (m : ℕ) (words : Stream) (mind : Mind) (conn : ℕ) (r : Result T LoopFault)
+pub answered_state : {T : Type 0} (plan : Plan) (l : Loop KEnd) (slots : Slab (Session KEnd)) (places : BTreeMap ℕ ℕ) (users users' : List Mind) (m : ℕ) (words : Stream) (mind : Mind) (conn : ℕ) (r : Result T LoopFault)
     → OnOk r (sessions slots places ≡ l.sessions ++ answered l.words plan.settings plan.rbc l.moment conn mind ∷ []) → OnOk r (words ≡ (next_u64 l.words).1)
     → users' ≡ users → m ≡ l.moment → OnOk r (loop_of slots places users' m words ≡ answered_loop plan l users mind conn)
 answered_state plan l slots places users users' m words mind conn (Ok done) p q r s = rw (p, q, r, s) refl
 answered_state plan l slots places users users' m words mind conn (Err fault) p q r s = tt
 
-pub few_sessions : (newest n : ℕ) (slots : Slab Session) (es : List (ℕ × ℕ)) → AreSeated newest slots es → n ≡ length es → n < 256 → length (sessions_at slots es) < 256
+pub few_sessions : (newest n : ℕ) (slots : Slab (Session KEnd)) (es : List (ℕ × ℕ)) → AreSeated newest slots es → n ≡ length es → n < 256 → length (sessions_at slots es) < 256
 few_sessions newest n slots es p q r = (let h = length_sessions newest slots es p in omega (arith, h, q, r))
 
-pub many_sessions : (newest n : ℕ) (slots : Slab Session) (es : List (ℕ × ℕ)) → AreSeated newest slots es → n ≡ length es → 256 ≤ n → 256 ≤ length (sessions_at slots es)
+pub many_sessions : (newest n : ℕ) (slots : Slab (Session KEnd)) (es : List (ℕ × ℕ)) → AreSeated newest slots es → n ≡ length es → 256 ≤ n → 256 ≤ length (sessions_at slots es)
 many_sessions newest n slots es p q r = (let h = length_sessions newest slots es p in omega (arith, h, q, r))
 
 pub empty_list : {A : Type 0} (xs : List A) → length xs ≡ 0 → xs ≡ []
@@ -230,10 +234,10 @@ empty_list (x ∷ xs) p = absurd (let q : length (x ∷ xs) ≡ 0 = p in omega (
 
 -- ---- the book of a loop that begins
 
-pub no_sessions : (slots : Slab Session) (places : BTreeMap ℕ ℕ) → places.entries ≡ [] → sessions slots places ≡ []
+pub no_sessions : (slots : Slab (Session KEnd)) (places : BTreeMap ℕ ℕ) → places.entries ≡ [] → sessions slots places ≡ []
 unfolding seats
 no_sessions slots places p = rw p refl
 
-pub no_seats : (top : ℕ) (slots : Slab Session) (es : List (ℕ × ℕ)) → es ≡ [] → AreSeated top slots es
+pub no_seats : (top : ℕ) (slots : Slab (Session KEnd)) (es : List (ℕ × ℕ)) → es ≡ [] → AreSeated top slots es
 unfolding AreSeated
 no_seats top slots es p = rw p tt

@@ -1,4 +1,6 @@
 -- The moments that are kept stay those of the sessions while a session comes, changes or goes.
+use Rattle.er_end.specs.KeptEnds.{KEnd}
+use Rattle.loop_session.specs.Keeping.{kept_ends}
 use Rattle.std.proofs.Common.{◌≡◌, ◌≢◌, ℕ, ◌-◌, ◌<◌, ◌≤◌, true, false, inl, inr, List, [], ◌∷◌, Option, Some, None, refl, sym, ◌∙◌, ap, subst, arith}
 use Rattle.std.specs.Prelude.{◌==◌, if◌then◌else◌}
 use Rattle.std.specs.Ordering.{nat_cmp, is_eq}
@@ -17,14 +19,14 @@ use Rattle.readiness_loop.proofs.Risings.{found_is, found_other}
 use Rattle.readiness_loop.proofs.Seats.{OthersStay, place_of}
 
 -- no session, and no moment
-pub awaited_none : (slots : Slab Session) (places : BTreeMap ℕ ℕ) (pairs : BTreeSet (ℕ × ℕ)) → places.entries ≡ [] → pairs.keys ≡ [] → AreAwaited slots places pairs
+pub awaited_none : (slots : Slab (Session KEnd)) (places : BTreeMap ℕ ℕ) (pairs : BTreeSet (ℕ × ℕ)) → places.entries ≡ [] → pairs.keys ≡ [] → AreAwaited slots places pairs
 unfolding IsStrictlySortedBy wake_at
 awaited_none slots places pairs p q = record { rise = rw p tt; kept = λ m n. rw (p, q) refl }
 
 -- ---- one session comes, changes or goes
 
 -- its moment is another, the others have theirs
-awaited_moves : (slots now : Slab Session) (places more : BTreeMap ℕ ℕ) (pairs new : BTreeSet (ℕ × ℕ)) (n : ℕ) (after : Option ℕ)
+awaited_moves : (slots now : Slab (Session KEnd)) (places more : BTreeMap ℕ ℕ) (pairs new : BTreeSet (ℕ × ℕ)) (n : ℕ) (after : Option ℕ)
     → AreAwaited slots places pairs → IsOrdered nat_cmp more
     → ((m j : ℕ) → has new m j ≡ (if j == n then is_moment m after else has pairs m j))
     → wake_at now more n ≡ after → ((j : ℕ) → j ≢ n → wake_at now more j ≡ wake_at slots places j)
@@ -43,7 +45,7 @@ awaited_moves slots now places more pairs new n after p rise h own others = reco
 }
 
 -- the slots of other numbers are other slots
-others_wake : (n k : ℕ) (slots now : Slab Session) (places more : BTreeMap ℕ ℕ) → OthersStay slots now k
+others_wake : (n k : ℕ) (slots now : Slab (Session KEnd)) (places more : BTreeMap ℕ ℕ) → OthersStay slots now k
     → ((j i : ℕ) → j ≢ n → place_of j places.entries ≡ Some i → i ≢ k)
     → ((j : ℕ) → j ≢ n → place_of j more.entries ≡ place_of j places.entries)
     → (j : ℕ) → j ≢ n → wake_at now more j ≡ wake_at slots places j
@@ -62,7 +64,7 @@ some_is : {A : Type 0} (a b : A) → Some a ≡ Some b → a ≡ b
 some_is a b p = cc
 
 -- the session of a place has the number of the place
-seat_number : (newest n k : ℕ) (slots : Slab Session) (es : List (ℕ × ℕ)) (s : Session) → AreSeated newest slots es → place_of n es ≡ Some k → get slots k ≡ Some s → s.number ≡ n
+seat_number : (newest n k : ℕ) (slots : Slab (Session KEnd)) (es : List (ℕ × ℕ)) (s : Session KEnd) → AreSeated newest slots es → place_of n es ≡ Some k → get slots k ≡ Some s → s.number ≡ n
 unfolding AreSeated
 seat_number newest n k slots [] s p q r = absurd (none_some k q)
 seat_number newest n k slots (e ∷ es) s p q r =
@@ -74,20 +76,20 @@ seat_number newest n k slots (e ∷ es) s p q r =
       | inr t ↦ seat_number newest n k slots es s p.3 (subst (λ z. (if z then Some e.1 else place_of n es) ≡ Some k) t q) r
     ]
 
-seats_apart : (newest n k : ℕ) (slots : Slab Session) (es : List (ℕ × ℕ)) (s : Session) → AreSeated newest slots es → place_of n es ≡ Some k → get slots k ≡ Some s
+seats_apart : (newest n k : ℕ) (slots : Slab (Session KEnd)) (es : List (ℕ × ℕ)) (s : Session KEnd) → AreSeated newest slots es → place_of n es ≡ Some k → get slots k ≡ Some s
     → (j i : ℕ) → j ≢ n → place_of j es ≡ Some i → i ≢ k
 seats_apart newest n k slots es s p q r j i away at same =
     away (sym (seat_number newest j i slots es s p at (ap (get slots) same ∙ r)) ∙ seat_number newest n k slots es s p q r)
 
 -- the moment of a session of a place is kept
-pub wake_known : (n k : ℕ) (slots : Slab Session) (places : BTreeMap ℕ ℕ) (pairs : BTreeSet (ℕ × ℕ)) (s : Session) (before : Option ℕ) → AreAwaited slots places pairs
-    → place_of n places.entries ≡ Some k → get slots k ≡ Some s → before ≡ wakes s → (m : ℕ) → has pairs m n ≡ is_moment m before
+pub wake_known : (n k : ℕ) (slots : Slab (Session KEnd)) (places : BTreeMap ℕ ℕ) (pairs : BTreeSet (ℕ × ℕ)) (s : Session KEnd) (before : Option ℕ) → AreAwaited slots places pairs
+    → place_of n places.entries ≡ Some k → get slots k ≡ Some s → before ≡ wakes kept_ends s → (m : ℕ) → has pairs m n ≡ is_moment m before
 unfolding wake_at
 wake_known n k slots places pairs s before p q r b m = p.kept m n ∙ ap (λ z. is_moment m (wake_in slots z)) q ∙ ap (λ z. is_moment m (wake_of z)) r ∙ ap (is_moment m) (sym b)
 
 -- a session stays
-pub awaited_stays : (newest n k : ℕ) (slots : Slab Session) (places : BTreeMap ℕ ℕ) (pairs new : BTreeSet (ℕ × ℕ)) (s t : Session) (after : Option ℕ)
-    → AreSeated newest slots places.entries → AreAwaited slots places pairs → place_of n places.entries ≡ Some k → get slots k ≡ Some s → after ≡ wakes t
+pub awaited_stays : (newest n k : ℕ) (slots : Slab (Session KEnd)) (places : BTreeMap ℕ ℕ) (pairs new : BTreeSet (ℕ × ℕ)) (s t : Session KEnd) (after : Option ℕ)
+    → AreSeated newest slots places.entries → AreAwaited slots places pairs → place_of n places.entries ≡ Some k → get slots k ≡ Some s → after ≡ wakes kept_ends t
     → ((m j : ℕ) → has new m j ≡ (if j == n then is_moment m after else has pairs m j))
     → AreAwaited (with_value slots k t) places new
 unfolding wake_at
@@ -101,7 +103,7 @@ away_test : (n j : ℕ) → j ≢ n → is_at (nat_cmp n) j ≡ false
 away_test n j away = found_other n j (λ same. away (sym same))
 
 -- a session goes
-pub awaited_closes : (newest n k : ℕ) (slots now : Slab Session) (places fewer : BTreeMap ℕ ℕ) (pairs new : BTreeSet (ℕ × ℕ)) (s t : Session)
+pub awaited_closes : (newest n k : ℕ) (slots now : Slab (Session KEnd)) (places fewer : BTreeMap ℕ ℕ) (pairs new : BTreeSet (ℕ × ℕ)) (s t : Session KEnd)
     → AreSeated newest slots places.entries → AreAwaited slots places pairs → place_of n places.entries ≡ Some k → get slots k ≡ Some s
     → Updates (with_value slots k t) now k None → UpdatesBy nat_cmp (nat_cmp n) places fewer None → IsOrdered nat_cmp fewer
     → ((m j : ℕ) → has new m j ≡ (if j == n then is_moment m None else has pairs m j))
@@ -116,7 +118,7 @@ awaited_closes newest n k slots now places fewer pairs new s t seated p q r u re
 
 -- ---- a session comes
 
-unplaced : (newest n : ℕ) (slots : Slab Session) (es : List (ℕ × ℕ)) → AreSeated newest slots es → newest < n → place_of n es ≡ None
+unplaced : (newest n : ℕ) (slots : Slab (Session KEnd)) (es : List (ℕ × ℕ)) → AreSeated newest slots es → newest < n → place_of n es ≡ None
 unfolding AreSeated
 unplaced newest n slots [] p q = refl
 unplaced newest n slots (e ∷ es) p q =
@@ -124,13 +126,13 @@ unplaced newest n slots (e ∷ es) p q =
     let other : is_eq (nat_cmp n e.0) ≡ false = found_other n e.0 (λ same. omega (arith, low, q, same)) in
     rw other (unplaced newest n slots es p.3 q)
 
-pub none_known : (n : ℕ) (slots : Slab Session) (places : BTreeMap ℕ ℕ) (pairs : BTreeSet (ℕ × ℕ)) → AreSeated (n - 1) slots places.entries → 0 < n → AreAwaited slots places pairs
+pub none_known : (n : ℕ) (slots : Slab (Session KEnd)) (places : BTreeMap ℕ ℕ) (pairs : BTreeSet (ℕ × ℕ)) → AreSeated (n - 1) slots places.entries → 0 < n → AreAwaited slots places pairs
     → (m : ℕ) → has pairs m n ≡ is_moment m None
 unfolding wake_at
 none_known n slots places pairs seated q p m =
     p.kept m n ∙ ap (λ z. is_moment m (wake_in slots z)) (unplaced (n - 1) n slots places.entries seated (omega (arith, q)))
 
-taken_slot : (newest n k : ℕ) (slots : Slab Session) (es : List (ℕ × ℕ)) → AreSeated newest slots es → get slots k ≡ None → place_of n es ≡ Some k → ⊥
+taken_slot : (newest n k : ℕ) (slots : Slab (Session KEnd)) (es : List (ℕ × ℕ)) → AreSeated newest slots es → get slots k ≡ None → place_of n es ≡ Some k → ⊥
 unfolding AreSeated
 taken_slot newest n k slots [] p q r = none_some k r
 taken_slot newest n k slots (e ∷ es) p q r =
@@ -139,14 +141,14 @@ taken_slot newest n k slots (e ∷ es) p q r =
       | inr t ↦ taken_slot newest n k slots es p.3 q (subst (λ z. (if z then Some e.1 else place_of n es) ≡ Some k) t r)
     ]
 
-pub awaited_joins : (n k room : ℕ) (slots mid now : Slab Session) (places more : BTreeMap ℕ ℕ) (pairs new : BTreeSet (ℕ × ℕ)) (s : Session) (wake : Option ℕ)
+pub awaited_joins : (n k room : ℕ) (slots mid now : Slab (Session KEnd)) (places more : BTreeMap ℕ ℕ) (pairs new : BTreeSet (ℕ × ℕ)) (s : Session KEnd) (wake : Option ℕ)
     → AreSeated (s.number - 1) slots places.entries → AreAwaited slots places pairs → mid ≡ record slots { capacity = room } → get mid k ≡ None → Updates mid now k (Some s)
-    → UpdatesBy nat_cmp (nat_cmp n) places more (Some k) → IsOrdered nat_cmp more → wake ≡ wakes s
+    → UpdatesBy nat_cmp (nat_cmp n) places more (Some k) → IsOrdered nat_cmp more → wake ≡ wakes kept_ends s
     → ((m j : ℕ) → has new m j ≡ (if j == n then is_moment m wake else has pairs m j))
     → AreAwaited now more new
 unfolding wake_at
 awaited_joins n k room slots mid now places more pairs new s wake seated p mid_is free u joined rise is h =
-    let same : (j : ℕ) → get mid j ≡ get slots j = λ j. ap (λ (z : Slab Session). get z j) mid_is in
+    let same : (j : ℕ) → get mid j ≡ get slots j = λ j. ap (λ (z : Slab (Session KEnd)). get z j) mid_is in
     let empty : get slots k ≡ None = sym (same k) ∙ free in
     awaited_moves slots now places more pairs new n wake p rise h
     (ap (wake_in now) joined.1 ∙ ap wake_of u.changed ∙ sym is)

@@ -1,4 +1,5 @@
 -- A visit through the book is the visit of the model.
+use Rattle.er_end.specs.KeptEnds.{KEnd}
 use Rattle.std.proofs.Common.{◌≡◌, ℕ, Bool, true, false, List, [], ◌∷◌, Some, None, refl, sym, ◌∙◌, ap, subst}
 use Rattle.std.specs.Ordering.{nat_cmp}
 use Rattle.std.specs.BTreeMap.{BTreeMap, is_at}
@@ -12,7 +13,8 @@ use Rattle.loop_model.specs.Loops.{visit_at}
 use Rattle.er_base.specs.declared.no_memory.NoMemory.{NoMemory as Want}
 use Rattle.loop_session.specs.declared.loop_fault.LoopFault.{LoopFault}
 use Rattle.loop_session.specs.declared.loop_fault.LoopFault.TheVariants.{NoMemory}
-use Rattle.loop_visit.specs.Acting.{Seen, Acted, Did, Stopped}
+use Rattle.loop_visit.specs.Acting.{Acted, Did, Stopped}
+use Rattle.loop_visit.specs.Seeing.{Seen}
 use Rattle.loop_visit.specs.Sequels.{breaks_behind}
 use Rattle.loop_visit.specs.Visiting.{left}
 use Rattle.readiness_loop.specs.Books.{sessions, sessions_at, AreSeated}
@@ -20,7 +22,7 @@ use Rattle.readiness_loop.proofs.Sequences.{acted_as, acted_still, breaks_as}
 use Rattle.readiness_loop.proofs.Seats.{place_of, visit_none, visit_says, visit_leaves, visit_leaves_seated, visit_drops, visit_drops_seated, seat_found}
 
 -- nobody has this number
-pub nobody_did : (a : Seen) (f : Session → Met → Out (List Session)) (newest n : ℕ) (slots : Slab Session) (places : BTreeMap ℕ ℕ)
+pub nobody_did : (a : Seen) (f : Session KEnd → Met → Out (List (Session KEnd))) (newest n : ℕ) (slots : Slab (Session KEnd)) (places : BTreeMap ℕ ℕ)
     → AreSeated newest slots places.entries → place_of n places.entries ≡ None
     → Did a a (sessions slots places) (visit_at f n (sessions slots places))
 nobody_did a f newest n slots places p q = record {
@@ -30,13 +32,13 @@ nobody_did a f newest n slots places p q = record {
 }
 
 -- the slot of a place isn't empty
-pub empty_did : (a : Seen) (f : Session → Met → Out (List Session)) (newest n k : ℕ) (slots : Slab Session) (places : BTreeMap ℕ ℕ)
+pub empty_did : (a : Seen) (f : Session KEnd → Met → Out (List (Session KEnd))) (newest n k : ℕ) (slots : Slab (Session KEnd)) (places : BTreeMap ℕ ℕ)
     → AreSeated newest slots places.entries → place_of n places.entries ≡ Some k → get slots k ≡ None
     → Did a a (sessions slots places) (visit_at f n (sessions slots places))
 empty_did a f newest n k slots places p q r = absurd (seat_found newest n k slots places.entries p q r)
 
 -- the session stays
-pub stays_did : (a b : Seen) (f : Session → Met → Out (List Session)) (newest n k : ℕ) (slots : Slab Session) (places : BTreeMap ℕ ℕ) (s t : Session) (stays : Bool)
+pub stays_did : (a b : Seen) (f : Session KEnd → Met → Out (List (Session KEnd))) (newest n k : ℕ) (slots : Slab (Session KEnd)) (places : BTreeMap ℕ ℕ) (s t : Session KEnd) (stays : Bool)
     → AreSeated newest slots places.entries → place_of n places.entries ≡ Some k → get slots k ≡ Some s → stays ≡ true
     → Did a b (left stays t) (f s)
     → Did a b (sessions (with_value slots k t) places) (visit_at f n (sessions slots places))
@@ -50,7 +52,7 @@ stays_did a b f newest n k slots places s t stays p q r yes_ did =
           did.is;
     }
 
-pub stays_seated : (newest now n k : ℕ) (slots : Slab Session) (places : BTreeMap ℕ ℕ) (s t : Session)
+pub stays_seated : (newest now n k : ℕ) (slots : Slab (Session KEnd)) (places : BTreeMap ℕ ℕ) (s t : Session KEnd)
     → now ≡ newest → AreSeated newest slots places.entries → place_of n places.entries ≡ Some k → get slots k ≡ Some s → t.number ≡ s.number
     → AreSeated now (with_value slots k t) places.entries
 stays_seated newest now n k slots places s t top p q r is =
@@ -58,10 +60,10 @@ stays_seated newest now n k slots places s t top p q r is =
     (visit_leaves_seated newest n k slots (with_value slots k t) places.entries s t p q r (Updates-with_value slots k t (rw r refl)) is)
 
 -- it is closed
-both_updates : (slots mid now : Slab Session) (k : ℕ) (t : Session) → Updates slots mid k (Some t) → Updates mid now k None → Updates slots now k None
+both_updates : (slots mid now : Slab (Session KEnd)) (k : ℕ) (t : Session KEnd) → Updates slots mid k (Some t) → Updates mid now k None → Updates slots now k None
 both_updates slots mid now k t p q = record { changed = q.changed; others = λ j away. q.others j away ∙ p.others j away }
 
-pub closes_did : (a b : Seen) (f : Session → Met → Out (List Session)) (newest n k : ℕ) (slots now : Slab Session) (places fewer : BTreeMap ℕ ℕ) (s t : Session) (stays : Bool)
+pub closes_did : (a b : Seen) (f : Session KEnd → Met → Out (List (Session KEnd))) (newest n k : ℕ) (slots now : Slab (Session KEnd)) (places fewer : BTreeMap ℕ ℕ) (s t : Session KEnd) (stays : Bool)
     → AreSeated newest slots places.entries → place_of n places.entries ≡ Some k → get slots k ≡ Some s → stays ≡ false
     → Did a b (left stays t) (f s)
     → fewer.entries ≡ remove_entry (is_at (nat_cmp n)) places.entries → Updates (with_value slots k t) now k None
@@ -77,7 +79,7 @@ closes_did a b f newest n k slots now places fewer s t stays p q r no_ did e u =
           did.is;
     }
 
-pub closes_seated : (newest top n k : ℕ) (slots now : Slab Session) (places fewer : BTreeMap ℕ ℕ) (s t : Session)
+pub closes_seated : (newest top n k : ℕ) (slots now : Slab (Session KEnd)) (places fewer : BTreeMap ℕ ℕ) (s t : Session KEnd)
     → top ≡ newest → AreSeated newest slots places.entries → place_of n places.entries ≡ Some k → get slots k ≡ Some s
     → fewer.entries ≡ remove_entry (is_at (nat_cmp n)) places.entries → Updates (with_value slots k t) now k None
     → AreSeated top now fewer.entries
@@ -87,7 +89,7 @@ closes_seated newest top n k slots now places fewer s t is p q r e u =
     (subst (λ z. AreSeated newest now z) (sym e) (visit_drops_seated newest n k slots now places.entries p q all))
 
 -- it breaks off
-pub stopped_visit : (a b : Seen) (f : Session → Met → Out (List Session)) (newest n k : ℕ) (slots : Slab Session) (places : BTreeMap ℕ ℕ) (s : Session) (fault : LoopFault)
+pub stopped_visit : (a b : Seen) (f : Session KEnd → Met → Out (List (Session KEnd))) (newest n k : ℕ) (slots : Slab (Session KEnd)) (places : BTreeMap ℕ ℕ) (s : Session KEnd) (fault : LoopFault)
     → AreSeated newest slots places.entries → place_of n places.entries ≡ Some k → get slots k ≡ Some s
     → Stopped a b (f s) fault → Stopped a b (visit_at f n (sessions slots places)) fault
 stopped_visit a b f newest n k slots places s fault p q r h = record {
@@ -97,7 +99,7 @@ stopped_visit a b f newest n k slots places s fault p q r h = record {
 }
 
 -- memory ran out behind it
-pub wanted_visit : (a b : Seen) (f : Session → Met → Out (List Session)) (newest n k : ℕ) (slots : Slab Session) (places : BTreeMap ℕ ℕ) (s t : Session) (stays : Bool) (want : Want)
+pub wanted_visit : (a b : Seen) (f : Session KEnd → Met → Out (List (Session KEnd))) (newest n k : ℕ) (slots : Slab (Session KEnd)) (places : BTreeMap ℕ ℕ) (s t : Session KEnd) (stays : Bool) (want : Want)
     → AreSeated newest slots places.entries → place_of n places.entries ≡ Some k → get slots k ≡ Some s
     → Did a b (left stays t) (f s) → Stopped a b (visit_at f n (sessions slots places)) (NoMemory want)
 wanted_visit a b f newest n k slots places s t stays want p q r did =

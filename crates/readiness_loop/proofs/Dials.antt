@@ -1,6 +1,9 @@
 -- A loop that dials: it opens its one connection, the header is printed, the session begins, and it runs.
-use Rattle.std.proofs.Common.{◌≡◌, ℕ, ◌+◌, ◌-◌, ◌^◌, ◌<◌, ◌≤◌, max, min, nat_le, Bool, true, false, List, [], ◌∷◌, ◌++◌, Option, Some, None, Result, Ok, Err, refl, sym, ◌∙◌, ap, subst, arith, length}
-use Rattle.std.specs.Prelude.{IfOk, ◌==◌}
+use Rattle.er_end.specs.KeptEnds.{KEnd}
+use Rattle.loop_session.specs.Keeping.{kept_ends}
+use Rattle.std.proofs.Common.{◌≡◌, ℕ, ◌+◌, ◌-◌, ◌^◌, ◌<◌, ◌≤◌, max, min, nat_le, Bool, true, false, List, [], ◌∷◌, ◌++◌, Option, Some, None, Result, Ok, Err, refl, sym, ◌∙◌, ap, subst, arith, append-nil, length, inl, inr}
+use Rattle.std.specs.Prelude.{IfOk, ◌==◌, ◌&&◌, if◌then◌else◌}
+use Rattle.std.proofs.lemmas.Bool.{cases_Bool}
 use Rattle.std.proofs.lemmas.Bool.Decides.{nat_tests}
 use Rattle.rand_core.specs.Stream.{Stream}
 use Rattle.er_base.specs.declared.no_memory.NoMemory.{NoMemory as Want}
@@ -9,80 +12,76 @@ use Rattle.safety_automaton.specs.Keys.{key_at}
 use Rattle.er_settings.specs.Ranges.{AllAllowed}
 use Rattle.er_users.specs.Users.{Mind}
 use Rattle.link_trait.specs.Outside.{Grew, GrewPart, Rose}
-use Rattle.link_trait.specs.Growth.{grew_nothing, grew_then, part_nothing, part_more, part_then}
+use Rattle.link_trait.specs.Growth.{grew_nothing, grew_then}
 use Rattle.link_trait.specs.Wires as wires
 use Rattle.link_trait.specs.Wires.{Call, given_of, taken_of}
+use Rattle.loop_model.specs.Ends.{EndOps, ModelEnd, model_ends}
 use Rattle.loop_model.specs.Journals.{header, text}
 use Rattle.loop_model.specs.Outs.{Out, still, next, makes, acts, exactly}
-use Rattle.loop_model.specs.Visits.{Met, nothing_met}
+use Rattle.loop_model.specs.Visits.{Met}
 use Rattle.link_trait.specs.declared.wires.Happening.{Happening}
 use Rattle.loop_model.specs.Loops.{Plan, Loop, Caller, Halt, OnClosed, OnFailed, Course, Turn, asks, opens, dials_to, run, nothing_comes, beginning, Dialled, dials, printed, went}
-use Rattle.loop_model.specs.Parts.{opened_in, Rises}
+use Rattle.loop_model.specs.Parts.{opened_in, Rises, newest}
 use Rattle.loop_model.specs.Laws.{IsDialling, RunsSo, HasFailed, faults, failures, turns_of, HaltsBy}
-use Rattle.loop_session.specs.Parts.{FailedFor, Breaks}
+use Rattle.loop_session.specs.Parts.{FailedFor}
+use Rattle.loop_session.specs.Standing.{AreAlike}
 use Rattle.loop_session.specs.declared.loop_fault.LoopFault.{LoopFault}
 use Rattle.loop_session.specs.declared.loop_fault.LoopFault.TheVariants.{Wires, Sink, NoMemory}
-use Rattle.loop_visit.specs.Acting.{Counts, BreaksAt}
+use Rattle.loop_visit.specs.Seeing.{Counts}
 use Rattle.readiness_loop.specs.declared.line_plan.Served.{Served}
-use Rattle.readiness_loop.specs.Claims.{pair_of, IsDone, IsBegun, IsLawful, HasTurns, HasDialled, NotDialling, LineFailed, FailsToDial, BreaksOffDialling, halt_for}
-use Rattle.readiness_loop.specs.Courses.{Around, Came, Went, WentOff, Runs, Dials, outside_of, course_of, opening, Opened, Opens, caller_of, halt_if}
-use Rattle.loop_visit.specs.Sequels.{breaks_first, began_none, began_then, failed_behind}
-use Rattle.readiness_loop.proofs.Sequences.{breaks_then}
+use Rattle.readiness_loop.specs.Cuts.{Cut, LiesIn, behind, first_turns}
+use Rattle.readiness_loop.specs.Claims.{pair_of, IsDone, IsCutAt, IsLawful, HasTurns, HasDialled, NotDialling, LineFailed, FailsToDial, opening as model_opening, BeforeDialling, InDiallingHeader, InOpening, InDialling, BreaksOffDialling, halt_for}
+use Rattle.readiness_loop.specs.Courses.{Around, Came, Went, Broke, WentOff, RanOff, Runs, Dials, outside_of, course_of, opening, Opened, Opens, caller_of, halt_if}
+use Rattle.loop_visit.specs.Sequels.{counts_then, failed_behind}
+use Rattle.readiness_loop.proofs.Cutting.{broke_behind, lies_as}
+use Rattle.readiness_loop.proofs.Planned.{many, run_many, opens_many, lies_acts}
+use Rattle.readiness_loop.proofs.Likewise.{Same, same_as, AlwaysSame, rest_same, behind_as, lies_in_run}
 use Rattle.readiness_loop.proofs.Sweeps.{after}
-use Rattle.readiness_loop.proofs.Openings.{turns_of-append}
+use Rattle.readiness_loop.proofs.Openings.{opened_in-append, turns_of-append}
 use Rattle.readiness_loop.proofs.Running.{came_next, course_is, halted_acts, after_still}
-use Rattle.readiness_loop.proofs.Calling.{opening_opens, called_moment}
-use Rattle.readiness_loop.proofs.Listening.{Laws, HasBegun, rose_past}
+use Rattle.readiness_loop.proofs.Calling.{opens_opens, called_moment}
+use Rattle.readiness_loop.proofs.Shown.{Shown, shown}
+use Rattle.readiness_loop.proofs.Listening.{Laws, HasBegun, nothing_done, rose_past}
 
 -- the opening, and the run behind it
-abbrev whole : Plan → Caller → Course → ℕ → Dialled → Out Course
-whole plan caller c conn x = next (opening plan caller c conn (x.first, x.met)) (λ e. run plan e x.turns)
+abbrev whole : Plan → Caller → Course KEnd → ℕ → Dialled → Out (Course KEnd)
+whole plan caller c conn x = next (opening plan caller c conn (x.first, x.met)) (λ e. run kept_ends plan e x.turns)
+
+abbrev model_whole : Plan → Caller → Course ModelEnd → ℕ → Dialled → Out (Course ModelEnd)
+model_whole plan caller c conn x = next (opens model_ends plan caller (asks x.first c) conn x.met) (λ e. run model_ends plan e x.turns)
 
 -- both were done
-record WentOn (plan : Plan) (caller : Caller) (m b : Around) (c : Course) (conn : ℕ) (new : Loop) (count : ℕ) (why : Option Halt) : Type 0 where
+record WentOn (plan : Plan) (caller : Caller) (m b : Around) (c : Course KEnd) (conn : ℕ) (new : Loop KEnd) (count : ℕ) (why : Option Halt) : Type 0 where
   answers : Dialled
   is_conn : answers.conn ≡ Some conn
   early : answers.first ≤ 1000000000000000
   is : Came m b c new count why (whole plan caller c conn answers)
-  turns : HasTurns plan (whole plan caller c conn answers) count why
 
 met_so : ℕ → ℕ × Met → List Turn → Dialled
 met_so conn x turns = record { conn = Some conn; first = x.0; met = x.1; turns = turns }
 
 -- it ran
-ran_on : (laws : Laws) (plan : Plan) (caller : Caller) (m k b : Around) (minds : List Mind) (words : Stream) (conn : ℕ) (l new : Loop) (count : ℕ) (why : Option Halt)
+ran_on : (plan : Plan) (caller : Caller) (m k b : Around) (minds : List Mind) (words : Stream) (conn : ℕ) (l new : Loop KEnd) (count : ℕ) (why : Option Halt)
     → (p : Opened plan caller m k (beginning minds words) conn l 0 None)
-    → ((asked : List ℕ) → Went (run plan (course_of l 0 asked)) k b (course_of l 0 asked) new count why)
+    → ((asked : List ℕ) → Went (run kept_ends plan (course_of l 0 asked)) k b (course_of l 0 asked) new count why)
     → WentOn plan caller m b (beginning minds words) conn new count why
 unfolding met_so
-ran_on laws plan caller m k b minds words conn l new count why p q =
+ran_on plan caller m k b minds words conn l new count why p q =
     let c = beginning minds words in
     let x = p.went.answers in
     let o = opening plan caller c conn x in
     let e = o.state in
     let is : course_of l 0 e.asked ≡ e = course_is m k c l 0 o p.went.is in
-    let w : Went (run plan e) k b e new count why = subst (λ (z : Course). Went (run plan z) k b z new count why) is (q e.asked) in
-    let r = run plan e w.answers in
-    let came = came_next m k b c o (λ z. run plan z w.answers) l new 0 count None why p.went.is w.is in
-    let t : RunsSo plan r = laws.turns plan e w.answers
-    (record { turns = sym p.went.is.turns; halt = sym p.went.is.halt; moment = called_moment plan caller (record c.loop { moment = max 0 x.0 }) conn x.1 }) in
-    let none : turns_of (o.calls ++ r.calls) ≡ turns_of r.calls = turns_of-append o.calls r.calls ∙ ap (λ z. z ++ turns_of r.calls) (opening_opens plan caller c conn x).1 in
+    let w : Went (run kept_ends plan e) k b e new count why = subst (λ (z : Course KEnd). Went (run kept_ends plan z) k b z new count why) is (q e.asked) in
     record {
       answers = met_so conn x w.answers;
       is_conn = refl;
       early = p.early;
-      is = came;
-      turns = record {
-        halts = subst (λ z. HaltsBy why z) (sym none) (subst (λ z. HaltsBy z (turns_of r.calls)) (sym w.is.halt) t.halts);
-        counted = w.is.turns ∙ t.turns ∙ ap (λ (z : List Happening). length z) (sym none);
-        most = subst (λ z. z ≤ plan.turns) (sym w.is.turns) t.most;
-        all = λ zero. w.is.turns ∙ t.all (sym w.is.halt ∙ zero);
-        moment = t.moment;
-      };
+      is = came_next m k b c o (λ z. run kept_ends plan z w.answers) l new 0 count None why p.went.is w.is;
     }
 
 -- it was closed at once
-closed_on : (plan : Plan) (caller : Caller) (m b : Around) (minds : List Mind) (words : Stream) (conn : ℕ) (l : Loop)
+closed_on : (plan : Plan) (caller : Caller) (m b : Around) (minds : List Mind) (words : Stream) (conn : ℕ) (l : Loop KEnd)
     → (p : Opened plan caller m b (beginning minds words) conn l 0 (Some OnClosed))
     → WentOn plan caller m b (beginning minds words) conn l 0 (Some OnClosed)
 unfolding met_so run
@@ -90,24 +89,64 @@ closed_on plan caller m b minds words conn l p =
     let c = beginning minds words in
     let x = p.went.answers in
     let o = opening plan caller c conn x in
-    let halted : acts (went plan) o.state (exactly plan.turns nothing_comes []) ≡ still o.state =
-    halted_acts plan o.state OnClosed (exactly plan.turns nothing_comes []) (sym p.went.is.halt) in
-    let is : next o (λ e. acts (went plan) e (exactly plan.turns nothing_comes [])) ≡ o = ap (after o) halted ∙ after_still o in
-    let none = (opening_opens plan caller c conn x).1 in
+    let halted : acts (went kept_ends plan) o.state (exactly plan.turns nothing_comes []) ≡ still o.state =
+    halted_acts kept_ends plan o.state OnClosed (exactly plan.turns nothing_comes []) (sym p.went.is.halt) in
+    let is : next o (λ e. acts (went kept_ends plan) e (exactly plan.turns nothing_comes [])) ≡ o = ap (after o) halted ∙ after_still o in
     record {
       answers = met_so conn x [];
       is_conn = refl;
       early = p.early;
       is = subst (λ z. Came m b c l 0 (Some OnClosed) z) (sym is) p.went.is;
-      turns = subst (λ z. HasTurns plan z 0 (Some OnClosed)) (sym is)
-          (record {
-            halts = subst (λ z. HaltsBy (Some OnClosed) z) (sym none) tt;
-            counted = sym (ap (λ (z : List Happening). length z) none);
-            most = omega arith;
-            all = λ zero. absurd (cc zero);
-            moment = called_moment plan caller (record c.loop { moment = max 0 x.0 }) conn x.1;
-          });
     }
+
+-- ---- the same of the model
+
+-- its turns, where the opening left it going on
+turns_on : (laws : Laws) (plan : Plan) (caller : Caller) (minds : List Mind) (words : Stream) (conn : ℕ) (x : Dialled)
+    → (opens model_ends plan caller (asks x.first (beginning minds words)) conn x.met).state.halt ≡ None
+    → let w = model_whole plan caller (beginning minds words) conn x in HasTurns plan w w.state.turns w.state.halt
+turns_on laws plan caller minds words conn x goes =
+    let c = asks x.first (beginning minds words) in
+    let o = opens model_ends plan caller c conn x.met in
+    let r = run model_ends plan o.state x.turns in
+    let t : RunsSo plan r = laws.turns plan o.state x.turns (record { turns = refl; halt = goes; moment = called_moment model_ends plan caller c.loop conn x.met }) in
+    let none : turns_of (o.calls ++ r.calls) ≡ turns_of r.calls = turns_of-append o.calls r.calls ∙ ap (λ z. z ++ turns_of r.calls) (opens_opens model_ends plan caller c conn x.met).1 in
+    record {
+      halts = subst (λ z. HaltsBy r.state.halt z) (sym none) t.halts;
+      counted = t.turns ∙ ap (λ (z : List Happening). length z) (sym none);
+      most = t.most;
+      all = t.all;
+      moment = t.moment;
+    }
+
+-- where it closed the connection, none follow
+turns_off : (plan : Plan) (caller : Caller) (minds : List Mind) (words : Stream) (conn : ℕ) (x : Dialled)
+    → (opens model_ends plan caller (asks x.first (beginning minds words)) conn x.met).state.halt ≡ Some OnClosed
+    → let w = model_whole plan caller (beginning minds words) conn x in HasTurns plan w w.state.turns w.state.halt
+unfolding run
+turns_off plan caller minds words conn x closed =
+    let c = asks x.first (beginning minds words) in
+    let o = opens model_ends plan caller c conn x.met in
+    let halted = halted_acts model_ends plan o.state OnClosed (exactly plan.turns nothing_comes x.turns) closed in
+    let is : next o (λ e. acts (went model_ends plan) e (exactly plan.turns nothing_comes x.turns)) ≡ o = ap (after o) halted ∙ after_still o in
+    let none = (opens_opens model_ends plan caller c conn x.met).1 in
+    subst (λ (z : Out (Course ModelEnd)). HasTurns plan z z.state.turns z.state.halt) (sym is)
+    (record {
+      halts = subst (λ z. HaltsBy z (turns_of o.calls)) (sym closed) (subst (λ z. HaltsBy (Some OnClosed) z) (sym none) tt);
+      counted = sym (ap (λ (z : List Happening). length z) none);
+      most = omega arith;
+      all = λ goes. absurd (let z : Some OnClosed ≡ None = sym closed ∙ goes in cc z);
+      moment = called_moment model_ends plan caller c.loop conn x.met;
+    })
+
+whole_turns : (laws : Laws) (plan : Plan) (caller : Caller) (minds : List Mind) (words : Stream) (conn : ℕ) (x : Dialled)
+    → let w = model_whole plan caller (beginning minds words) conn x in HasTurns plan w w.state.turns w.state.halt
+whole_turns laws plan caller minds words conn x =
+    let ss = (opens model_ends plan caller (asks x.first (beginning minds words)) conn x.met).state.loop.sessions in
+    elim (cases_Bool (plan.dials && (length ss == 0))) [
+      | inl p ↦ turns_off plan caller minds words conn x (ap (λ (b : Bool). if b then Some OnClosed else None) p)
+      | inr p ↦ turns_on laws plan caller minds words conn x (ap (λ (b : Bool). if b then Some OnClosed else None) p)
+    ]
 
 -- ---- with the dial before both
 
@@ -124,61 +163,89 @@ key_holds engine rbc first kmac p =
     same : (x : ℕ) → (x == x) ≡ true
     same x = grind (arith, nat_tests)
 
-is_dialling : (engine rbc : ℕ) (kmac : TripleKey) (plan : Plan) (m b : Around) (minds : List Mind) (words : Stream) (address : List ℕ) (conn : ℕ) (new : Loop) (count : ℕ) (why : Option Halt)
-    → AllAllowed plan.settings → plan.keys ≡ pair_of engine rbc kmac ∷ [] → plan.rbc ≡ rbc → m.newest ≡ conn → 0 < conn
-    → (w : WentOn plan (caller_of engine kmac) m b (beginning minds words) conn new count why)
-    → IsDialling plan (caller_of engine kmac) (beginning minds words) address w.answers
-unfolding dials opened_in
-is_dialling engine rbc kmac plan m b minds words address conn new count why allowed keys number top above w =
-    let caller = caller_of engine kmac in
-    let o = whole plan caller (beginning minds words) conn w.answers in
+-- the dial as the opening and the run behind it
+dials_is : {E : Type 0} (o : EndOps E) (plan : Plan) (caller : Caller) (c : Course E) (address : List ℕ) (conn : ℕ) (x : Dialled) → x.conn ≡ Some conn
+    → dials o plan caller c address x ≡ next (makes (wires.Dials address (Some conn)) (asks x.first c)) (λ d. next (opens o plan caller d conn x.met) (λ e. run o plan e x.turns))
+unfolding dials
+dials_is o plan caller c address conn x p = ap (λ (z : Option ℕ). dials_to o z plan caller c address x) p
+
+tail_of : List Call → List Call
+tail_of [] = []
+tail_of (call ∷ calls) = calls
+
+-- over ends as they are kept both do the same
+whole_alike : (laws : Laws) (plan : Plan) (caller : Caller) (minds : List Mind) (words : Stream) (address : List ℕ) (conn : ℕ) (x : Dialled) → AllAllowed plan.settings → x.conn ≡ Some conn
+    → AreAlike (whole plan caller (beginning minds words) conn x) (model_whole plan caller (beginning minds words) conn x)
+unfolding tail_of
+whole_alike laws plan caller minds words address conn x allowed is =
+    let both = laws.dials plan caller minds words address x allowed in
+    let a : AreAlike (next (makes (wires.Dials address (Some conn)) (asks x.first (beginning minds words))) (λ d. next (opens kept_ends plan caller d conn x.met) (λ e. run kept_ends plan e x.turns)))
+    (next (makes (wires.Dials address (Some conn)) (asks x.first (beginning minds words))) (λ d. next (opens model_ends plan caller d conn x.met) (λ e. run model_ends plan e x.turns))) =
+    subst (λ (z : Out (Course ModelEnd)). AreAlike (next (makes (wires.Dials address (Some conn)) (asks x.first (beginning minds words))) (λ d. next (opens kept_ends plan caller d conn x.met) (λ e. run kept_ends plan e x.turns))) z)
+    (dials_is model_ends plan caller (beginning minds words) address conn x is)
+    (subst (λ (z : Out (Course KEnd)). AreAlike z (dials model_ends plan caller (beginning minds words) address x))
+    (dials_is kept_ends plan caller (beginning minds words) address conn x is) both) in
     record {
-      none = refl;
-      rises = subst (λ (z : Option ℕ). Rises 0 (opened_in (dials_to z plan caller (beginning minds words) address w.answers).calls)) (sym w.is_conn)
-          (above, subst (λ z. Rises z (opened_in o.calls)) top w.is.rises);
-      allowed = allowed;
-      key = rw (keys, number) (key_holds engine rbc w.answers.first kmac w.early);
+      entries = a.entries;
+      calls = ap tail_of a.calls;
+      turns = a.turns;
+      halt = a.halt;
+      asked = a.asked;
+      moment = a.moment;
+      users = a.users;
+      words = a.words;
+      sessions = a.sessions;
     }
 
--- the dial as the opening and the run behind it
-dials_is : (plan : Plan) (caller : Caller) (c : Course) (address : List ℕ) (conn : ℕ) (x : Dialled) → x.conn ≡ Some conn
-    → dials plan caller c address x ≡ next (makes (wires.Dials address (Some conn)) (asks x.first c)) (λ d. next (opens plan caller d conn x.met) (λ e. run plan e x.turns))
-unfolding dials
-dials_is plan caller c address conn x p = ap (λ (z : Option ℕ). dials_to z plan caller c address x) p
+is_dialling : (engine rbc : ℕ) (kmac : TripleKey) (plan : Plan) (m : Around) (minds : List Mind) (words : Stream) (address : List ℕ) (conn : ℕ) (x : Dialled)
+    → AllAllowed plan.settings → plan.keys ≡ pair_of engine rbc kmac ∷ [] → plan.rbc ≡ rbc → m.newest ≡ conn → 0 < conn → x.conn ≡ Some conn → x.first ≤ 1000000000000000
+    → Rises m.newest (opened_in (model_whole plan (caller_of engine kmac) (beginning minds words) conn x).calls)
+    → IsDialling plan (caller_of engine kmac) (beginning minds words) address x
+unfolding dials opened_in
+is_dialling engine rbc kmac plan m minds words address conn x allowed keys number top above is early rising =
+    let caller = caller_of engine kmac in
+    let o = model_whole plan caller (beginning minds words) conn x in
+    record {
+      none = refl;
+      rises = subst (λ (z : Option ℕ). Rises 0 (opened_in (dials_to model_ends z plan caller (beginning minds words) address x).calls)) (sym is)
+          (above, subst (λ z. Rises z (opened_in o.calls)) top rising);
+      allowed = allowed;
+      key = rw (keys, number) (key_holds engine rbc x.first kmac early);
+    }
 
 first_counts : (x y : ℕ) (address : List ℕ) (conn : ℕ) → x ≤ y → Counts x y (wires.Dials address (Some conn) ∷ [])
 unfolding failures
 first_counts x y address conn p = omega (arith, p)
 
-few_failures : (address : List ℕ) (conn : ℕ) (o : Out Course) → faults o.entries ≤ failures (wires.Dials address (Some conn) ∷ o.calls) → faults o.entries ≤ failures o.calls
+few_failures : (address : List ℕ) (conn : ℕ) (o : Out (Course ModelEnd)) → faults o.entries ≤ failures (wires.Dials address (Some conn) ∷ o.calls) → faults o.entries ≤ failures o.calls
 unfolding failures
 few_failures address conn o p = omega (arith, p)
 
-dials_done : (laws : Laws) (plan : Plan) (caller : Caller) (a m b : Around) (minds : List Mind) (words : Stream) (address : List ℕ) (conn : ℕ) (new : Loop) (count : ℕ) (why : Option Halt)
-    → HasBegun plan (wires.Dials address (Some conn)) a m → (w : WentOn plan caller m b (beginning minds words) conn new count why)
-    → IsDone (outside_of a) (outside_of b) true plan (dials plan caller (beginning minds words) address w.answers)
+dials_done : (laws : Laws) (plan : Plan) (caller : Caller) (a m b : Around) (minds : List Mind) (words : Stream) (address : List ℕ) (conn : ℕ) (x : Dialled) (count : ℕ) (why : Option Halt)
+    → x.conn ≡ Some conn → HasBegun plan (wires.Dials address (Some conn)) a m → Shown m b (model_whole plan caller (beginning minds words) conn x) count why
+    → IsDone (outside_of a) (outside_of b) true plan (dials model_ends plan caller (beginning minds words) address x)
 unfolding printed
-dials_done laws plan caller a m b minds words address conn new count why begun w =
+dials_done laws plan caller a m b minds words address conn x count why is_conn begun s =
     let c = beginning minds words in
-    let o = whole plan caller c conn w.answers in
-    let is = dials_is plan caller c address conn w.answers w.is_conn in
-    let failed : HasFailed (next (makes (wires.Dials address (Some conn)) (asks w.answers.first c)) (λ d. next (opens plan caller d conn w.answers.met) (λ e. run plan e w.answers.turns))) =
-    subst HasFailed is (laws.faults.dialling plan caller c address w.answers) in
+    let o = model_whole plan caller c conn x in
+    let is = dials_is model_ends plan caller c address conn x is_conn in
+    let failed : HasFailed (next (makes (wires.Dials address (Some conn)) (asks x.first c)) (λ d. next (opens model_ends plan caller d conn x.met) (λ e. run model_ends plan e x.turns))) =
+    subst HasFailed is (laws.faults.dialling plan caller c address x) in
     let fewer : faults o.entries ≤ failures o.calls = few_failures address conn o failed in
     subst (λ z. IsDone (outside_of a) (outside_of b) true plan z) (sym is)
     (record {
-      text = grew_then a.seen.held m.seen.held b.seen.held (header plan.settings) (text o.entries) begun.text w.is.acted.printed;
-      calls = grew_then a.seen.calls m.seen.calls b.seen.calls (wires.Dials address (Some conn) ∷ []) o.calls begun.calls w.is.acted.told;
-      clock = subst (λ z. Grew z b.asked o.state.asked) begun.asked (subst (λ z. Grew m.asked b.asked z) (sym w.is.asked) w.is.answered);
-      answered = (tt, w.is.acted.answered);
+      text = grew_then a.seen.held m.seen.held b.seen.held (header plan.settings) (text o.entries) begun.text s.printed;
+      calls = grew_then a.seen.calls m.seen.calls b.seen.calls (wires.Dials address (Some conn) ∷ []) o.calls begun.calls s.told;
+      clock = subst (λ z. Grew z b.asked o.state.asked) begun.asked s.asked;
+      answered = (tt, s.answered);
       faults = (let less : a.seen.failed ≤ m.seen.failed = begun.failed in
-          let counted : min (m.seen.failed + failures o.calls) (2 ^ 64 - 1) ≤ b.seen.failed = w.is.acted.counted in
+          let counted : min (m.seen.failed + failures o.calls) (2 ^ 64 - 1) ≤ b.seen.failed = s.counted in
           omega (arith, fewer, less, counted));
-      in_grammar = w.is.acted.in_grammar;
+      in_grammar = s.in_grammar;
     })
 
 dials_lawful : (laws : Laws) (plan : Plan) (caller : Caller) (minds : List Mind) (words : Stream) (address : List ℕ) (x : Dialled)
-    → IsDialling plan caller (beginning minds words) address x → IsLawful plan (dials plan caller (beginning minds words) address x)
+    → IsDialling plan caller (beginning minds words) address x → IsLawful plan (dials model_ends plan caller (beginning minds words) address x)
 dials_lawful laws plan caller minds words address x dialling = record {
   isolated = laws.isolated.dialling plan caller (beginning minds words) address x dialling;
   printed = laws.printed.dialling plan caller (beginning minds words) address x dialling;
@@ -188,95 +255,183 @@ dials_lawful laws plan caller minds words address x dialling = record {
   replayed = laws.replayed.dialling plan caller (beginning minds words) address x dialling;
 }
 
-dials_turns : (plan : Plan) (caller : Caller) (c : Course) (address : List ℕ) (conn : ℕ) (x : Dialled) (count : ℕ) (why : Option Halt)
-    → x.conn ≡ Some conn → HasTurns plan (whole plan caller c conn x) count why → HasTurns plan (dials plan caller c address x) count why
+dials_turns : (laws : Laws) (plan : Plan) (caller : Caller) (m b : Around) (minds : List Mind) (words : Stream) (address : List ℕ) (conn : ℕ) (x : Dialled) (count : ℕ) (why : Option Halt)
+    → x.conn ≡ Some conn → Shown m b (model_whole plan caller (beginning minds words) conn x) count why
+    → HasTurns plan (dials model_ends plan caller (beginning minds words) address x) count why
 unfolding turns_of
-dials_turns plan caller c address conn x count why is t =
-    subst (λ z. HasTurns plan z count why) (sym (dials_is plan caller c address conn x is))
+dials_turns laws plan caller m b minds words address conn x count why is s =
+    let w = model_whole plan caller (beginning minds words) conn x in
+    let t : HasTurns plan w count why =
+    subst (λ z. HasTurns plan w z why) (sym s.turns) (subst (λ z. HasTurns plan w w.state.turns z) (sym s.halt) (whole_turns laws plan caller minds words conn x)) in
+    subst (λ z. HasTurns plan z count why) (sym (dials_is model_ends plan caller (beginning minds words) address conn x is))
     (record { halts = t.halts; counted = t.counted; most = t.most; all = t.all; moment = t.moment })
 
+dials_halted : (plan : Plan) (caller : Caller) (m b : Around) (minds : List Mind) (words : Stream) (address : List ℕ) (conn : ℕ) (x : Dialled) (count : ℕ) (why : Option Halt)
+    → x.conn ≡ Some conn → Shown m b (model_whole plan caller (beginning minds words) conn x) count why
+    → why ≡ (dials model_ends plan caller (beginning minds words) address x).state.halt
+dials_halted plan caller m b minds words address conn x count why is s =
+    s.halt ∙ ap (λ (z : Out (Course ModelEnd)). z.state.halt) (sym (dials_is model_ends plan caller (beginning minds words) address conn x is))
+
 -- no connection but the one that was dialled
-dials_alone : (plan : Plan) (caller : Caller) (c : Course) (address : List ℕ) (conn : ℕ) (x : Dialled) → x.conn ≡ Some conn
-    → opened_in (whole plan caller c conn x).calls ≡ [] → opened_in (dials plan caller c address x).calls ≡ conn ∷ []
+dials_alone : (plan : Plan) (caller : Caller) (c : Course ModelEnd) (address : List ℕ) (conn : ℕ) (x : Dialled) → x.conn ≡ Some conn
+    → opened_in (model_whole plan caller c conn x).calls ≡ [] → opened_in (dials model_ends plan caller c address x).calls ≡ conn ∷ []
 unfolding opened_in
 dials_alone plan caller c address conn x is none =
-    ap (λ (z : Out Course). opened_in z.calls) (dials_is plan caller c address conn x is) ∙ ap (λ z. conn ∷ z) none
+    ap (λ (z : Out (Course ModelEnd)). opened_in z.calls) (dials_is model_ends plan caller c address conn x is) ∙ ap (λ z. conn ∷ z) none
 
-dial_done : (laws : Laws) (engine rbc : ℕ) (kmac : TripleKey) (plan : Plan) (a m b : Around) (minds : List Mind) (words : Stream) (address : List ℕ) (conn : ℕ) (new : Loop) (count : ℕ) (why : Option Halt)
+dial_done : (laws : Laws) (engine rbc : ℕ) (kmac : TripleKey) (plan : Plan) (a m b : Around) (minds : List Mind) (words : Stream) (address : List ℕ) (conn : ℕ) (new : Loop KEnd) (count : ℕ) (why : Option Halt)
     → AllAllowed plan.settings → plan.keys ≡ pair_of engine rbc kmac ∷ [] → plan.rbc ≡ rbc → m.newest ≡ conn → 0 < conn → m.listening ≡ a.listening
     → HasBegun plan (wires.Dials address (Some conn)) a m → WentOn plan (caller_of engine kmac) m b (beginning minds words) conn new count why
     → HasDialled (outside_of a) (outside_of b) plan (caller_of engine kmac) address minds words count why
 dial_done laws engine rbc kmac plan a m b minds words address conn new count why allowed keys number top above hears begun w =
     let caller = caller_of engine kmac in
-    let dialling = is_dialling engine rbc kmac plan m b minds words address conn new count why allowed keys number top above w in
+    let x = w.answers in
+    let s = shown m b (beginning minds words) new count why (whole plan caller (beginning minds words) conn x) (model_whole plan caller (beginning minds words) conn x) refl w.is
+    (whole_alike laws plan caller minds words address conn x allowed w.is_conn) in
+    let dialling = is_dialling engine rbc kmac plan m minds words address conn x allowed keys number top above w.is_conn w.early s.rises in
     record {
-      answers = w.answers;
+      answers = x;
       conn = conn;
       opened = w.is_conn;
       is_dialling = dialling;
-      done = dials_done laws plan caller a m b minds words address conn new count why begun w;
-      lawful = dials_lawful laws plan caller minds words address w.answers dialling;
-      replies = laws.replies.dialling plan caller (beginning minds words) address w.answers dialling;
-      turns = dials_turns plan caller (beginning minds words) address conn w.answers count why w.is_conn w.turns;
-      alone = λ deaf. dials_alone plan caller (beginning minds words) address conn w.answers w.is_conn (w.is.alone (hears ∙ deaf));
+      done = dials_done laws plan caller a m b minds words address conn x count why w.is_conn begun s;
+      lawful = dials_lawful laws plan caller minds words address x dialling;
+      replies = laws.replies.dialling plan caller (beginning minds words) address x dialling;
+      turns = dials_turns laws plan caller m b minds words address conn x count why w.is_conn s;
+      halted = dials_halted plan caller m b minds words address conn x count why w.is_conn s;
+      alone = λ deaf. dials_alone plan caller (beginning minds words) address conn x w.is_conn (s.alone (hears ∙ deaf));
     }
 
--- a beginning was printed
-dial_begun : (plan : Plan) (caller : Caller) (a m b : Around) (minds : List Mind) (words : Stream) (address : List ℕ) (conn : ℕ) (x : Dialled) (fault : LoopFault)
-    → x.conn ≡ Some conn → HasBegun plan (wires.Dials address (Some conn)) a m → BreaksAt m.seen b.seen (whole plan caller (beginning minds words) conn x) fault
-    → BreaksOffDialling (outside_of a) (outside_of b) plan caller address minds words
-unfolding printed
-dial_begun plan caller a m b minds words address conn x fault is begun breaks =
-    let c = beginning minds words in
-    let o = whole plan caller c conn x in
+-- ---- where it broke off
+
+opened_as : {E : Type 0} (o : EndOps E) (plan : Plan) (caller : Caller) (c : Course E) (conn : ℕ) (a : Met) (turns : List Turn)
+    → let k = opens o plan caller c conn a in
+    next (opens o (many plan (length turns)) caller c conn a) (λ e. run o (many plan (length turns)) e turns) ≡ after k (acts (went o plan) k.state turns)
+opened_as {E} o plan caller c conn a turns =
+    let k = opens o plan caller c conn a in
+    ap (λ (z : Out (Course E)). next z (λ e. run o (many plan (length turns)) e turns)) (opens_many o plan (length turns) caller c conn a) ∙ ap (after k) (run_many o plan k.state turns)
+
+-- over ends as they are kept the opening and the turns behind it are the same
+both_same : (laws : Laws) (plan : Plan) (caller : Caller) (minds : List Mind) (words : Stream) (address : List ℕ) (conn : ℕ) (x : ℕ × Met) → AllAllowed plan.settings → (turns : List Turn)
+    → let k = opening plan caller (beginning minds words) conn x in let m = model_opening plan caller minds words conn x.0 x.1 in
+    Same (after k (acts (went kept_ends plan) k.state turns)) (after m (acts (went model_ends plan) m.state turns))
+unfolding met_so
+both_same laws plan caller minds words address conn x allowed turns =
+    let k = opening plan caller (beginning minds words) conn x in
+    let m = model_opening plan caller minds words conn x.0 x.1 in
+    let a = whole_alike laws (many plan (length turns)) caller minds words address conn (met_so conn x turns) allowed refl in
+    same_as _ (after k (acts (went kept_ends plan) k.state turns)) _ (after m (acts (went model_ends plan) m.state turns))
+    (opened_as kept_ends plan caller (asks x.0 (beginning minds words)) conn x.1 turns) (opened_as model_ends plan caller (asks x.0 (beginning minds words)) conn x.1 turns)
+    (record { entries = a.entries; calls = a.calls; halt = a.halt })
+
+opening_same : (laws : Laws) (plan : Plan) (caller : Caller) (minds : List Mind) (words : Stream) (address : List ℕ) (conn : ℕ) (x : ℕ × Met) → AllAllowed plan.settings
+    → Same (opening plan caller (beginning minds words) conn x) (model_opening plan caller minds words conn x.0 x.1)
+unfolding acts
+opening_same laws plan caller minds words address conn x allowed =
+    let k = opening plan caller (beginning minds words) conn x in
+    let m = model_opening plan caller minds words conn x.0 x.1 in
+    let a = both_same laws plan caller minds words address conn x allowed [] in
     record {
-      answers = x;
-      begun = subst (λ z. IsBegun (outside_of a) (outside_of b) plan z) (sym (dials_is plan caller c address conn x is))
-          (record {
-            text = part_then a.seen.held m.seen.held b.seen.held (header plan.settings) (text o.entries) begun.text breaks.begun;
-            calls = began_then a.seen m.seen b.seen (wires.Dials address (Some conn) ∷ []) o.calls begun.calls (tt, tt) (first_counts a.seen.failed m.seen.failed address conn begun.failed) breaks.calls;
-          });
+      entries = sym (append-nil k.entries) ∙ a.entries ∙ append-nil m.entries;
+      calls = sym (append-nil k.calls) ∙ a.calls ∙ append-nil m.calls;
+      halt = a.halt;
     }
+
+turns_same : (laws : Laws) (plan : Plan) (caller : Caller) (minds : List Mind) (words : Stream) (address : List ℕ) (conn : ℕ) (x : ℕ × Met) → AllAllowed plan.settings
+    → AlwaysSame plan (opening plan caller (beginning minds words) conn x).state (model_opening plan caller minds words conn x.0 x.1).state
+turns_same laws plan caller minds words address conn x allowed turns =
+    let k = opening plan caller (beginning minds words) conn x in
+    let m = model_opening plan caller minds words conn x.0 x.1 in
+    let a = both_same laws plan caller minds words address conn x allowed turns in
+    let o = opening_same laws plan caller minds words address conn x allowed in
+    let v = acts (went kept_ends plan) k.state turns in
+    let w = acts (went model_ends plan) m.state turns in
+    record {
+      entries = rest_same k.entries m.entries v.entries w.entries o.entries a.entries;
+      calls = rest_same k.calls m.calls v.calls w.calls o.calls a.calls;
+      halt = a.halt;
+    }
+
+-- with the dial and the header before the cut
+cut_at : (plan : Plan) (a m b : Around) (address : List ℕ) (conn : ℕ) (cut : Cut) (fault : LoopFault) → HasBegun plan (wires.Dials address (Some conn)) a m → Broke m.seen b.seen cut fault
+    → IsCutAt (outside_of a) (outside_of b) (header plan.settings ++ cut.printed) (wires.Dials address (Some conn) ∷ cut.calls)
+cut_at plan a m b address conn cut fault begun broke = record {
+  text = grew_then a.seen.held m.seen.held b.seen.held (header plan.settings) cut.printed begun.text broke.text;
+  calls = grew_then a.seen.calls m.seen.calls b.seen.calls (wires.Dials address (Some conn) ∷ []) cut.calls begun.calls broke.calls;
+  answered = (tt, broke.answered);
+  counted = counts_then a.seen.failed m.seen.failed b.seen.failed (wires.Dials address (Some conn) ∷ []) cut.calls (first_counts a.seen.failed m.seen.failed address conn begun.failed) broke.counted;
+}
+
+-- the numbers of the connections that were opened in the whole turns rise
+rises_whole : (laws : Laws) (plan : Plan) (caller : Caller) (m k : Around) (minds : List Mind) (words : Stream) (address : List ℕ) (conn : ℕ) (l : Loop KEnd) (turns : List Turn) → AllAllowed plan.settings
+    → (p : Opened plan caller m k (beginning minds words) conn l 0 None)
+    → Rises k.newest (opened_in (first_turns kept_ends plan (opening plan caller (beginning minds words) conn p.went.answers).state turns).calls)
+    → Rises m.newest (opened_in (model_whole (many plan (length turns)) caller (beginning minds words) conn (met_so conn p.went.answers turns)).calls)
+unfolding met_so
+rises_whole laws plan caller m k minds words address conn l turns allowed p rising =
+    let x = p.went.answers in
+    let few = many plan (length turns) in
+    let o = opening plan caller (beginning minds words) conn x in
+    let r = first_turns kept_ends plan o.state turns in
+    let none : opened_in o.calls ≡ [] = (opens_opens kept_ends plan caller (asks x.0 (beginning minds words)) conn x.1).0 in
+    let is : whole few caller (beginning minds words) conn (met_so conn x turns) ≡ after o r =
+    ap (λ (z : Out (Course KEnd)). next z (λ e. run kept_ends few e turns)) (opens_many kept_ends plan (length turns) caller (asks x.0 (beginning minds words)) conn x.1) in
+    let both : opened_in (o.calls ++ r.calls) ≡ opened_in r.calls = opened_in-append o.calls r.calls ∙ ap (λ z. z ++ opened_in r.calls) none in
+    let top : k.newest ≡ m.newest = p.went.is.opened ∙ ap (newest m.newest) none in
+    let same : o.calls ++ r.calls ≡ (model_whole few caller (beginning minds words) conn (met_so conn x turns)).calls =
+    ap (λ (z : Out (Course KEnd)). z.calls) (sym is) ∙ (whole_alike laws few caller minds words address conn (met_so conn x turns) allowed refl).calls in
+    subst (λ z. Rises m.newest (opened_in z)) same (subst (λ z. Rises m.newest z) (sym both) (subst (λ z. Rises z (opened_in r.calls)) top rising))
 
 -- the run behind the opening broke off
-dial_off : (plan : Plan) (caller : Caller) (a m k b : Around) (minds : List Mind) (words : Stream) (address : List ℕ) (conn : ℕ) (l : Loop) (fault : LoopFault)
-    → HasBegun plan (wires.Dials address (Some conn)) a m → (p : Opened plan caller m k (beginning minds words) conn l 0 None)
-    → ((asked : List ℕ) → WentOff (run plan (course_of l 0 asked)) k b fault)
-    → BreaksOffDialling (outside_of a) (outside_of b) plan caller address minds words × FailedFor fault a.seen.sunk b.seen.sunk
-unfolding met_so
-dial_off plan caller a m k b minds words address conn l fault begun p q =
-    let c = beginning minds words in
+dial_off : (laws : Laws) (engine rbc : ℕ) (kmac : TripleKey) (plan : Plan) (a m k b : Around) (minds : List Mind) (words : Stream) (address : List ℕ) (conn : ℕ) (l : Loop KEnd) (fault : LoopFault)
+    → AllAllowed plan.settings → plan.keys ≡ pair_of engine rbc kmac ∷ [] → plan.rbc ≡ rbc → m.newest ≡ conn → 0 < conn
+    → HasBegun plan (wires.Dials address (Some conn)) a m → (p : Opened plan (caller_of engine kmac) m k (beginning minds words) conn l 0 None)
+    → ((asked : List ℕ) → RanOff plan k b (course_of l 0 asked) fault)
+    → BreaksOffDialling (outside_of a) (outside_of b) plan (caller_of engine kmac) address minds words × FailedFor fault a.seen.sunk b.seen.sunk
+unfolding met_so lies_in_run lies_acts
+dial_off laws engine rbc kmac plan a m k b minds words address conn l fault allowed keys number top above begun p q =
+    let caller = caller_of engine kmac in
     let x = p.went.answers in
-    let o = opening plan caller c conn x in
-    let e = o.state in
-    let w : WentOff (run plan e) k b fault = subst (λ (z : Course). WentOff (run plan z) k b fault) (course_is m k c l 0 o p.went.is) (q e.asked) in
-    let breaks = breaks_then m.seen k.seen b.seen e o (λ z. run plan z w.answers) fault p.went.is.acted w.breaks in
-    (dial_begun plan caller a m b minds words address conn (met_so conn x w.answers) fault refl begun breaks, failed_behind a.seen.sunk m.seen.sunk b.seen.sunk fault begun.sunk breaks.failed)
+    let o = opening plan caller (beginning minds words) conn x in
+    let w : RanOff plan k b o.state fault = subst (λ (z : Course KEnd). RanOff plan k b z fault) (course_is m k (beginning minds words) l 0 o p.went.is) (q o.state.asked) in
+    let same = opening_same laws plan caller minds words address conn x allowed in
+    let mine = model_opening plan caller minds words conn x.0 x.1 in
+    let few = many plan (length w.lies.turns) in
+    let dialling = is_dialling engine rbc kmac few m minds words address conn (met_so conn x w.lies.turns) allowed keys number top above refl p.early
+    (rises_whole laws plan caller m k minds words address conn l w.lies.turns allowed p w.rises) in
+    let broke = broke_behind m.seen k.seen b.seen o.state o w.cut fault p.went.is.acted w.broke in (
+      InDialling conn x.0 x.1 w.cut (behind mine w.cut)
+          (lies_in_run plan o.state mine.state (turns_same laws plan caller minds words address conn x allowed) w.cut w.lies)
+          (dials_lawful laws few caller minds words address (met_so conn x w.lies.turns) dialling) refl
+          (cut_at plan a m b address conn (behind mine w.cut) fault begun
+          (subst (λ z. Broke m.seen b.seen z fault) (behind_as o mine w.cut same.entries same.calls) broke)),
+      failed_behind a.seen.sunk m.seen.sunk b.seen.sunk fault begun.sunk broke.failed,
+    )
 
 -- the run, however it ended
-pub dial_ran : (laws : Laws) (engine rbc : ℕ) (kmac : TripleKey) (plan : Plan) (a m k b : Around) (minds : List Mind) (words : Stream) (address : List ℕ) (conn : ℕ) (l new : Loop) (count : ℕ) (r : Result Served LoopFault)
+pub dial_ran : (laws : Laws) (engine rbc : ℕ) (kmac : TripleKey) (plan : Plan) (a m k b : Around) (minds : List Mind) (words left : Stream) (address : List ℕ) (conn : ℕ) (l new : Loop KEnd) (count : ℕ) (r : Result Served LoopFault)
     → AllAllowed plan.settings → plan.keys ≡ pair_of engine rbc kmac ∷ [] → plan.rbc ≡ rbc → m.newest ≡ conn → 0 < conn → m.listening ≡ a.listening
     → HasBegun plan (wires.Dials address (Some conn)) a m → Opened plan (caller_of engine kmac) m k (beginning minds words) conn l 0 None
     → a.seen.sunk ≤ b.seen.sunk
     → ((asked : List ℕ) → Runs plan k b (course_of l 0 asked) new count r)
-    → Dials plan (caller_of engine kmac) a b minds words address r
+    → Dials plan (caller_of engine kmac) a b minds words left address r
 unfolding met_so
-dial_ran laws engine rbc kmac plan a m k b minds words address conn l new count (Ok served) allowed keys number top above hears begun p later q =
+dial_ran laws engine rbc kmac plan a m k b minds words left address conn l new count (Ok served) allowed keys number top above hears begun p later q =
     dial_done laws engine rbc kmac plan a m b minds words address conn new served.turns (halt_for served.why) allowed keys number top above hears begun
-    (ran_on laws plan (caller_of engine kmac) m k b minds words conn l new served.turns (halt_for served.why) p q)
-dial_ran laws engine rbc kmac plan a m k b minds words address conn l new count (Err Wires) allowed keys number top above hears begun p later q = (
+    (ran_on plan (caller_of engine kmac) m k b minds words conn l new served.turns (halt_for served.why) p q)
+dial_ran laws engine rbc kmac plan a m k b minds words left address conn l new count (Err Wires) allowed keys number top above hears begun p later q = (
   LineFailed count (dial_done laws engine rbc kmac plan a m b minds words address conn new count (Some OnFailed) allowed keys number top above hears begun
-      (ran_on laws plan (caller_of engine kmac) m k b minds words conn l new count (Some OnFailed) p (λ asked. (q asked).went))),
+      (ran_on plan (caller_of engine kmac) m k b minds words conn l new count (Some OnFailed) p (λ asked. (q asked).went))),
   (let x : a.turns_failed ≤ m.turns_failed = begun.turns_failed in let y : m.turns_failed ≤ k.turns_failed = p.went.is.failed in
       rose_past a.turns_failed k.turns_failed b.turns_failed (omega (arith, x, y)) (q []).rose),
 )
-dial_ran laws engine rbc kmac plan a m k b minds words address conn l new count (Err Sink) allowed keys number top above hears begun p later q =
-    dial_off plan (caller_of engine kmac) a m k b minds words address conn l Sink begun p q
-dial_ran laws engine rbc kmac plan a m k b minds words address conn l new count (Err (NoMemory want)) allowed keys number top above hears begun p later q =
-    dial_off plan (caller_of engine kmac) a m k b minds words address conn l (NoMemory want) begun p q
+dial_ran laws engine rbc kmac plan a m k b minds words left address conn l new count (Err Sink) allowed keys number top above hears begun p later q =
+    dial_off laws engine rbc kmac plan a m k b minds words address conn l Sink allowed keys number top above begun p q
+dial_ran laws engine rbc kmac plan a m k b minds words left address conn l new count (Err (NoMemory want)) allowed keys number top above hears begun p later q =
+    dial_off laws engine rbc kmac plan a m k b minds words address conn l (NoMemory want) allowed keys number top above begun p q
 
 -- the connection was closed at once
-pub dial_closed : (laws : Laws) (engine rbc : ℕ) (kmac : TripleKey) (plan : Plan) (a m b : Around) (minds : List Mind) (words : Stream) (address : List ℕ) (conn : ℕ) (l : Loop) (stays : Bool)
+pub dial_closed : (laws : Laws) (engine rbc : ℕ) (kmac : TripleKey) (plan : Plan) (a m b : Around) (minds : List Mind) (words : Stream) (address : List ℕ) (conn : ℕ) (l : Loop KEnd) (stays : Bool)
     → AllAllowed plan.settings → plan.keys ≡ pair_of engine rbc kmac ∷ [] → plan.rbc ≡ rbc → m.newest ≡ conn → 0 < conn → m.listening ≡ a.listening
     → HasBegun plan (wires.Dials address (Some conn)) a m → stays ≡ false → Opened plan (caller_of engine kmac) m b (beginning minds words) conn l 0 (halt_if stays)
     → HasDialled (outside_of a) (outside_of b) plan (caller_of engine kmac) address minds words 0 (Some OnClosed)
@@ -286,86 +441,69 @@ dial_closed laws engine rbc kmac plan a m b minds words address conn l stays all
     (subst (λ z. Opened plan (caller_of engine kmac) m b (beginning minds words) conn l 0 (halt_if z)) closed p))
 
 -- the opening broke off
-opening_off : (plan : Plan) (caller : Caller) (a m b : Around) (minds : List Mind) (words : Stream) (address : List ℕ) (conn : ℕ) (fault : LoopFault)
-    → HasBegun plan (wires.Dials address (Some conn)) a m → WentOff (opening plan caller (beginning minds words) conn) m b fault
+opening_off : (laws : Laws) (plan : Plan) (caller : Caller) (a m b : Around) (minds : List Mind) (words : Stream) (address : List ℕ) (conn : ℕ) (fault : LoopFault)
+    → AllAllowed plan.settings → HasBegun plan (wires.Dials address (Some conn)) a m → WentOff (λ x cut. LiesIn (opening plan caller (beginning minds words) conn x) cut) m b fault
     → BreaksOffDialling (outside_of a) (outside_of b) plan caller address minds words × FailedFor fault a.seen.sunk b.seen.sunk
-unfolding met_so
-opening_off plan caller a m b minds words address conn fault begun p = (
-  dial_begun plan caller a m b minds words address conn (met_so conn p.answers []) fault refl begun
-      (breaks_first m.seen b.seen (opening plan caller (beginning minds words) conn p.answers) (λ e. run plan e []) fault p.breaks),
-  failed_behind a.seen.sunk m.seen.sunk b.seen.sunk fault begun.sunk p.breaks.failed,
-)
+opening_off laws plan caller a m b minds words address conn fault allowed begun p =
+    let x = p.answers in
+    let same = opening_same laws plan caller minds words address conn x allowed in (
+      InOpening conn x.0 x.1 p.cut
+          (lies_as (opening plan caller (beginning minds words) conn x) (model_opening plan caller minds words conn x.0 x.1) p.cut same.entries same.calls p.lies)
+          (cut_at plan a m b address conn p.cut fault begun p.broke),
+      failed_behind a.seen.sunk m.seen.sunk b.seen.sunk fault begun.sunk p.broke.failed,
+    )
 
-pub dial_stops : (plan : Plan) (caller : Caller) (a m b : Around) (minds : List Mind) (words : Stream) (address : List ℕ) (conn : ℕ) (new : Loop) (n : ℕ) (fault : LoopFault)
-    → HasBegun plan (wires.Dials address (Some conn)) a m → a.seen.sunk ≤ b.seen.sunk
-    → Opens plan caller m b (beginning minds words) conn new n (Err fault) → Dials plan caller a b minds words address (Err fault)
-dial_stops plan caller a m b minds words address conn new n Wires begun later p = absurd p
-dial_stops plan caller a m b minds words address conn new n Sink begun later p = opening_off plan caller a m b minds words address conn Sink begun p
-dial_stops plan caller a m b minds words address conn new n (NoMemory want) begun later p = opening_off plan caller a m b minds words address conn (NoMemory want) begun p
+pub dial_stops : (laws : Laws) (plan : Plan) (caller : Caller) (a m b : Around) (minds : List Mind) (words left : Stream) (address : List ℕ) (conn : ℕ) (new : Loop KEnd) (n : ℕ) (fault : LoopFault)
+    → AllAllowed plan.settings → HasBegun plan (wires.Dials address (Some conn)) a m → a.seen.sunk ≤ b.seen.sunk
+    → Opens plan caller m b (beginning minds words) conn new n (Err fault) → Dials plan caller a b minds words left address (Err fault)
+dial_stops laws plan caller a m b minds words left address conn new n Wires allowed begun later p = absurd p
+dial_stops laws plan caller a m b minds words left address conn new n Sink allowed begun later p = opening_off laws plan caller a m b minds words address conn Sink allowed begun p
+dial_stops laws plan caller a m b minds words left address conn new n (NoMemory want) allowed begun later p = opening_off laws plan caller a m b minds words address conn (NoMemory want) allowed begun p
 
 -- the header broke off
 dial_header_off : (plan : Plan) (caller : Caller) (a b : Around) (minds : List Mind) (words : Stream) (address : List ℕ) (conn : ℕ)
     → Grew a.seen.calls b.seen.calls (wires.Dials address (Some conn) ∷ []) → a.seen.failed ≤ b.seen.failed → GrewPart a.seen.held b.seen.held (header plan.settings)
     → BreaksOffDialling (outside_of a) (outside_of b) plan caller address minds words
-unfolding printed met_so
 dial_header_off plan caller a b minds words address conn told less p =
-    let c = beginning minds words in
-    let x = met_so conn (0, nothing_met) [] in
-    let o = whole plan caller c conn x in
-    record {
-      answers = x;
-      begun = subst (λ z. IsBegun (outside_of a) (outside_of b) plan z) (sym (dials_is plan caller c address conn x refl))
-          (record {
-            text = part_more a.seen.held b.seen.held (header plan.settings) (text o.entries) p;
-            calls = record { part = wires.Dials address (Some conn) ∷ []; rest = o.calls; is = refl; told = told; answered = (tt, tt); counted = first_counts a.seen.failed b.seen.failed address conn less };
-          });
-    }
+    InDiallingHeader conn p.part p.rest p.is (record { text = p.grew; calls = told; answered = (tt, tt); counted = first_counts a.seen.failed b.seen.failed address conn less })
 
-pub dial_header_stops : (plan : Plan) (caller : Caller) (a b : Around) (minds : List Mind) (words : Stream) (address : List ℕ) (conn : ℕ) (fault : LoopFault)
+pub dial_header_stops : (plan : Plan) (caller : Caller) (a b : Around) (minds : List Mind) (words left : Stream) (address : List ℕ) (conn : ℕ) (fault : LoopFault)
     → Grew a.seen.calls b.seen.calls (wires.Dials address (Some conn) ∷ []) → a.seen.failed ≤ b.seen.failed
-    → Breaks a.seen.held b.seen.held a.seen.sunk b.seen.sunk (header plan.settings) fault → Dials plan caller a b minds words address (Err fault)
-dial_header_stops plan caller a b minds words address conn Wires told less p = absurd p.failed
-dial_header_stops plan caller a b minds words address conn Sink told less p = (dial_header_off plan caller a b minds words address conn told less p.begun, p.failed)
-dial_header_stops plan caller a b minds words address conn (NoMemory want) told less p = (dial_header_off plan caller a b minds words address conn told less p.begun, p.failed)
+    → GrewPart a.seen.held b.seen.held (header plan.settings) → FailedFor fault a.seen.sunk b.seen.sunk → Dials plan caller a b minds words left address (Err fault)
+dial_header_stops plan caller a b minds words left address conn Wires told less p q = absurd q
+dial_header_stops plan caller a b minds words left address conn Sink told less p q = (dial_header_off plan caller a b minds words address conn told less p, q)
+dial_header_stops plan caller a b minds words left address conn (NoMemory want) told less p q = (dial_header_off plan caller a b minds words address conn told less p, q)
 
 -- memory ran out before it dialled
-pub dial_wanted : (plan : Plan) (caller : Caller) (a : Around) (minds : List Mind) (words : Stream) (address : List ℕ) (want : Want)
-    → Dials plan caller a a minds words address (Err (NoMemory want))
-dial_wanted plan caller a minds words address want =
-    let x : Dialled = record { conn = None; first = 0; met = nothing_met; turns = [] } in
-    let o = dials plan caller (beginning minds words) address x in (
-      record {
-        answers = x;
-        begun = record {
-          text = part_nothing a.seen.held (printed true plan o.entries);
-          calls = began_none a.seen a.seen o.calls refl (let z : a.seen.failed ≤ a.seen.failed = omega arith in z);
-        };
-      },
-      (let z : a.seen.sunk ≤ a.seen.sunk = omega arith in z),
-    )
+pub dial_wanted : (plan : Plan) (caller : Caller) (a : Around) (minds : List Mind) (words left : Stream) (address : List ℕ) (want : Want)
+    → Dials plan caller a a minds words left address (Err (NoMemory want))
+dial_wanted plan caller a minds words left address want = (
+  BeforeDialling (nothing_done a),
+  (let z : a.seen.sunk ≤ a.seen.sunk = omega arith in z),
+)
 
 -- it never dialled
-pub never_dials : (plan : Plan) (caller : Caller) (a b : Around) (minds : List Mind) (words : Stream) (address : List ℕ)
-    → b.seen.held ≡ a.seen.held → Grew a.seen.calls b.seen.calls (wires.Dials address None ∷ []) → b.asked ≡ a.asked → Rose a.turns_failed b.turns_failed
-    → Dials plan caller a b minds words address (Err Wires)
-never_dials plan caller a b minds words address held told asked rose = (
+pub never_dials : (plan : Plan) (caller : Caller) (a b : Around) (minds : List Mind) (words left : Stream) (address : List ℕ)
+    → b.seen.held ≡ a.seen.held → Grew a.seen.calls b.seen.calls (wires.Dials address None ∷ []) → b.asked ≡ a.asked → left ≡ words → Rose a.turns_failed b.turns_failed
+    → Dials plan caller a b minds words left address (Err Wires)
+never_dials plan caller a b minds words left address held told asked same rose = (
   NotDialling (record {
     text = subst (λ z. Grew a.seen.held z []) (sym held) (grew_nothing a.seen.held);
     calls = told;
     clock = subst (λ z. Grew a.asked z []) (sym asked) (grew_nothing a.asked);
-  }),
+  }) same,
   rose,
 )
 
 -- ---- as a function has them
 
 -- the course from which it opens
-from_start : (P : Course → ℕ → Type 0) (minds : List Mind) (words : Stream) (l0 : Loop) (n0 n : ℕ) → l0 ≡ (beginning minds words).loop → n0 ≡ 0 → n ≡ n0
+from_start : (P : Course KEnd → ℕ → Type 0) (minds : List Mind) (words : Stream) (l0 : Loop KEnd) (n0 n : ℕ) → l0 ≡ (beginning minds words).loop → n0 ≡ 0 → n ≡ n0
     → P (course_of l0 n0 []) n → P (beginning minds words) 0
 from_start P minds words l0 n0 n is zero same p =
     subst (λ z. P (course_of z 0 []) 0) is (subst (λ z. P (course_of l0 z []) z) zero (subst (λ z. P (course_of l0 n0 []) z) same p))
 
-pub dial_closed_from : (laws : Laws) (engine rbc : ℕ) (kmac : TripleKey) (plan : Plan) (a m b : Around) (minds : List Mind) (words : Stream) (address : List ℕ) (conn : ℕ) (l0 l : Loop) (n0 n : ℕ) (stays : Bool)
+pub dial_closed_from : (laws : Laws) (engine rbc : ℕ) (kmac : TripleKey) (plan : Plan) (a m b : Around) (minds : List Mind) (words : Stream) (address : List ℕ) (conn : ℕ) (l0 l : Loop KEnd) (n0 n : ℕ) (stays : Bool)
     → AllAllowed plan.settings → plan.keys ≡ pair_of engine rbc kmac ∷ [] → plan.rbc ≡ rbc → m.newest ≡ conn → 0 < conn → m.listening ≡ a.listening
     → HasBegun plan (wires.Dials address (Some conn)) a m → stays ≡ false → l0 ≡ (beginning minds words).loop → n0 ≡ 0 → n ≡ n0
     → Opens plan (caller_of engine kmac) m b (course_of l0 n0 []) conn l n (Ok stays)
@@ -374,58 +512,63 @@ dial_closed_from laws engine rbc kmac plan a m b minds words address conn l0 l n
     dial_closed laws engine rbc kmac plan a m b minds words address conn l stays allowed keys number top above hears begun closed
     (from_start (λ c z. Opened plan (caller_of engine kmac) m b c conn l z (halt_if stays)) minds words l0 n0 n is zero same p)
 
-pub dial_stops_from : (plan : Plan) (caller : Caller) (a m b : Around) (minds : List Mind) (words : Stream) (address : List ℕ) (conn : ℕ) (l0 new : Loop) (n0 n : ℕ) (fault : LoopFault)
-    → HasBegun plan (wires.Dials address (Some conn)) a m → a.seen.sunk ≤ b.seen.sunk → l0 ≡ (beginning minds words).loop → n0 ≡ 0 → n ≡ n0
-    → Opens plan caller m b (course_of l0 n0 []) conn new n (Err fault) → Dials plan caller a b minds words address (Err fault)
-dial_stops_from plan caller a m b minds words address conn l0 new n0 n fault begun later is zero same p =
-    dial_stops plan caller a m b minds words address conn new 0 fault begun later
+pub dial_stops_from : (laws : Laws) (plan : Plan) (caller : Caller) (a m b : Around) (minds : List Mind) (words left : Stream) (address : List ℕ) (conn : ℕ) (l0 new : Loop KEnd) (n0 n : ℕ) (fault : LoopFault)
+    → AllAllowed plan.settings → HasBegun plan (wires.Dials address (Some conn)) a m → a.seen.sunk ≤ b.seen.sunk → l0 ≡ (beginning minds words).loop → n0 ≡ 0 → n ≡ n0
+    → Opens plan caller m b (course_of l0 n0 []) conn new n (Err fault) → Dials plan caller a b minds words left address (Err fault)
+dial_stops_from laws plan caller a m b minds words left address conn l0 new n0 n fault allowed begun later is zero same p =
+    dial_stops laws plan caller a m b minds words left address conn new 0 fault allowed begun later
     (from_start (λ c z. Opens plan caller m b c conn new z (Err fault)) minds words l0 n0 n is zero same p)
 
-pub dial_ran_from : (laws : Laws) (engine rbc : ℕ) (kmac : TripleKey) (plan : Plan) (a m k b : Around) (minds : List Mind) (words : Stream) (address : List ℕ) (conn : ℕ) (l0 l new : Loop) (n0 n count : ℕ) (stays : Bool) (r : Result Served LoopFault)
+pub dial_ran_from : (laws : Laws) (engine rbc : ℕ) (kmac : TripleKey) (plan : Plan) (a m k b : Around) (minds : List Mind) (words left : Stream) (address : List ℕ) (conn : ℕ) (l0 l new : Loop KEnd) (n0 n count : ℕ) (stays : Bool) (r : Result Served LoopFault)
     → AllAllowed plan.settings → plan.keys ≡ pair_of engine rbc kmac ∷ [] → plan.rbc ≡ rbc → m.newest ≡ conn → 0 < conn → m.listening ≡ a.listening
     → HasBegun plan (wires.Dials address (Some conn)) a m → stays ≡ true → l0 ≡ (beginning minds words).loop → n0 ≡ 0 → n ≡ n0
     → Opens plan (caller_of engine kmac) m k (course_of l0 n0 []) conn l n (Ok stays) → a.seen.sunk ≤ b.seen.sunk
     → ((asked : List ℕ) → Runs plan k b (course_of l 0 asked) new count r)
-    → Dials plan (caller_of engine kmac) a b minds words address r
-dial_ran_from laws engine rbc kmac plan a m k b minds words address conn l0 l new n0 n count stays r allowed keys number top above hears begun goes is zero same p later q =
+    → Dials plan (caller_of engine kmac) a b minds words left address r
+dial_ran_from laws engine rbc kmac plan a m k b minds words left address conn l0 l new n0 n count stays r allowed keys number top above hears begun goes is zero same p later q =
     let from : Opened plan (caller_of engine kmac) m k (beginning minds words) conn l 0 (halt_if stays) =
     from_start (λ c z. Opened plan (caller_of engine kmac) m k c conn l z (halt_if stays)) minds words l0 n0 n is zero same p in
-    dial_ran laws engine rbc kmac plan a m k b minds words address conn l new count r allowed keys number top above hears begun
+    dial_ran laws engine rbc kmac plan a m k b minds words left address conn l new count r allowed keys number top above hears begun
     (subst (λ z. Opened plan (caller_of engine kmac) m k (beginning minds words) conn l 0 (halt_if z)) goes from) later q
 
 -- ---- the public clauses
 
-pub dialled_of : (plan : Plan) (caller : Caller) (a b : Around) (minds : List Mind) (words : Stream) (address : List ℕ) (r : Result Served LoopFault) → Dials plan caller a b minds words address r
+pub dialled_of : (plan : Plan) (caller : Caller) (a b : Around) (minds : List Mind) (words left : Stream) (address : List ℕ) (r : Result Served LoopFault) → Dials plan caller a b minds words left address r
     → IfOk r (λ served. HasDialled (outside_of a) (outside_of b) plan caller address minds words served.turns (halt_for served.why))
-dialled_of plan caller a b minds words address (Ok served) p = p
-dialled_of plan caller a b minds words address (Err fault) p = tt
+dialled_of plan caller a b minds words left address (Ok served) p = p
+dialled_of plan caller a b minds words left address (Err fault) p = tt
 
-pub dial_failed_of : (plan : Plan) (caller : Caller) (a b : Around) (minds : List Mind) (words : Stream) (address : List ℕ) (r : Result Served LoopFault) → Dials plan caller a b minds words address r
-    → r ≡ Err Wires → FailsToDial (outside_of a) (outside_of b) plan caller address minds words
-dial_failed_of plan caller a b minds words address r p is = (subst (λ z. Dials plan caller a b minds words address z) is p).0
+pub dial_failed_of : (plan : Plan) (caller : Caller) (a b : Around) (minds : List Mind) (words left : Stream) (address : List ℕ) (r : Result Served LoopFault) → Dials plan caller a b minds words left address r
+    → r ≡ Err Wires → FailsToDial (outside_of a) (outside_of b) plan caller address minds words left
+dial_failed_of plan caller a b minds words left address r p is = (subst (λ z. Dials plan caller a b minds words left address z) is p).0
 
-pub dial_rose_of : (plan : Plan) (caller : Caller) (a b : Around) (minds : List Mind) (words : Stream) (address : List ℕ) (r : Result Served LoopFault) → Dials plan caller a b minds words address r
+pub dial_rose_of : (plan : Plan) (caller : Caller) (a b : Around) (minds : List Mind) (words left : Stream) (address : List ℕ) (r : Result Served LoopFault) → Dials plan caller a b minds words left address r
     → r ≡ Err Wires → Rose a.turns_failed b.turns_failed
-dial_rose_of plan caller a b minds words address r p is = (subst (λ z. Dials plan caller a b minds words address z) is p).1
+dial_rose_of plan caller a b minds words left address r p is = (subst (λ z. Dials plan caller a b minds words left address z) is p).1
 
-pub dial_off_of : (plan : Plan) (caller : Caller) (a b : Around) (minds : List Mind) (words : Stream) (address : List ℕ) (r : Result Served LoopFault) → Dials plan caller a b minds words address r
+pub dial_off_of : (plan : Plan) (caller : Caller) (a b : Around) (minds : List Mind) (words left : Stream) (address : List ℕ) (r : Result Served LoopFault) → Dials plan caller a b minds words left address r
     → r ≡ Err Sink → BreaksOffDialling (outside_of a) (outside_of b) plan caller address minds words
-dial_off_of plan caller a b minds words address r p is = (subst (λ z. Dials plan caller a b minds words address z) is p).0
+dial_off_of plan caller a b minds words left address r p is = (subst (λ z. Dials plan caller a b minds words left address z) is p).0
 
-pub dial_sunk_of : (plan : Plan) (caller : Caller) (a b : Around) (minds : List Mind) (words : Stream) (address : List ℕ) (r : Result Served LoopFault) → Dials plan caller a b minds words address r
+pub dial_sunk_of : (plan : Plan) (caller : Caller) (a b : Around) (minds : List Mind) (words left : Stream) (address : List ℕ) (r : Result Served LoopFault) → Dials plan caller a b minds words left address r
     → r ≡ Err Sink → Rose a.seen.sunk b.seen.sunk
-dial_sunk_of plan caller a b minds words address r p is = (subst (λ z. Dials plan caller a b minds words address z) is p).1
+dial_sunk_of plan caller a b minds words left address r p is = (subst (λ z. Dials plan caller a b minds words left address z) is p).1
 
-pub dial_memory_of : (plan : Plan) (caller : Caller) (a b : Around) (minds : List Mind) (words : Stream) (address : List ℕ) (r : Result Served LoopFault) → Dials plan caller a b minds words address r
+pub dial_memory_of : (plan : Plan) (caller : Caller) (a b : Around) (minds : List Mind) (words left : Stream) (address : List ℕ) (r : Result Served LoopFault) → Dials plan caller a b minds words left address r
     → (want : Want) → r ≡ Err (NoMemory want) → BreaksOffDialling (outside_of a) (outside_of b) plan caller address minds words
-dial_memory_of plan caller a b minds words address r p want is = (subst (λ z. Dials plan caller a b minds words address z) is p).0
+dial_memory_of plan caller a b minds words left address r p want is = (subst (λ z. Dials plan caller a b minds words left address z) is p).0
 
-pub dial_memory_as : (plan plan' : Plan) (caller : Caller) (a b : Around) (minds : List Mind) (words : Stream) (address : List ℕ) (r : Result Served LoopFault) → plan ≡ plan' → Dials plan caller a b minds words address r
+pub dial_memory_as : (plan plan' : Plan) (caller : Caller) (a b : Around) (minds : List Mind) (words left : Stream) (address : List ℕ) (r : Result Served LoopFault) → plan ≡ plan' → Dials plan caller a b minds words left address r
     → (want : Want) → r ≡ Err (NoMemory want) → BreaksOffDialling (outside_of a) (outside_of b) plan' caller address minds words
-dial_memory_as plan plan' caller a b minds words address r same p want is =
-    subst (λ z. BreaksOffDialling (outside_of a) (outside_of b) z caller address minds words) same (dial_memory_of plan caller a b minds words address r p want is)
+dial_memory_as plan plan' caller a b minds words left address r same p want is =
+    subst (λ z. BreaksOffDialling (outside_of a) (outside_of b) z caller address minds words) same (dial_memory_of plan caller a b minds words left address r p want is)
 
-pub dial_failed_as : (plan plan' : Plan) (caller : Caller) (a b : Around) (minds : List Mind) (words : Stream) (address : List ℕ) (r : Result Served LoopFault) → plan ≡ plan' → Dials plan caller a b minds words address r
-    → r ≡ Err Wires → FailsToDial (outside_of a) (outside_of b) plan' caller address minds words
-dial_failed_as plan plan' caller a b minds words address r same p is =
-    subst (λ z. FailsToDial (outside_of a) (outside_of b) z caller address minds words) same (dial_failed_of plan caller a b minds words address r p is)
+pub dial_failed_as : (plan plan' : Plan) (caller : Caller) (a b : Around) (minds : List Mind) (words left : Stream) (address : List ℕ) (r : Result Served LoopFault) → plan ≡ plan' → Dials plan caller a b minds words left address r
+    → r ≡ Err Wires → FailsToDial (outside_of a) (outside_of b) plan' caller address minds words left
+dial_failed_as plan plan' caller a b minds words left address r same p is =
+    subst (λ z. FailsToDial (outside_of a) (outside_of b) z caller address minds words left) same (dial_failed_of plan caller a b minds words left address r p is)
+
+pub dial_off_as : (plan plan' : Plan) (caller : Caller) (a b : Around) (minds : List Mind) (words left : Stream) (address : List ℕ) (r : Result Served LoopFault) → plan ≡ plan' → Dials plan caller a b minds words left address r
+    → r ≡ Err Sink → BreaksOffDialling (outside_of a) (outside_of b) plan' caller address minds words
+dial_off_as plan plan' caller a b minds words left address r same p is =
+    subst (λ z. BreaksOffDialling (outside_of a) (outside_of b) z caller address minds words) same (dial_off_of plan caller a b minds words left address r p is)

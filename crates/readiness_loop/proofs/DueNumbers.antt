@@ -1,4 +1,6 @@
 -- The first moment that is kept is the first of the sessions' moments, and the numbers that are due are those of the sessions whose moment has come.
+use Rattle.er_end.specs.KeptEnds.{KEnd}
+use Rattle.loop_session.specs.Keeping.{kept_ends}
 use Rattle.std.proofs.Common.{◌≡◌, ℕ, ◌≤◌, nat_le, Bool, true, false, inl, inr, List, [], ◌∷◌, Option, Some, None, map, refl, sym, ◌∙◌, ap, subst, arith}
 use Rattle.std.specs.Prelude.{◌==◌, if◌then◌else◌}
 use Rattle.std.specs.List.{AllByRecursion, Contains}
@@ -32,20 +34,20 @@ moment_is m None p = absurd (let z : false ≡ true = p in cc)
 moment_is m (Some at) p = ap Some (let z : (m == at) ≡ true = p in grind (arith, nat_tests, z))
 
 -- that of a number is that of the session in its slot
-wake_found : (m : ℕ) (slots : Slab Session) (o : Option ℕ) → wake_in slots o ≡ Some m → (k : ℕ) × (o ≡ Some k) × (wake_of (get slots k) ≡ Some m)
+wake_found : (m : ℕ) (slots : Slab (Session KEnd)) (o : Option ℕ) → wake_in slots o ≡ Some m → (k : ℕ) × (o ≡ Some k) × (wake_of (get slots k) ≡ Some m)
 wake_found m slots None p = absurd (let z : None ≡ Some m = p in cc)
 wake_found m slots (Some k) p = (k, refl, p)
 
-wake_there : (slots : Slab Session) (places : BTreeMap ℕ ℕ) (n k : ℕ) → place_of n places.entries ≡ Some k → wake_at slots places n ≡ wake_of (get slots k)
+wake_there : (slots : Slab (Session KEnd)) (places : BTreeMap ℕ ℕ) (n k : ℕ) → place_of n places.entries ≡ Some k → wake_at slots places n ≡ wake_of (get slots k)
 unfolding wake_at
 wake_there slots places n k p = ap (wake_in slots) p
 
-pair_wakes : (slots : Slab Session) (places : BTreeMap ℕ ℕ) (pairs : BTreeSet (ℕ × ℕ)) (m n : ℕ) → AreAwaited slots places pairs → has pairs m n ≡ true
+pair_wakes : (slots : Slab (Session KEnd)) (places : BTreeMap ℕ ℕ) (pairs : BTreeSet (ℕ × ℕ)) (m n : ℕ) → AreAwaited slots places pairs → has pairs m n ≡ true
     → (k : ℕ) × (place_of n places.entries ≡ Some k) × (wake_of (get slots k) ≡ Some m)
 unfolding wake_at
 pair_wakes slots places pairs m n p q = wake_found m slots (place_of n places.entries) (moment_is m (wake_at slots places n) (sym (p.kept m n) ∙ q))
 
-wakes_pair : (slots : Slab Session) (places : BTreeMap ℕ ℕ) (pairs : BTreeSet (ℕ × ℕ)) (m n k : ℕ) → AreAwaited slots places pairs → place_of n places.entries ≡ Some k
+wakes_pair : (slots : Slab (Session KEnd)) (places : BTreeMap ℕ ℕ) (pairs : BTreeSet (ℕ × ℕ)) (m n k : ℕ) → AreAwaited slots places pairs → place_of n places.entries ≡ Some k
     → wake_of (get slots k) ≡ Some m → has pairs m n ≡ true
 wakes_pair slots places pairs m n k p q r = p.kept m n ∙ ap (is_moment m) (wake_there slots places n k q ∙ r) ∙ self_moment m
 
@@ -74,19 +76,19 @@ later_up_to m None b p = p
 later_up_to m (Some x) None p = absurd p
 later_up_to m (Some x) (Some y) p = omega (arith, p)
 
-until_seat : (o : Option Session) (ss : List Session) → until (seat o ss) ≡ first_moment (wake_of o) (until ss)
+until_seat : (o : Option (Session KEnd)) (ss : List (Session KEnd)) → until kept_ends (seat o ss) ≡ first_moment (wake_of o) (until kept_ends ss)
 unfolding until
 until_seat None ss = refl
 until_seat (Some s) ss = refl
 
-until_from : (m : ℕ) (slots : Slab Session) (es : List (ℕ × ℕ)) → AllEntries (λ n k. IsFrom m (wake_of (get slots k))) es → IsFrom m (until (sessions_at slots es))
+until_from : (m : ℕ) (slots : Slab (Session KEnd)) (es : List (ℕ × ℕ)) → AllEntries (λ n k. IsFrom m (wake_of (get slots k))) es → IsFrom m (until kept_ends (sessions_at slots es))
 unfolding seats until
 until_from m slots [] h = tt
 until_from m slots (e ∷ es) h =
     subst (IsFrom m) (sym (until_seat (get slots e.1) (sessions_at slots es)))
-    (first_from m (wake_of (get slots e.1)) (until (sessions_at slots es)) h.0 (until_from m slots es h.1))
+    (first_from m (wake_of (get slots e.1)) (until kept_ends (sessions_at slots es)) h.0 (until_from m slots es h.1))
 
-until_up_to : (m n k : ℕ) (slots : Slab Session) (es : List (ℕ × ℕ)) → place_of n es ≡ Some k → IsUpTo m (wake_of (get slots k)) → IsUpTo m (until (sessions_at slots es))
+until_up_to : (m n k : ℕ) (slots : Slab (Session KEnd)) (es : List (ℕ × ℕ)) → place_of n es ≡ Some k → IsUpTo m (wake_of (get slots k)) → IsUpTo m (until kept_ends (sessions_at slots es))
 unfolding seats until
 until_up_to m n k slots [] p q = absurd (let z : None ≡ Some k = p in cc)
 until_up_to m n k slots (e ∷ es) p q =
@@ -95,16 +97,16 @@ until_up_to m n k slots (e ∷ es) p q =
       | inl t ↦
           (let at : Some e.1 ≡ Some k = subst (λ z. (if z then Some e.1 else place_of n es) ≡ Some k) t p in
           let same : k ≡ e.1 = cc in
-          first_up_to m (wake_of (get slots e.1)) (until (sessions_at slots es)) (subst (λ z. IsUpTo m (wake_of (get slots z))) same q))
+          first_up_to m (wake_of (get slots e.1)) (until kept_ends (sessions_at slots es)) (subst (λ z. IsUpTo m (wake_of (get slots z))) same q))
       | inr t ↦
-          later_up_to m (wake_of (get slots e.1)) (until (sessions_at slots es))
+          later_up_to m (wake_of (get slots e.1)) (until kept_ends (sessions_at slots es))
           (until_up_to m n k slots es (subst (λ z. (if z then Some e.1 else place_of n es) ≡ Some k) t p) q)
     ])
 
-until_none : (slots : Slab Session) (es : List (ℕ × ℕ)) → AllEntries (λ n k. wake_of (get slots k) ≡ None) es → until (sessions_at slots es) ≡ None
+until_none : (slots : Slab (Session KEnd)) (es : List (ℕ × ℕ)) → AllEntries (λ n k. wake_of (get slots k) ≡ None) es → until kept_ends (sessions_at slots es) ≡ None
 unfolding seats until
 until_none slots [] h = refl
-until_none slots (e ∷ es) h = until_seat (get slots e.1) (sessions_at slots es) ∙ ap (λ z. first_moment z (until (sessions_at slots es))) h.0 ∙ until_none slots es h.1
+until_none slots (e ∷ es) h = until_seat (get slots e.1) (sessions_at slots es) ∙ ap (λ z. first_moment z (until kept_ends (sessions_at slots es))) h.0 ∙ until_none slots es h.1
 
 no_moment : (o : Option ℕ) → ((m : ℕ) → o ≡ Some m → ⊥) → o ≡ None
 no_moment None h = refl
@@ -118,15 +120,15 @@ between : (m : ℕ) (o : Option ℕ) → IsFrom m o → IsUpTo m o → Some m �
 between m None p q = absurd q
 between m (Some at) p q = ap Some (let a : m ≤ at = p in let b : at ≤ m = q in omega (arith, a, b))
 
-pub until_first : (slots : Slab Session) (places : BTreeMap ℕ ℕ) (pairs : BTreeSet (ℕ × ℕ)) (first : Option ℕ) → AreAwaited slots places pairs → IsFirst pairs first
-    → first ≡ until (sessions slots places)
+pub until_first : (slots : Slab (Session KEnd)) (places : BTreeMap ℕ ℕ) (pairs : BTreeSet (ℕ × ℕ)) (first : Option ℕ) → AreAwaited slots places pairs → IsFirst pairs first
+    → first ≡ until kept_ends (sessions slots places)
 until_first slots places pairs None p h =
     sym (until_none slots places.entries (all_found (λ n k. wake_of (get slots k) ≡ None) places.entries p.rise
     (λ n k q. no_moment (wake_of (get slots k)) (λ m r. (let z : true ≡ false = sym (wakes_pair slots places pairs m n k p q r) ∙ h m n in cc)))))
 until_first slots places pairs (Some m) p h =
     let n = h.0.0 in
     let there = pair_wakes slots places pairs m n p h.0.1 in
-    between m (until (sessions slots places))
+    between m (until kept_ends (sessions slots places))
     (until_from m slots places.entries (all_found (λ n k. IsFrom m (wake_of (get slots k))) places.entries p.rise
     (λ n k q. from_all m (wake_of (get slots k)) (λ at r. h.1 at n (wakes_pair slots places pairs at n k p q r)))))
     (until_up_to m n there.0 slots places.entries there.1 (subst (IsUpTo m) (sym there.2) (let z : m ≤ m = omega arith in z)))
@@ -138,20 +140,20 @@ due_if true n ns = n ∷ ns
 due_if false n ns = ns
 
 -- those of these places
-abbrev pub due_at : ℕ → Slab Session → List (ℕ × ℕ) → List ℕ
+abbrev pub due_at : ℕ → Slab (Session KEnd) → List (ℕ × ℕ) → List ℕ
 due_at m slots [] = []
 due_at m slots (e ∷ es) = due_if (is_due m (wake_of (get slots e.1))) e.0 (due_at m slots es)
 
-due_seats : (newest m : ℕ) (slots : Slab Session) (es : List (ℕ × ℕ)) → AreSeated newest slots es → due_numbers m (sessions_at slots es) ≡ due_at m slots es
+due_seats : (newest m : ℕ) (slots : Slab (Session KEnd)) (es : List (ℕ × ℕ)) → AreSeated newest slots es → due_numbers m (sessions_at slots es) ≡ due_at m slots es
 unfolding seats AreSeated due_numbers
 due_seats newest m slots [] p = refl
 due_seats newest m slots (e ∷ es) p = of_seat (get slots e.1) p.1 (due_seats newest m slots es p.3)
   where
-    of_seat : (o : Option Session) → IsSeat e.0 o → due_numbers m (sessions_at slots es) ≡ due_at m slots es
+    of_seat : (o : Option (Session KEnd)) → IsSeat e.0 o → due_numbers m (sessions_at slots es) ≡ due_at m slots es
         → due_numbers m (seat o (sessions_at slots es)) ≡ due_if (is_due m (wake_of o)) e.0 (due_at m slots es)
     of_seat None q h = absurd q
     of_seat (Some s) q h =
-        elim (cases_Bool (is_due m (wakes s))) [
+        elim (cases_Bool (is_due m (wakes kept_ends s))) [
           | inl t ↦ rw (t, q, h) refl
           | inr t ↦ rw (t, h) refl
         ]
@@ -160,7 +162,7 @@ if_only : (Q : ℕ → Type 0) (b : Bool) (n : ℕ) (ns : List ℕ) → (b ≡ t
 if_only Q true n ns h all = (h refl, all)
 if_only Q false n ns h all = all
 
-due_at_only : (Q : ℕ → Type 0) (m : ℕ) (slots : Slab Session) (es : List (ℕ × ℕ)) → AllEntries (λ n k. is_due m (wake_of (get slots k)) ≡ true → Q n) es
+due_at_only : (Q : ℕ → Type 0) (m : ℕ) (slots : Slab (Session KEnd)) (es : List (ℕ × ℕ)) → AllEntries (λ n k. is_due m (wake_of (get slots k)) ≡ true → Q n) es
     → AllByRecursion Q (due_at m slots es)
 due_at_only Q m slots [] h = tt
 due_at_only Q m slots (e ∷ es) h = if_only Q (is_due m (wake_of (get slots e.1))) e.0 (due_at m slots es) h.0 (due_at_only Q m slots es h.1)
@@ -173,7 +175,7 @@ if_rest : (b : Bool) (n : ℕ) (ns : List ℕ) (j : ℕ) → Contains ns j → C
 if_rest true n ns j p = in_rest n ns j p
 if_rest false n ns j p = p
 
-due_at_has : (m n k : ℕ) (slots : Slab Session) (es : List (ℕ × ℕ)) → place_of n es ≡ Some k → is_due m (wake_of (get slots k)) ≡ true → Contains (due_at m slots es) n
+due_at_has : (m n k : ℕ) (slots : Slab (Session KEnd)) (es : List (ℕ × ℕ)) → place_of n es ≡ Some k → is_due m (wake_of (get slots k)) ≡ true → Contains (due_at m slots es) n
 due_at_has m n k slots [] p q = absurd (let z : None ≡ Some k = p in cc)
 due_at_has m n k slots (e ∷ es) p q =
     elim (cases_Bool (is_eq (nat_cmp n e.0))) [
@@ -187,7 +189,7 @@ due_at_has m n k slots (e ∷ es) p q =
           (due_at_has m n k slots es (subst (λ z. (if z then Some e.1 else place_of n es) ≡ Some k) t p) q)
     ]
 
-due_at_all : (P : ℕ → Type 0) (m : ℕ) (slots : Slab Session) (es : List (ℕ × ℕ)) → AllByRecursion P (map (λ e. e.0) es) → AllByRecursion P (due_at m slots es)
+due_at_all : (P : ℕ → Type 0) (m : ℕ) (slots : Slab (Session KEnd)) (es : List (ℕ × ℕ)) → AllByRecursion P (map (λ e. e.0) es) → AllByRecursion P (due_at m slots es)
 due_at_all P m slots [] h = tt
 due_at_all P m slots (e ∷ es) h = if_only P (is_due m (wake_of (get slots e.1))) e.0 (due_at m slots es) (λ t. h.0) (due_at_all P m slots es h.1)
 
@@ -196,7 +198,7 @@ unfolding IsStrictlySortedBy
 if_rises true n ns p q = (p, q)
 if_rises false n ns p q = q
 
-due_at_rises : (m : ℕ) (slots : Slab Session) (es : List (ℕ × ℕ)) → IsStrictlySortedBy nat_cmp (map (λ e. e.0) es) → IsStrictlySortedBy nat_cmp (due_at m slots es)
+due_at_rises : (m : ℕ) (slots : Slab (Session KEnd)) (es : List (ℕ × ℕ)) → IsStrictlySortedBy nat_cmp (map (λ e. e.0) es) → IsStrictlySortedBy nat_cmp (due_at m slots es)
 unfolding IsStrictlySortedBy
 due_at_rises m slots [] p = tt
 due_at_rises m slots (e ∷ es) p =
@@ -211,7 +213,7 @@ come_is : (m : ℕ) (o : Option ℕ) → is_due m o ≡ true → (at : ℕ) × (
 come_is m None p = absurd (let z : false ≡ true = p in cc)
 come_is m (Some at) p = (at, refl, (let z : nat_le at m ≡ true = p in grind (arith, nat_tests, z)))
 
-pub due_is : (newest m : ℕ) (slots : Slab Session) (places : BTreeMap ℕ ℕ) (pairs : BTreeSet (ℕ × ℕ)) (sorted : List ℕ)
+pub due_is : (newest m : ℕ) (slots : Slab (Session KEnd)) (places : BTreeMap ℕ ℕ) (pairs : BTreeSet (ℕ × ℕ)) (sorted : List ℕ)
     → AreSeated newest slots places.entries → AreAwaited slots places pairs → IsOrdered pair_cmp pairs
     → IsPermutation (numbers_until m pairs.keys) sorted → IsSorted nat_cmp sorted → sorted ≡ due_numbers m (sessions slots places)
 due_is newest m slots places pairs sorted seated p ordered moved in_order =
@@ -242,6 +244,6 @@ due_is newest m slots places pairs sorted seated p ordered moved in_order =
         (due_at_only (Contains sorted) m slots places.entries (all_found (λ n k. is_due m (wake_of (get slots k)) ≡ true → Contains sorted n) places.entries p.rise is_kept))) q
 
 -- the numbers of the sessions rise
-pub numbers_rise : (newest : ℕ) (slots : Slab Session) (places : BTreeMap ℕ ℕ) (pairs : BTreeSet (ℕ × ℕ)) → AreSeated newest slots places.entries → AreAwaited slots places pairs
+pub numbers_rise : (newest : ℕ) (slots : Slab (Session KEnd)) (places : BTreeMap ℕ ℕ) (pairs : BTreeSet (ℕ × ℕ)) → AreSeated newest slots places.entries → AreAwaited slots places pairs
     → IsStrictlySortedBy nat_cmp (numbers (sessions slots places))
 numbers_rise newest slots places pairs seated p = subst (IsStrictlySortedBy nat_cmp) (sym (numbers_are newest slots places.entries seated)) p.rise

@@ -1,24 +1,28 @@
 -- One turn with what comes before it.
+use Rattle.er_end.specs.KeptEnds.{KEnd}
+use Rattle.loop_session.specs.Keeping.{kept_ends}
 use Rattle.std.proofs.Common.{◌≡◌, ℕ, ◌≤◌, max, Bool, true, false, List, [], ◌∷◌, ◌++◌, Option, Some, None, Result, Ok, Err, length, refl, sym, ◌∙◌, ap, subst, arith, append-nil, append_assoc}
 use Rattle.std.specs.Prelude.{◌==◌, ◌&&◌, if◌then◌else◌}
 use Rattle.link_trait.specs.Outside.{Grew, Rose}
 use Rattle.link_trait.specs.Growth.{grew_then}
 use Rattle.loop_model.specs.Outs.{Out, still, next}
 use Rattle.loop_model.specs.Sessions.{Session}
-use Rattle.loop_model.specs.Loops.{Plan, Loop, rules_of, before, Halt, OnClosed, OnFailed, halt_by, Course, Turn, readied, turned_unless, went, nothing_comes}
+use Rattle.loop_model.specs.Loops.{Plan, Loop, rules_of, before, Halt, OnClosed, OnFailed, halt_by, Course, Turn, readied, turn, turned_unless, went, nothing_comes}
 use Rattle.loop_model.specs.Parts.{opened_in, Rises, newest}
 use Rattle.loop_session.specs.declared.loop_fault.LoopFault.{LoopFault}
 use Rattle.loop_session.specs.declared.loop_fault.LoopFault.TheVariants.{Wires, Sink, NoMemory}
-use Rattle.loop_visit.specs.Acting.{Seen, Acted, BreaksAt, Did, Stopped}
+use Rattle.loop_visit.specs.Acting.{Acted, BreaksAt, Did, Stopped}
+use Rattle.loop_visit.specs.Seeing.{Seen}
 use Rattle.readiness_loop.specs.declared.live_loop.Next.{Next}
-use Rattle.readiness_loop.specs.Courses.{Around, Came, Went, WentOff, Turned, Turns, halt_of, course_of}
-use Rattle.loop_visit.specs.Sequels.{breaks_first}
-use Rattle.readiness_loop.proofs.Sequences.{acted_as, acted_still, acted_then, breaks_as, breaks_then}
+use Rattle.readiness_loop.specs.Cuts.{behind, LiesInTurn, Before, Behind}
+use Rattle.readiness_loop.specs.Courses.{Around, Came, Went, WentOff, LiesBehind, Turned, Turns, halt_of, course_of}
+use Rattle.readiness_loop.proofs.Cutting.{cut_of, cut_lies, cut_broke, broke_behind, behind_next, lies_as}
+use Rattle.readiness_loop.proofs.Sequences.{acted_as, acted_still, acted_then}
 use Rattle.readiness_loop.proofs.Openings.{opened_in-append, before_opens}
 use Rattle.readiness_loop.proofs.Turning.{closed_is}
 
 -- the course behind what comes before a turn, where these sessions are left
-abbrev readied_to : Plan → Loop → ℕ → List ℕ → ℕ → List Session → Course
+abbrev readied_to : Plan → Loop KEnd → ℕ → List ℕ → ℕ → List (Session KEnd) → Course KEnd
 readied_to plan l n asked first ss = record {
   loop = record l { sessions = ss; moment = max l.moment first };
   turns = n;
@@ -26,41 +30,41 @@ readied_to plan l n asked first ss = record {
   asked = asked ++ first ∷ [];
 }
 
-readied_acted : (plan : Plan) (a m : Seen) (l : Loop) (ss : List Session) (n first at : ℕ) (asked : List ℕ) (t : Turn)
-    → at ≡ max l.moment first → (did : Did a m ss (before (rules_of plan) at l.sessions))
-    → Acted a m (readied_to plan l n asked first ss) (readied plan (course_of l n asked) (record t { first = first; sweeps = did.answers }))
+readied_acted : (plan : Plan) (a m : Seen) (l : Loop KEnd) (ss : List (Session KEnd)) (n first at : ℕ) (asked : List ℕ) (t : Turn)
+    → at ≡ max l.moment first → (did : Did a m ss (before kept_ends (rules_of plan) at l.sessions))
+    → Acted a m (readied_to plan l n asked first ss) (readied kept_ends plan (course_of l n asked) (record t { first = first; sweeps = did.answers }))
 unfolding readied
 readied_acted plan a m l ss n first at asked t moment did =
     let x : Turn = record t { first = first; sweeps = did.answers } in
-    let o = before (rules_of plan) (max l.moment first) l.sessions did.answers in
-    let is : Acted a m ss o = subst (λ z. Acted a m ss (before (rules_of plan) z l.sessions did.answers)) moment did.is in
-    acted_as a m ss (readied_to plan l n asked first ss) o (readied plan (course_of l n asked) x) (record { entries = refl; calls = refl })
+    let o = before kept_ends (rules_of plan) (max l.moment first) l.sessions did.answers in
+    let is : Acted a m ss o = subst (λ z. Acted a m ss (before kept_ends (rules_of plan) z l.sessions did.answers)) moment did.is in
+    acted_as a m ss (readied_to plan l n asked first ss) o (readied kept_ends plan (course_of l n asked) x) (record { entries = refl; calls = refl })
     (ap (readied_to plan l n asked first) is.state) is
 
-readied_opens : (plan : Plan) (c : Course) (x : Turn) → opened_in (readied plan c x).calls ≡ []
+readied_opens : (plan : Plan) (c : Course KEnd) (x : Turn) → opened_in (readied kept_ends plan c x).calls ≡ []
 unfolding readied
-readied_opens plan c x = before_opens (rules_of plan) (max c.loop.moment x.first) c.loop.sessions x.sweeps
+readied_opens plan c x = before_opens kept_ends (rules_of plan) (max c.loop.moment x.first) c.loop.sessions x.sweeps
 
-pub go_came : (plan : Plan) (a m b : Around) (l new : Loop) (ss : List Session) (n count first at : ℕ) (asked : List ℕ) (h : Option Halt)
-    → at ≡ max l.moment first → Grew a.asked m.asked (first ∷ []) → Did a.seen m.seen ss (before (rules_of plan) at l.sessions)
+pub go_came : (plan : Plan) (a m b : Around) (l new : Loop KEnd) (ss : List (Session KEnd)) (n count first at : ℕ) (asked : List ℕ) (h : Option Halt)
+    → at ≡ max l.moment first → Grew a.asked m.asked (first ∷ []) → Did a.seen m.seen ss (before kept_ends (rules_of plan) at l.sessions)
     → m.newest ≡ a.newest → m.turns_failed ≡ a.turns_failed → m.listening ≡ a.listening → None ≡ halt_by plan ss
-    → Went (turned_unless None plan (course_of (record l { sessions = ss; moment = at }) n (asked ++ first ∷ []))) m b
+    → Went (turned_unless kept_ends None plan (course_of (record l { sessions = ss; moment = at }) n (asked ++ first ∷ []))) m b
     (course_of (record l { sessions = ss; moment = at }) n (asked ++ first ∷ [])) new count h
-    → Went (went plan (course_of l n asked)) a b (course_of l n asked) new count h
+    → Went (went kept_ends plan (course_of l n asked)) a b (course_of l n asked) new count h
 unfolding went
 go_came plan a m b l new ss n count first at asked h moment clock did top fails hears none q =
     let x : Turn = record q.answers { first = first; sweeps = did.answers } in
     let c = course_of l n asked in
-    let r = readied plan c x in
+    let r = readied kept_ends plan c x in
     let c1 = course_of (record l { sessions = ss; moment = at }) n (asked ++ first ∷ []) in
     let acted = readied_acted plan a.seen m.seen l ss n first at asked q.answers moment did in
     let there : c1 ≡ r.state =
     ap (λ (z : ℕ). course_of (record l { sessions = ss; moment = z }) n (asked ++ first ∷ [])) moment
-    ∙ ap (λ (z : Option Halt). let d : Course = record { loop = record l { sessions = ss; moment = max l.moment first }; turns = n; halt = z; asked = asked ++ first ∷ [] } in d) none
+    ∙ ap (λ (z : Option Halt). let d : Course KEnd = record { loop = record l { sessions = ss; moment = max l.moment first }; turns = n; halt = z; asked = asked ++ first ∷ [] } in d) none
     ∙ acted.state in
-    let is : Came m b c1 new count h (turned_unless r.state.halt plan r.state x) =
-    subst (λ (z : Course). Came m b c1 new count h (turned_unless z.halt plan z x)) there q.is in
-    let o = turned_unless r.state.halt plan r.state x in
+    let is : Came m b c1 new count h (turned_unless kept_ends r.state.halt plan r.state x) =
+    subst (λ (z : Course KEnd). Came m b c1 new count h (turned_unless kept_ends z.halt plan z x)) there q.is in
+    let o = turned_unless kept_ends r.state.halt plan r.state x in
     let calls_are : opened_in (r.calls ++ o.calls) ≡ opened_in o.calls = opened_in-append r.calls o.calls ∙ ap (λ z. z ++ opened_in o.calls) (readied_opens plan c x) in
     record {
       answers = x;
@@ -68,7 +72,7 @@ go_came plan a m b l new ss n count first at asked h moment clock did top fails 
         loop = is.loop;
         turns = is.turns;
         halt = is.halt;
-        acted = acted_then a.seen m.seen b.seen (readied_to plan l n asked first ss) o.state r (λ z. turned_unless z.halt plan z x) acted is.acted;
+        acted = acted_then a.seen m.seen b.seen (readied_to plan l n asked first ss) o.state r (λ z. turned_unless kept_ends z.halt plan z x) acted is.acted;
         more = first ∷ is.more;
         asked = is.asked ∙ append_assoc asked (first ∷ []) is.more;
         answered = grew_then a.asked m.asked b.asked (first ∷ []) is.more clock is.answered;
@@ -80,29 +84,30 @@ go_came plan a m b l new ss n count first at asked h moment clock did top fails 
       };
     }
 
-pub go_off : (plan : Plan) (a m b : Around) (l : Loop) (ss : List Session) (n first at : ℕ) (asked : List ℕ) (fault : LoopFault)
-    → at ≡ max l.moment first → Did a.seen m.seen ss (before (rules_of plan) at l.sessions) → None ≡ halt_by plan ss
-    → WentOff (turned_unless None plan (course_of (record l { sessions = ss; moment = at }) n (asked ++ first ∷ []))) m b fault
-    → WentOff (went plan (course_of l n asked)) a b fault
-unfolding went
+pub go_off : (plan : Plan) (a m b : Around) (l : Loop KEnd) (ss : List (Session KEnd)) (n first at : ℕ) (asked : List ℕ) (fault : LoopFault)
+    → at ≡ max l.moment first → Did a.seen m.seen ss (before kept_ends (rules_of plan) at l.sessions) → None ≡ halt_by plan ss
+    → WentOff (LiesBehind plan (course_of (record l { sessions = ss; moment = at }) n (asked ++ first ∷ []))) m b fault
+    → WentOff (LiesInTurn kept_ends plan (course_of l n asked)) a b fault
 go_off plan a m b l ss n first at asked fault moment did none q =
     let x : Turn = record q.answers { first = first; sweeps = did.answers } in
     let c = course_of l n asked in
-    let r = readied plan c x in
+    let r = readied kept_ends plan c x in
     let c1 = course_of (record l { sessions = ss; moment = at }) n (asked ++ first ∷ []) in
     let acted = readied_acted plan a.seen m.seen l ss n first at asked q.answers moment did in
     let there : c1 ≡ r.state =
     ap (λ (z : ℕ). course_of (record l { sessions = ss; moment = z }) n (asked ++ first ∷ [])) moment
-    ∙ ap (λ (z : Option Halt). let d : Course = record { loop = record l { sessions = ss; moment = max l.moment first }; turns = n; halt = z; asked = asked ++ first ∷ [] } in d) none
+    ∙ ap (λ (z : Option Halt). let d : Course KEnd = record { loop = record l { sessions = ss; moment = max l.moment first }; turns = n; halt = z; asked = asked ++ first ∷ [] } in d) none
     ∙ acted.state in
+    let q' : LiesBehind plan r.state q.answers q.cut = subst (λ (z : Course KEnd). LiesBehind plan z q.answers q.cut) there q.lies in
     record {
       answers = x;
-      breaks = breaks_then a.seen m.seen b.seen (readied_to plan l n asked first ss) r (λ z. turned_unless z.halt plan z x) fault acted
-          (subst (λ (z : Course). BreaksAt m.seen b.seen (turned_unless z.halt plan z x) fault) there q.breaks);
+      cut = behind r q.cut;
+      lies = Behind q'.rest (ap (λ (z : Course KEnd). z.halt) (sym there)) q'.lies (ap (behind r) q'.is ∙ behind_next r (λ z. turn kept_ends z x) q'.rest);
+      broke = broke_behind a.seen m.seen b.seen (readied_to plan l n asked first ss) r q.cut fault acted q.broke;
     }
 
-pub go_on : (plan : Plan) (a m b : Around) (l new : Loop) (ss : List Session) (n count first at : ℕ) (asked : List ℕ) (r : Result Next LoopFault)
-    → at ≡ max l.moment first → Grew a.asked m.asked (first ∷ []) → Did a.seen m.seen ss (before (rules_of plan) at l.sessions)
+pub go_on : (plan : Plan) (a m b : Around) (l new : Loop KEnd) (ss : List (Session KEnd)) (n count first at : ℕ) (asked : List ℕ) (r : Result Next LoopFault)
+    → at ≡ max l.moment first → Grew a.asked m.asked (first ∷ []) → Did a.seen m.seen ss (before kept_ends (rules_of plan) at l.sessions)
     → m.newest ≡ a.newest → m.turns_failed ≡ a.turns_failed → m.listening ≡ a.listening → None ≡ halt_by plan ss
     → Turned plan m b (course_of (record l { sessions = ss; moment = at }) n (asked ++ first ∷ [])) new count r
     → Turns plan a b (course_of l n asked) new count r
@@ -117,55 +122,56 @@ go_on plan a m b l new ss n count first at asked (Err (NoMemory want)) moment cl
     go_off plan a m b l ss n first at asked (NoMemory want) moment did none q
 
 -- what comes before the turn broke off
-before_off : (plan : Plan) (a b : Around) (l : Loop) (n first at : ℕ) (asked : List ℕ) (fault : LoopFault)
-    → at ≡ max l.moment first → Stopped a.seen b.seen (before (rules_of plan) at l.sessions) fault
-    → WentOff (went plan (course_of l n asked)) a b fault
-unfolding went readied
+before_off : (plan : Plan) (a b : Around) (l : Loop KEnd) (n first at : ℕ) (asked : List ℕ) (fault : LoopFault)
+    → at ≡ max l.moment first → Stopped a.seen b.seen (before kept_ends (rules_of plan) at l.sessions) fault
+    → WentOff (LiesInTurn kept_ends plan (course_of l n asked)) a b fault
+unfolding readied
 before_off plan a b l n first at asked fault moment p =
     let x : Turn = record nothing_comes { first = first; sweeps = p.answers } in
     let c = course_of l n asked in
-    let o = before (rules_of plan) (max l.moment first) l.sessions p.answers in
-    let breaks : BreaksAt a.seen b.seen o fault = subst (λ z. BreaksAt a.seen b.seen (before (rules_of plan) z l.sessions p.answers) fault) moment p.breaks in
+    let o = before kept_ends (rules_of plan) (max l.moment first) l.sessions p.answers in
+    let breaks : BreaksAt a.seen b.seen o fault = subst (λ z. BreaksAt a.seen b.seen (before kept_ends (rules_of plan) z l.sessions p.answers) fault) moment p.breaks in
     record {
       answers = x;
-      breaks = breaks_first a.seen b.seen (readied plan c x) (λ z. turned_unless z.halt plan z x) fault
-          (breaks_as a.seen b.seen o (readied plan c x) fault (record { entries = refl; calls = refl }) breaks);
+      cut = cut_of a.seen b.seen o fault breaks;
+      lies = Before (lies_as o (readied kept_ends plan c x) (cut_of a.seen b.seen o fault breaks) refl refl (cut_lies a.seen b.seen o fault breaks));
+      broke = cut_broke a.seen b.seen o fault breaks;
     }
 
-pub go_stops : (plan : Plan) (a b : Around) (l new : Loop) (n count first at : ℕ) (asked : List ℕ) (fault : LoopFault)
-    → at ≡ max l.moment first → Stopped a.seen b.seen (before (rules_of plan) at l.sessions) fault
+pub go_stops : (plan : Plan) (a b : Around) (l new : Loop KEnd) (n count first at : ℕ) (asked : List ℕ) (fault : LoopFault)
+    → at ≡ max l.moment first → Stopped a.seen b.seen (before kept_ends (rules_of plan) at l.sessions) fault
     → Turns plan a b (course_of l n asked) new count (Err fault)
 go_stops plan a b l new n count first at asked Wires moment p = absurd p.breaks.failed
 go_stops plan a b l new n count first at asked Sink moment p = before_off plan a b l n first at asked Sink moment p
 go_stops plan a b l new n count first at asked (NoMemory want) moment p = before_off plan a b l n first at asked (NoMemory want) moment p
 
 -- it closed the one connection of a dial
-pub go_closed : (plan : Plan) (a b : Around) (l : Loop) (ss : List Session) (n first at : ℕ) (asked : List ℕ)
-    → at ≡ max l.moment first → Grew a.asked b.asked (first ∷ []) → Did a.seen b.seen ss (before (rules_of plan) at l.sessions)
+pub go_closed : (plan : Plan) (a b : Around) (l : Loop KEnd) (ss : List (Session KEnd)) (n first at : ℕ) (asked : List ℕ)
+    → at ≡ max l.moment first → Grew a.asked b.asked (first ∷ []) → Did a.seen b.seen ss (before kept_ends (rules_of plan) at l.sessions)
     → b.newest ≡ a.newest → b.turns_failed ≡ a.turns_failed → b.listening ≡ a.listening → Some OnClosed ≡ halt_by plan ss
-    → Went (went plan (course_of l n asked)) a b (course_of l n asked) (record l { sessions = ss; moment = at }) n (Some OnClosed)
+    → Went (went kept_ends plan (course_of l n asked)) a b (course_of l n asked) (record l { sessions = ss; moment = at }) n (Some OnClosed)
 unfolding went
 go_closed plan a b l ss n first at asked moment clock did top fails hears halts =
     let x : Turn = record nothing_comes { first = first; sweeps = did.answers } in
     let c = course_of l n asked in
-    let r = readied plan c x in
+    let r = readied kept_ends plan c x in
     let acted = readied_acted plan a.seen b.seen l ss n first at asked nothing_comes moment did in
-    let halted : Some OnClosed ≡ r.state.halt = halts ∙ ap (λ (z : Course). z.halt) acted.state in
-    let stays : still r.state ≡ turned_unless r.state.halt plan r.state x = ap (λ z. turned_unless z plan r.state x) halted in
-    let all : Out Course = next r (λ z. still z) in
-    let whole : all ≡ next r (λ z. turned_unless z.halt plan z x) =
-    ap (λ (z : Out Course). let o : Out Course = record { state = z.state; entries = r.entries ++ z.entries; calls = r.calls ++ z.calls } in o) stays in
+    let halted : Some OnClosed ≡ r.state.halt = halts ∙ ap (λ (z : Course KEnd). z.halt) acted.state in
+    let stays : still r.state ≡ turned_unless kept_ends r.state.halt plan r.state x = ap (λ z. turned_unless kept_ends z plan r.state x) halted in
+    let all : Out (Course KEnd) = next r (λ z. still z) in
+    let whole : all ≡ next r (λ z. turned_unless kept_ends z.halt plan z x) =
+    ap (λ (z : Out (Course KEnd)). let o : Out (Course KEnd) = record { state = z.state; entries = r.entries ++ z.entries; calls = r.calls ++ z.calls } in o) stays in
     let calls_are : opened_in (r.calls ++ []) ≡ [] = ap opened_in (append-nil r.calls) ∙ readied_opens plan c x in
     record {
       answers = x;
       is = subst (λ z. Came a b c (record l { sessions = ss; moment = at }) n (Some OnClosed) z) whole
           (record {
-            loop = ap (λ (z : ℕ). let k : Loop = record l { sessions = ss; moment = z } in k) moment ∙ ap (λ (z : Course). z.loop) acted.state;
-            turns = ap (λ (z : Course). z.turns) acted.state;
+            loop = ap (λ (z : ℕ). let k : Loop KEnd = record l { sessions = ss; moment = z } in k) moment ∙ ap (λ (z : Course KEnd). z.loop) acted.state;
+            turns = ap (λ (z : Course KEnd). z.turns) acted.state;
             halt = halted;
             acted = acted_then a.seen b.seen b.seen (readied_to plan l n asked first ss) r.state r (λ z. still z) acted (acted_still b.seen r.state r.state refl);
             more = first ∷ [];
-            asked = sym (ap (λ (z : Course). z.asked) acted.state);
+            asked = sym (ap (λ (z : Course KEnd). z.asked) acted.state);
             answered = clock;
             opened = top ∙ ap (newest a.newest) (sym calls_are);
             rises = subst (λ z. Rises a.newest z) (sym calls_are) tt;
@@ -177,14 +183,14 @@ go_closed plan a b l ss n first at asked moment clock did top fails hears halts 
 
 -- ---- the same, by the facts as a function has them
 
-pub not_closed : (plan : Plan) (ss : List Session) (n : ℕ) (b : Bool) → b ≡ (plan.dials && (n == 0)) → length ss ≡ n → b ≡ false → None ≡ halt_by plan ss
+pub not_closed : (plan : Plan) (ss : List (Session KEnd)) (n : ℕ) (b : Bool) → b ≡ (plan.dials && (n == 0)) → length ss ≡ n → b ≡ false → None ≡ halt_by plan ss
 not_closed plan ss n b p q r = sym (closed_is plan ss n b p q ∙ ap (λ (z : Bool). if z then Some OnClosed else None) r)
 
-pub closed_now : (plan : Plan) (ss : List Session) (n : ℕ) (b : Bool) → b ≡ (plan.dials && (n == 0)) → length ss ≡ n → b ≡ true → Some OnClosed ≡ halt_by plan ss
+pub closed_now : (plan : Plan) (ss : List (Session KEnd)) (n : ℕ) (b : Bool) → b ≡ (plan.dials && (n == 0)) → length ss ≡ n → b ≡ true → Some OnClosed ≡ halt_by plan ss
 closed_now plan ss n b p q r = sym (closed_is plan ss n b p q ∙ ap (λ (z : Bool). if z then Some OnClosed else None) r)
 
-pub go_on_from : (plan : Plan) (a m b : Around) (l l1 new : Loop) (ss : List Session) (n n1 count first at : ℕ) (asked : List ℕ) (r : Result Next LoopFault)
-    → at ≡ max l.moment first → Grew a.asked m.asked (first ∷ []) → Did a.seen m.seen ss (before (rules_of plan) at l.sessions)
+pub go_on_from : (plan : Plan) (a m b : Around) (l l1 new : Loop KEnd) (ss : List (Session KEnd)) (n n1 count first at : ℕ) (asked : List ℕ) (r : Result Next LoopFault)
+    → at ≡ max l.moment first → Grew a.asked m.asked (first ∷ []) → Did a.seen m.seen ss (before kept_ends (rules_of plan) at l.sessions)
     → m.newest ≡ a.newest → m.turns_failed ≡ a.turns_failed → m.listening ≡ a.listening → None ≡ halt_by plan ss
     → l1 ≡ record l { sessions = ss; moment = at } → n1 ≡ n
     → Turned plan m b (course_of l1 n1 (asked ++ first ∷ [])) new count r
@@ -194,12 +200,12 @@ go_on_from plan a m b l l1 new ss n n1 count first at asked r moment clock did t
     (subst (λ z. Turned plan m b (course_of (record l { sessions = ss; moment = at }) z (asked ++ first ∷ [])) new count r) same
     (subst (λ z. Turned plan m b (course_of z n1 (asked ++ first ∷ [])) new count r) is q))
 
-pub go_closed_from : (plan : Plan) (a b : Around) (l l1 : Loop) (ss : List Session) (n n1 first at : ℕ) (asked : List ℕ)
-    → at ≡ max l.moment first → Grew a.asked b.asked (first ∷ []) → Did a.seen b.seen ss (before (rules_of plan) at l.sessions)
+pub go_closed_from : (plan : Plan) (a b : Around) (l l1 : Loop KEnd) (ss : List (Session KEnd)) (n n1 first at : ℕ) (asked : List ℕ)
+    → at ≡ max l.moment first → Grew a.asked b.asked (first ∷ []) → Did a.seen b.seen ss (before kept_ends (rules_of plan) at l.sessions)
     → b.newest ≡ a.newest → b.turns_failed ≡ a.turns_failed → b.listening ≡ a.listening → Some OnClosed ≡ halt_by plan ss
     → l1 ≡ record l { sessions = ss; moment = at } → n1 ≡ n
-    → Went (went plan (course_of l n asked)) a b (course_of l n asked) l1 n1 (Some OnClosed)
+    → Went (went kept_ends plan (course_of l n asked)) a b (course_of l n asked) l1 n1 (Some OnClosed)
 go_closed_from plan a b l l1 ss n n1 first at asked moment clock did top fails hears halts is same =
-    subst (λ z. Went (went plan (course_of l n asked)) a b (course_of l n asked) l1 z (Some OnClosed)) (sym same)
-    (subst (λ z. Went (went plan (course_of l n asked)) a b (course_of l n asked) z n (Some OnClosed)) (sym is)
+    subst (λ z. Went (went kept_ends plan (course_of l n asked)) a b (course_of l n asked) l1 z (Some OnClosed)) (sym same)
+    (subst (λ z. Went (went kept_ends plan (course_of l n asked)) a b (course_of l n asked) z n (Some OnClosed)) (sym is)
     (go_closed plan a b l ss n first at asked moment clock did top fails hears halts))

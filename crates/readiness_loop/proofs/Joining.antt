@@ -1,4 +1,5 @@
 -- A session joins those of a book: its number is above theirs, and its slot was empty.
+use Rattle.er_end.specs.KeptEnds.{KEnd}
 use Rattle.std.proofs.Common.{◌≡◌, ◌≢◌, ℕ, ◌-◌, ◌<◌, ◌≤◌, List, [], ◌∷◌, ◌++◌, Option, Some, None, refl, sym, ◌∙◌, ap, subst, arith}
 use Rattle.std.specs.Ordering.{nat_cmp, match_ordering}
 use Rattle.std.specs.Cmp.{nat_cmp_is}
@@ -9,7 +10,7 @@ use Rattle.loop_model.specs.Sessions.{Session}
 use Rattle.readiness_loop.specs.Books.{seat, seats, sessions, sessions_at, IsSeat, IsApart, AreSeated}
 use Rattle.readiness_loop.proofs.Seats.{OthersStay}
 
-insert_last : (newest n k : ℕ) (slots : Slab Session) (es : List (ℕ × ℕ)) → AreSeated newest slots es → newest < n
+insert_last : (newest n k : ℕ) (slots : Slab (Session KEnd)) (es : List (ℕ × ℕ)) → AreSeated newest slots es → newest < n
     → insert_entry nat_cmp es n k ≡ es ++ (n, k) ∷ []
 unfolding AreSeated
 insert_last newest n k slots [] p q = refl
@@ -19,11 +20,11 @@ insert_last newest n k slots (e ∷ es) p q =
     subst (λ o. match_ordering o ((n, k) ∷ e ∷ es) ((e.0, k) ∷ es) (e ∷ insert_entry nat_cmp es n k) ≡ e ∷ (es ++ (n, k) ∷ [])) above
     (ap (λ z. e ∷ z) (insert_last newest n k slots es p.3 q))
 
-seat_append : (o : Option Session) (xs ys : List Session) → seat o (xs ++ ys) ≡ seat o xs ++ ys
+seat_append : (o : Option (Session KEnd)) (xs ys : List (Session KEnd)) → seat o (xs ++ ys) ≡ seat o xs ++ ys
 seat_append None xs ys = refl
 seat_append (Some s) xs ys = refl
 
-seats_last : (slots : Slab Session) (es : List (ℕ × ℕ)) (n k : ℕ) (s : Session) → get slots k ≡ Some s
+seats_last : (slots : Slab (Session KEnd)) (es : List (ℕ × ℕ)) (n k : ℕ) (s : Session KEnd) → get slots k ≡ Some s
     → sessions_at slots (es ++ (n, k) ∷ []) ≡ sessions_at slots es ++ s ∷ []
 unfolding seats
 seats_last slots [] n k s p = ap (λ z. seat z []) p
@@ -31,12 +32,12 @@ seats_last slots (e ∷ es) n k s p =
     ap (λ z. seat (get slots e.1) z) (seats_last slots es n k s p) ∙ seat_append (get slots e.1) (sessions_at slots es) (s ∷ [])
 
 -- an empty slot is no place's
-empty_apart : (newest k : ℕ) (slots : Slab Session) (es : List (ℕ × ℕ)) → AreSeated newest slots es → get slots k ≡ None → IsApart k es
+empty_apart : (newest k : ℕ) (slots : Slab (Session KEnd)) (es : List (ℕ × ℕ)) → AreSeated newest slots es → get slots k ≡ None → IsApart k es
 unfolding AreSeated
 empty_apart newest k slots [] p q = tt
 empty_apart newest k slots (e ∷ es) p q = (λ same. subst (λ z. IsSeat e.0 z) (ap (get slots) same ∙ q) p.1, empty_apart newest k slots es p.3 q)
 
-others_same : (slots now : Slab Session) (k : ℕ) (es : List (ℕ × ℕ)) → OthersStay slots now k → IsApart k es → sessions_at now es ≡ sessions_at slots es
+others_same : (slots now : Slab (Session KEnd)) (k : ℕ) (es : List (ℕ × ℕ)) → OthersStay slots now k → IsApart k es → sessions_at now es ≡ sessions_at slots es
 unfolding seats
 others_same slots now k [] h p = refl
 others_same slots now k (e ∷ es) h p = rw (h e.1 p.0, others_same slots now k es h p.1) refl
@@ -45,7 +46,7 @@ apart_more : (j n k : ℕ) (es : List (ℕ × ℕ)) → IsApart j es → k ≢ j
 apart_more j n k [] p q = (q, tt)
 apart_more j n k (e ∷ es) p q = (p.0, apart_more j n k es p.1 q)
 
-seated_more : (newest n k : ℕ) (slots now : Slab Session) (es : List (ℕ × ℕ)) (s : Session) → AreSeated newest slots es → IsApart k es → OthersStay slots now k
+seated_more : (newest n k : ℕ) (slots now : Slab (Session KEnd)) (es : List (ℕ × ℕ)) (s : Session KEnd) → AreSeated newest slots es → IsApart k es → OthersStay slots now k
     → get now k ≡ Some s → s.number ≡ n → newest ≤ n → AreSeated n now (es ++ (n, k) ∷ [])
 unfolding AreSeated
 seated_more newest n k slots now [] s p free h at is low = (omega arith, subst (λ z. IsSeat n z) (sym at) is, tt, tt)
@@ -57,10 +58,10 @@ seated_more newest n k slots now (e ∷ es) s p free h at is low = (
 )
 
 -- the slab had room made first, which changes no slot
-same_slots : (slots mid : Slab Session) (room : ℕ) → mid ≡ record slots { capacity = room } → (j : ℕ) → get mid j ≡ get slots j
-same_slots slots mid room p j = ap (λ (z : Slab Session). get z j) p
+same_slots : (slots mid : Slab (Session KEnd)) (room : ℕ) → mid ≡ record slots { capacity = room } → (j : ℕ) → get mid j ≡ get slots j
+same_slots slots mid room p j = ap (λ (z : Slab (Session KEnd)). get z j) p
 
-pub add_sessions : (n k room : ℕ) (slots mid now : Slab Session) (places more : BTreeMap ℕ ℕ) (s : Session)
+pub add_sessions : (n k room : ℕ) (slots mid now : Slab (Session KEnd)) (places more : BTreeMap ℕ ℕ) (s : Session KEnd)
     → AreSeated (s.number - 1) slots places.entries → 0 < s.number → mid ≡ record slots { capacity = room } → get mid k ≡ None → Updates mid now k (Some s)
     → n ≡ s.number → more.entries ≡ insert_entry nat_cmp places.entries n k
     → sessions now more ≡ sessions slots places ++ s ∷ []
@@ -73,7 +74,7 @@ add_sessions n k room slots mid now places more s p pos m free u is e =
     ∙ seats_last now places.entries n k s u.changed
     ∙ ap (λ z. z ++ s ∷ []) (others_same slots now k places.entries stays apart)
 
-pub add_seated : (n k room : ℕ) (slots mid now : Slab Session) (places more : BTreeMap ℕ ℕ) (s : Session)
+pub add_seated : (n k room : ℕ) (slots mid now : Slab (Session KEnd)) (places more : BTreeMap ℕ ℕ) (s : Session KEnd)
     → AreSeated (s.number - 1) slots places.entries → 0 < s.number → mid ≡ record slots { capacity = room } → get mid k ≡ None → Updates mid now k (Some s)
     → n ≡ s.number → more.entries ≡ insert_entry nat_cmp places.entries n k
     → AreSeated s.number now more.entries

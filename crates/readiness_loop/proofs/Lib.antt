@@ -13,9 +13,13 @@ mod DueNumbers
 mod Numbers
 mod Fills
 mod Acceptings
+mod Cutting
+mod Planned
 mod Turning
 mod Going
 mod Running
+mod Likewise
+mod Shown
 mod Listening
 mod Calling
 mod Dials

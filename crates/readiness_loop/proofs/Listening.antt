@@ -1,5 +1,7 @@
 -- A loop that serves: it listens, the header is printed, and it runs.
-use Rattle.std.proofs.Common.{◌≡◌, ℕ, ◌+◌, ◌-◌, ◌^◌, ◌<◌, ◌≤◌, min, List, [], ◌∷◌, ◌++◌, Option, Some, Result, Ok, Err, refl, sym, ◌∙◌, ap, subst, arith}
+use Rattle.er_end.specs.KeptEnds.{KEnd}
+use Rattle.loop_session.specs.Keeping.{kept_ends}
+use Rattle.std.proofs.Common.{◌≡◌, ℕ, ◌+◌, ◌-◌, ◌^◌, ◌<◌, ◌≤◌, min, List, [], ◌∷◌, ◌++◌, Option, Some, Result, Ok, Err, length, refl, sym, ◌∙◌, ap, subst, arith}
 use Rattle.std.specs.Prelude.{true, false, IfOk}
 use Rattle.rand_core.specs.Stream.{Stream}
 use Rattle.slab.specs.Slab.{Slab}
@@ -11,24 +13,30 @@ use Rattle.er_settings.specs.Ranges.{AllAllowed}
 use Rattle.er_trace.specs.Texts.{header_words}
 use Rattle.loop_model.specs.Sessions.{Session}
 use Rattle.er_users.specs.Users.{Mind}
+use Rattle.link_trait.specs.States.{SinkState}
 use Rattle.link_trait.specs.Outside.{Grew, GrewPart, Rose}
-use Rattle.link_trait.specs.Growth.{grew_nothing, grew_then, part_nothing, part_more, part_then}
+use Rattle.link_trait.specs.Growth.{grew_nothing, grew_then}
 use Rattle.link_trait.specs.Wires.{Call, Listens, given_of, taken_of}
+use Rattle.loop_model.specs.Ends.{model_ends}
 use Rattle.loop_model.specs.Journals.{header, text}
 use Rattle.loop_model.specs.Loops.{Plan, Loop, Halt, OnFailed, Turn, run, beginning, serves, printed}
-use Rattle.loop_model.specs.Parts.{Rises, calls_at}
+use Rattle.loop_model.specs.Parts.{Rises, calls_at, opened_in}
 use Rattle.loop_model.specs.Laws.{ConnectionsAreIsolated, JournalIsPrinted, OctetsAreAccounted, CallsAreOnOpen, FaultsHaveFailed, TurnsAreCounted, IsServing, RunsSo, faults, failures, turns_of, HaltsBy}
 use Rattle.loop_model.specs.Points.{OctetsAreHeard, UsersReply}
 use Rattle.loop_model.specs.Recordings.{RecordingsReplay}
-use Rattle.loop_session.specs.Parts.{Breaks, Puts}
+use Rattle.loop_session.specs.Parts.{FailedFor, Puts}
+use Rattle.loop_session.specs.Standing.{RunsAlike, DialsAlike}
 use Rattle.loop_session.specs.declared.loop_fault.LoopFault.{LoopFault}
 use Rattle.loop_session.specs.declared.loop_fault.LoopFault.TheVariants.{Wires, Sink, NoMemory}
-use Rattle.loop_visit.specs.Acting.{Counts}
+use Rattle.loop_visit.specs.Seeing.{Counts}
 use Rattle.readiness_loop.specs.declared.line_plan.Served.{Served}
-use Rattle.readiness_loop.specs.Claims.{IsDone, IsLawful, HasTurns, AreSpoken, HasServed, NotListening, TurnFailed, FailsToServe, BreaksOffServing, halt_for}
-use Rattle.readiness_loop.specs.Courses.{Around, Went, WentOff, Runs, Serves, outside_of, course_of, loop_of}
-use Rattle.loop_visit.specs.Sequels.{began_none, began_then, failed_behind}
+use Rattle.readiness_loop.specs.Claims.{IsDone, IsLawful, HasTurns, AreSpoken, HasServed, NotListening, TurnFailed, FailsToServe, IsCutAt, BeforeListening, InServingHeader, InServing, BreaksOffServing, halt_for}
+use Rattle.readiness_loop.specs.Courses.{Around, Went, RanOff, Runs, Serves, outside_of, course_of, loop_of}
+use Rattle.loop_visit.specs.Sequels.{counts_none, counts_then, failed_behind}
 use Rattle.readiness_loop.proofs.Acceptings.{no_sessions}
+use Rattle.readiness_loop.proofs.Planned.{many, lies_acts}
+use Rattle.readiness_loop.proofs.Likewise.{begin_same, lies_in_run}
+use Rattle.readiness_loop.proofs.Shown.{Shown, shown}
 
 -- the laws of the loop, as a function cites them
 pub record Laws : Type 0 where
@@ -41,6 +49,9 @@ pub record Laws : Type 0 where
   pub replies : UsersReply
   pub faults : FaultsHaveFailed
   pub turns : TurnsAreCounted
+  -- over ends as they are kept a loop does the same
+  pub runs : RunsAlike
+  pub dials : DialsAlike
 
 -- a first call was made, and the header was printed
 pub record HasBegun (plan : Plan) (call : Call) (a m : Around) : Type 0 where
@@ -55,35 +66,35 @@ pub rises_low : (low from : ℕ) (ns : List ℕ) → low ≤ from → Rises from
 rises_low low from [] p q = tt
 rises_low low from (n ∷ ns) p q = (let h : from < n = q.0 in omega (arith, p, h), q.1)
 
-is_serving : (plan : Plan) (m b : Around) (minds : List Mind) (words : Stream) (new : Loop) (count : ℕ) (why : Option Halt)
-    → AllAllowed plan.settings → (w : Went (run plan (beginning minds words)) m b (beginning minds words) new count why)
-    → IsServing plan (beginning minds words) w.answers
-is_serving plan m b minds words new count why allowed w = record {
+is_serving : (plan : Plan) (m b : Around) (minds : List Mind) (words : Stream) (turns : List Turn) (count : ℕ) (why : Option Halt)
+    → AllAllowed plan.settings → Shown m b (run model_ends plan (beginning minds words) turns) count why
+    → IsServing plan (beginning minds words) turns
+is_serving plan m b minds words turns count why allowed s = record {
   none = refl;
-  rises = rises_low 0 m.newest _ (omega arith) w.is.rises;
+  rises = rises_low 0 m.newest _ (omega arith) s.rises;
   allowed = allowed;
 }
 
-serves_done : (laws : Laws) (plan : Plan) (a m b : Around) (minds : List Mind) (words : Stream) (address : List ℕ) (new : Loop) (count : ℕ) (why : Option Halt)
-    → HasBegun plan (Listens address true) a m → (w : Went (run plan (beginning minds words)) m b (beginning minds words) new count why)
-    → IsDone (outside_of a) (outside_of b) true plan (serves plan (beginning minds words) address true w.answers)
+serves_done : (laws : Laws) (plan : Plan) (a m b : Around) (minds : List Mind) (words : Stream) (address : List ℕ) (turns : List Turn) (count : ℕ) (why : Option Halt)
+    → HasBegun plan (Listens address true) a m → Shown m b (run model_ends plan (beginning minds words) turns) count why
+    → IsDone (outside_of a) (outside_of b) true plan (serves model_ends plan (beginning minds words) address true turns)
 unfolding serves printed
-serves_done laws plan a m b minds words address new count why begun w =
-    let o = run plan (beginning minds words) w.answers in
+serves_done laws plan a m b minds words address turns count why begun s =
+    let o = run model_ends plan (beginning minds words) turns in
     record {
-      text = grew_then a.seen.held m.seen.held b.seen.held (header plan.settings) (text o.entries) begun.text w.is.acted.printed;
-      calls = grew_then a.seen.calls m.seen.calls b.seen.calls (Listens address true ∷ []) o.calls begun.calls w.is.acted.told;
-      clock = subst (λ z. Grew z b.asked o.state.asked) begun.asked (subst (λ z. Grew m.asked b.asked z) (sym w.is.asked) w.is.answered);
-      answered = (tt, w.is.acted.answered);
-      faults = (let few : faults o.entries ≤ failures o.calls = laws.faults.serving plan (beginning minds words) w.answers in
+      text = grew_then a.seen.held m.seen.held b.seen.held (header plan.settings) (text o.entries) begun.text s.printed;
+      calls = grew_then a.seen.calls m.seen.calls b.seen.calls (Listens address true ∷ []) o.calls begun.calls s.told;
+      clock = subst (λ z. Grew z b.asked o.state.asked) begun.asked s.asked;
+      answered = (tt, s.answered);
+      faults = (let few : faults o.entries ≤ failures o.calls = laws.faults.serving plan (beginning minds words) turns in
           let less : a.seen.failed ≤ m.seen.failed = begun.failed in
-          let counted : min (m.seen.failed + failures o.calls) (2 ^ 64 - 1) ≤ b.seen.failed = w.is.acted.counted in
+          let counted : min (m.seen.failed + failures o.calls) (2 ^ 64 - 1) ≤ b.seen.failed = s.counted in
           omega (arith, few, less, counted));
-      in_grammar = w.is.acted.in_grammar;
+      in_grammar = s.in_grammar;
     }
 
 serves_lawful : (laws : Laws) (plan : Plan) (minds : List Mind) (words : Stream) (address : List ℕ) (turns : List Turn)
-    → IsServing plan (beginning minds words) turns → IsLawful plan (serves plan (beginning minds words) address true turns)
+    → IsServing plan (beginning minds words) turns → IsLawful plan (serves model_ends plan (beginning minds words) address true turns)
 unfolding serves given_of taken_of calls_at
 serves_lawful laws plan minds words address turns serving = record {
   isolated = laws.isolated.serving plan (beginning minds words) turns serving;
@@ -97,47 +108,58 @@ serves_lawful laws plan minds words address turns serving = record {
 }
 
 serves_replies : (laws : Laws) (plan : Plan) (minds : List Mind) (words : Stream) (address : List ℕ) (turns : List Turn)
-    → IsServing plan (beginning minds words) turns → AreSpoken minds (serves plan (beginning minds words) address true turns)
+    → IsServing plan (beginning minds words) turns → AreSpoken minds (serves model_ends plan (beginning minds words) address true turns)
 unfolding serves
 serves_replies laws plan minds words address turns serving = laws.replies.serving plan (beginning minds words) turns serving
 
-serves_turns : (laws : Laws) (plan : Plan) (m b : Around) (minds : List Mind) (words : Stream) (address : List ℕ) (new : Loop) (count : ℕ) (why : Option Halt)
-    → (w : Went (run plan (beginning minds words)) m b (beginning minds words) new count why)
-    → HasTurns plan (serves plan (beginning minds words) address true w.answers) count why
+serves_turns : (laws : Laws) (plan : Plan) (m b : Around) (minds : List Mind) (words : Stream) (address : List ℕ) (turns : List Turn) (count : ℕ) (why : Option Halt)
+    → Shown m b (run model_ends plan (beginning minds words) turns) count why
+    → HasTurns plan (serves model_ends plan (beginning minds words) address true turns) count why
 unfolding serves turns_of
-serves_turns laws plan m b minds words address new count why w =
-    let o = run plan (beginning minds words) w.answers in
-    let t : RunsSo plan o = laws.turns plan (beginning minds words) w.answers (record { turns = refl; halt = refl; moment = refl }) in
+serves_turns laws plan m b minds words address turns count why s =
+    let o = run model_ends plan (beginning minds words) turns in
+    let t : RunsSo plan o = laws.turns plan (beginning minds words) turns (record { turns = refl; halt = refl; moment = refl }) in
     record {
-      halts = subst (λ z. HaltsBy z (turns_of o.calls)) (sym w.is.halt) t.halts;
-      counted = w.is.turns ∙ t.turns;
-      most = subst (λ z. z ≤ plan.turns) (sym w.is.turns) t.most;
-      all = λ none. w.is.turns ∙ t.all (sym w.is.halt ∙ none);
+      halts = subst (λ z. HaltsBy z (turns_of o.calls)) (sym s.halt) t.halts;
+      counted = s.turns ∙ t.turns;
+      most = subst (λ z. z ≤ plan.turns) (sym s.turns) t.most;
+      all = λ none. s.turns ∙ t.all (sym s.halt ∙ none);
       moment = t.moment;
     }
 
 -- it stopped for this reason
-serves_halted : (plan : Plan) (m b : Around) (minds : List Mind) (words : Stream) (address : List ℕ) (new : Loop) (count : ℕ) (why : Option Halt)
-    → (w : Went (run plan (beginning minds words)) m b (beginning minds words) new count why)
-    → why ≡ (serves plan (beginning minds words) address true w.answers).state.halt
+serves_halted : (plan : Plan) (m b : Around) (minds : List Mind) (words : Stream) (address : List ℕ) (turns : List Turn) (count : ℕ) (why : Option Halt)
+    → Shown m b (run model_ends plan (beginning minds words) turns) count why
+    → why ≡ (serves model_ends plan (beginning minds words) address true turns).state.halt
 unfolding serves
-serves_halted plan m b minds words address new count why w = w.is.halt
+serves_halted plan m b minds words address turns count why s = s.halt
 
-serve_done : (laws : Laws) (plan : Plan) (a m b : Around) (minds : List Mind) (words : Stream) (address : List ℕ) (new : Loop) (count : ℕ) (why : Option Halt)
+serve_done : (laws : Laws) (plan : Plan) (a m b : Around) (minds : List Mind) (words : Stream) (address : List ℕ) (new : Loop KEnd) (count : ℕ) (why : Option Halt)
     → AllAllowed plan.settings → HasBegun plan (Listens address true) a m
-    → Went (run plan (beginning minds words)) m b (beginning minds words) new count why
+    → Went (run kept_ends plan (beginning minds words)) m b (beginning minds words) new count why
     → HasServed (outside_of a) (outside_of b) plan address minds words count why
 serve_done laws plan a m b minds words address new count why allowed begun w =
-    let serving = is_serving plan m b minds words new count why allowed w in
+    let s = shown m b (beginning minds words) new count why (run kept_ends plan (beginning minds words) w.answers) (run model_ends plan (beginning minds words) w.answers)
+    refl w.is (laws.runs plan minds words w.answers allowed) in
+    let serving = is_serving plan m b minds words w.answers count why allowed s in
     record {
       answers = w.answers;
       is_serving = serving;
-      done = serves_done laws plan a m b minds words address new count why begun w;
+      done = serves_done laws plan a m b minds words address w.answers count why begun s;
       lawful = serves_lawful laws plan minds words address w.answers serving;
       replies = serves_replies laws plan minds words address w.answers serving;
-      turns = serves_turns laws plan m b minds words address new count why w;
-      halted = serves_halted plan m b minds words address new count why w;
+      turns = serves_turns laws plan m b minds words address w.answers count why s;
+      halted = serves_halted plan m b minds words address w.answers count why s;
     }
+
+-- nothing was printed and called
+pub nothing_done : (a : Around) → IsCutAt (outside_of a) (outside_of a) [] []
+nothing_done a = record {
+  text = grew_nothing a.seen.held;
+  calls = grew_nothing a.seen.calls;
+  answered = tt;
+  counted = counts_none a.seen.failed a.seen.failed (let z : a.seen.failed ≤ a.seen.failed = omega arith in z);
+}
 
 pub rose_past : (x y z : ℕ) → x ≤ y → Rose y z → Rose x z
 rose_past x y z p q = omega (arith, p, q)
@@ -146,133 +168,130 @@ first_counts : (x y : ℕ) (address : List ℕ) → x ≤ y → Counts x y (List
 unfolding failures
 first_counts x y address p = omega (arith, p)
 
-serve_off : (plan : Plan) (a m b : Around) (minds : List Mind) (words : Stream) (address : List ℕ) (fault : LoopFault) → HasBegun plan (Listens address true) a m
-    → WentOff (run plan (beginning minds words)) m b fault → BreaksOffServing (outside_of a) (outside_of b) plan address minds words
-unfolding serves printed
-serve_off plan a m b minds words address fault begun w =
-    let o = run plan (beginning minds words) w.answers in
-    record {
-      answers = w.answers;
-      begun = record {
-        text = part_then a.seen.held m.seen.held b.seen.held (header plan.settings) (text o.entries) begun.text w.breaks.begun;
-        calls = began_then a.seen m.seen b.seen (Listens address true ∷ []) o.calls begun.calls (tt, tt) (first_counts a.seen.failed m.seen.failed address begun.failed) w.breaks.calls;
-      };
-    }
+serve_off : (laws : Laws) (plan : Plan) (a m b : Around) (minds : List Mind) (words : Stream) (address : List ℕ) (fault : LoopFault) → AllAllowed plan.settings
+    → HasBegun plan (Listens address true) a m → RanOff plan m b (beginning minds words) fault
+    → BreaksOffServing (outside_of a) (outside_of b) plan address minds words
+unfolding lies_in_run lies_acts
+serve_off laws plan a m b minds words address fault allowed begun w =
+    let few = many plan (length w.lies.turns) in
+    let serving : IsServing few (beginning minds words) w.lies.turns = record {
+      none = refl;
+      rises = rises_low 0 m.newest _ (omega arith) (subst (λ z. Rises m.newest (opened_in z)) (laws.runs few minds words w.lies.turns allowed).calls w.rises);
+      allowed = allowed;
+    } in
+    InServing w.cut (lies_in_run plan (beginning minds words) (beginning minds words) (begin_same laws.runs plan minds words allowed) w.cut w.lies)
+    (serves_lawful laws few minds words address w.lies.turns serving)
+    (record {
+      text = grew_then a.seen.held m.seen.held b.seen.held (header plan.settings) w.cut.printed begun.text w.broke.text;
+      calls = grew_then a.seen.calls m.seen.calls b.seen.calls (Listens address true ∷ []) w.cut.calls begun.calls w.broke.calls;
+      answered = (tt, w.broke.answered);
+      counted = counts_then a.seen.failed m.seen.failed b.seen.failed (Listens address true ∷ []) w.cut.calls (first_counts a.seen.failed m.seen.failed address begun.failed) w.broke.counted;
+    })
 
 -- the run, however it ended
-pub serve_ran : (laws : Laws) (plan : Plan) (a m b : Around) (minds : List Mind) (words : Stream) (address : List ℕ) (new : Loop) (count : ℕ) (r : Result Served LoopFault)
-    → AllAllowed plan.settings → HasBegun plan (Listens address true) a m → Runs plan m b (beginning minds words) new count r → Serves plan a b minds words address r
-serve_ran laws plan a m b minds words address new count (Ok served) allowed begun q =
+pub serve_ran : (laws : Laws) (plan : Plan) (a m b : Around) (minds : List Mind) (words left : Stream) (address : List ℕ) (new : Loop KEnd) (count : ℕ) (r : Result Served LoopFault)
+    → AllAllowed plan.settings → HasBegun plan (Listens address true) a m → Runs plan m b (beginning minds words) new count r → Serves plan a b minds words left address r
+serve_ran laws plan a m b minds words left address new count (Ok served) allowed begun q =
     serve_done laws plan a m b minds words address new served.turns (halt_for served.why) allowed begun q
-serve_ran laws plan a m b minds words address new count (Err Wires) allowed begun q = (
+serve_ran laws plan a m b minds words left address new count (Err Wires) allowed begun q = (
   TurnFailed count (serve_done laws plan a m b minds words address new count (Some OnFailed) allowed begun q.went),
   rose_past a.turns_failed m.turns_failed b.turns_failed begun.turns_failed q.rose,
 )
-serve_ran laws plan a m b minds words address new count (Err Sink) allowed begun q =
-    (serve_off plan a m b minds words address Sink begun q, failed_behind a.seen.sunk m.seen.sunk b.seen.sunk Sink begun.sunk q.breaks.failed)
-serve_ran laws plan a m b minds words address new count (Err (NoMemory want)) allowed begun q =
-    (serve_off plan a m b minds words address (NoMemory want) begun q, failed_behind a.seen.sunk m.seen.sunk b.seen.sunk (NoMemory want) begun.sunk q.breaks.failed)
+serve_ran laws plan a m b minds words left address new count (Err Sink) allowed begun q =
+    (serve_off laws plan a m b minds words address Sink allowed begun q, failed_behind a.seen.sunk m.seen.sunk b.seen.sunk Sink begun.sunk q.broke.failed)
+serve_ran laws plan a m b minds words left address new count (Err (NoMemory want)) allowed begun q =
+    (serve_off laws plan a m b minds words address (NoMemory want) allowed begun q, failed_behind a.seen.sunk m.seen.sunk b.seen.sunk (NoMemory want) begun.sunk q.broke.failed)
 
 -- the header broke off
 header_off : (plan : Plan) (a b : Around) (minds : List Mind) (words : Stream) (address : List ℕ)
     → Grew a.seen.calls b.seen.calls (Listens address true ∷ []) → a.seen.failed ≤ b.seen.failed → GrewPart a.seen.held b.seen.held (header plan.settings)
     → BreaksOffServing (outside_of a) (outside_of b) plan address minds words
-unfolding serves printed
 header_off plan a b minds words address told less p =
-    let o = run plan (beginning minds words) [] in
-    record {
-      answers = [];
-      begun = record {
-        text = part_more a.seen.held b.seen.held (header plan.settings) (text o.entries) p;
-        calls = record { part = Listens address true ∷ []; rest = o.calls; is = refl; told = told; answered = (tt, tt); counted = first_counts a.seen.failed b.seen.failed address less };
-      };
-    }
+    InServingHeader p.part p.rest p.is (record { text = p.grew; calls = told; answered = (tt, tt); counted = first_counts a.seen.failed b.seen.failed address less })
 
-pub header_stops : (plan : Plan) (a b : Around) (minds : List Mind) (words : Stream) (address : List ℕ) (fault : LoopFault)
+pub header_stops : (plan : Plan) (a b : Around) (minds : List Mind) (words left : Stream) (address : List ℕ) (fault : LoopFault)
     → Grew a.seen.calls b.seen.calls (Listens address true ∷ []) → a.seen.failed ≤ b.seen.failed
-    → Breaks a.seen.held b.seen.held a.seen.sunk b.seen.sunk (header plan.settings) fault → Serves plan a b minds words address (Err fault)
-header_stops plan a b minds words address Wires told less p = absurd p.failed
-header_stops plan a b minds words address Sink told less p = (header_off plan a b minds words address told less p.begun, p.failed)
-header_stops plan a b minds words address (NoMemory want) told less p = (header_off plan a b minds words address told less p.begun, p.failed)
+    → GrewPart a.seen.held b.seen.held (header plan.settings) → FailedFor fault a.seen.sunk b.seen.sunk → Serves plan a b minds words left address (Err fault)
+header_stops plan a b minds words left address Wires told less p q = absurd q
+header_stops plan a b minds words left address Sink told less p q = (header_off plan a b minds words address told less p, q)
+header_stops plan a b minds words left address (NoMemory want) told less p q = (header_off plan a b minds words address told less p, q)
 
 -- memory ran out before it listened
-pub serve_wanted : (plan : Plan) (a : Around) (minds : List Mind) (words : Stream) (address : List ℕ) (want : Want) → Serves plan a a minds words address (Err (NoMemory want))
-serve_wanted plan a minds words address want =
-    let o = serves plan (beginning minds words) address true [] in (
-      record {
-        answers = [];
-        begun = record {
-          text = part_nothing a.seen.held (printed true plan o.entries);
-          calls = began_none a.seen a.seen o.calls refl (let z : a.seen.failed ≤ a.seen.failed = omega arith in z);
-        };
-      },
-      (let z : a.seen.sunk ≤ a.seen.sunk = omega arith in z),
-    )
+pub serve_wanted : (plan : Plan) (a : Around) (minds : List Mind) (words left : Stream) (address : List ℕ) (want : Want) → Serves plan a a minds words left address (Err (NoMemory want))
+serve_wanted plan a minds words left address want = (
+  BeforeListening (nothing_done a),
+  (let z : a.seen.sunk ≤ a.seen.sunk = omega arith in z),
+)
 
 -- it never listened
-pub never_listens : (plan : Plan) (a b : Around) (minds : List Mind) (words : Stream) (address : List ℕ)
-    → b.seen.held ≡ a.seen.held → Grew a.seen.calls b.seen.calls (Listens address false ∷ []) → b.asked ≡ a.asked → Rose a.turns_failed b.turns_failed
-    → Serves plan a b minds words address (Err Wires)
-never_listens plan a b minds words address held told asked rose = (
+pub never_listens : (plan : Plan) (a b : Around) (minds : List Mind) (words left : Stream) (address : List ℕ)
+    → b.seen.held ≡ a.seen.held → Grew a.seen.calls b.seen.calls (Listens address false ∷ []) → b.asked ≡ a.asked → left ≡ words → Rose a.turns_failed b.turns_failed
+    → Serves plan a b minds words left address (Err Wires)
+never_listens plan a b minds words left address held told asked same rose = (
   NotListening (record {
     text = subst (λ z. Grew a.seen.held z []) (sym held) (grew_nothing a.seen.held);
     calls = told;
     clock = subst (λ z. Grew a.asked z []) (sym asked) (grew_nothing a.asked);
-  }),
+  }) same,
   rose,
 )
 
 -- ---- as a function has them
 
-pub header_put : {T : Type 0} (h i : Option (List ℕ)) (f g : ℕ) (settings : Settings) (before now line : List ℕ) (r : Result T LoopFault)
-    → before ≡ [] → now ≡ before ++ line_text (header_words settings) → line ≡ now → Puts h i f g line r → Puts h i f g (header settings) r
+pub header_put : {T : Type 0} (h i : SinkState) (settings : Settings) (before now line : List ℕ) (r : Result T LoopFault)
+    → before ≡ [] → now ≡ before ++ line_text (header_words settings) → line ≡ now → Puts h i line r → Puts h i (header settings) r
 unfolding header
-header_put h i f g settings before now line r none more is p =
-    subst (λ z. Puts h i f g z r) (is ∙ more ∙ ap (λ z. z ++ line_text (header_words settings)) none) p
+header_put h i settings before now line r none more is p =
+    subst (λ z. Puts h i z r) (is ∙ more ∙ ap (λ z. z ++ line_text (header_words settings)) none) p
 
-pub start_is : (slots : Slab Session) (places : BTreeMap ℕ ℕ) (users minds : List Mind) (m : ℕ) (words : Stream)
+pub start_is : (slots : Slab (Session KEnd)) (places : BTreeMap ℕ ℕ) (users minds : List Mind) (m : ℕ) (words : Stream)
     → places.entries ≡ [] → users ≡ minds → m ≡ 0 → loop_of slots places users m words ≡ (beginning minds words).loop
 start_is slots places users minds m words none same zero = rw (no_sessions slots places none, same, zero) refl
 
-pub serve_ran_from : (laws : Laws) (plan : Plan) (a m b : Around) (minds : List Mind) (words : Stream) (address : List ℕ) (l new : Loop) (count : ℕ) (r : Result Served LoopFault)
+pub serve_ran_from : (laws : Laws) (plan : Plan) (a m b : Around) (minds : List Mind) (words left : Stream) (address : List ℕ) (l new : Loop KEnd) (count : ℕ) (r : Result Served LoopFault)
     → AllAllowed plan.settings → HasBegun plan (Listens address true) a m → l ≡ (beginning minds words).loop
-    → Runs plan m b (course_of l 0 []) new count r → Serves plan a b minds words address r
-serve_ran_from laws plan a m b minds words address l new count r allowed begun is q =
-    serve_ran laws plan a m b minds words address new count r allowed begun (subst (λ (z : Loop). Runs plan m b (course_of z 0 []) new count r) is q)
+    → Runs plan m b (course_of l 0 []) new count r → Serves plan a b minds words left address r
+serve_ran_from laws plan a m b minds words left address l new count r allowed begun is q =
+    serve_ran laws plan a m b minds words left address new count r allowed begun (subst (λ (z : Loop KEnd). Runs plan m b (course_of z 0 []) new count r) is q)
 
 -- ---- the public clauses
 
-pub served_of : (plan : Plan) (a b : Around) (minds : List Mind) (words : Stream) (address : List ℕ) (r : Result Served LoopFault) → Serves plan a b minds words address r
+pub served_of : (plan : Plan) (a b : Around) (minds : List Mind) (words left : Stream) (address : List ℕ) (r : Result Served LoopFault) → Serves plan a b minds words left address r
     → IfOk r (λ served. HasServed (outside_of a) (outside_of b) plan address minds words served.turns (halt_for served.why))
-served_of plan a b minds words address (Ok served) p = p
-served_of plan a b minds words address (Err fault) p = tt
+served_of plan a b minds words left address (Ok served) p = p
+served_of plan a b minds words left address (Err fault) p = tt
 
-pub failed_of : (plan : Plan) (a b : Around) (minds : List Mind) (words : Stream) (address : List ℕ) (r : Result Served LoopFault) → Serves plan a b minds words address r
-    → r ≡ Err Wires → FailsToServe (outside_of a) (outside_of b) plan address minds words
-failed_of plan a b minds words address r p is = (subst (λ z. Serves plan a b minds words address z) is p).0
+pub failed_of : (plan : Plan) (a b : Around) (minds : List Mind) (words left : Stream) (address : List ℕ) (r : Result Served LoopFault) → Serves plan a b minds words left address r
+    → r ≡ Err Wires → FailsToServe (outside_of a) (outside_of b) plan address minds words left
+failed_of plan a b minds words left address r p is = (subst (λ z. Serves plan a b minds words left address z) is p).0
 
-pub rose_of : (plan : Plan) (a b : Around) (minds : List Mind) (words : Stream) (address : List ℕ) (r : Result Served LoopFault) → Serves plan a b minds words address r
+pub rose_of : (plan : Plan) (a b : Around) (minds : List Mind) (words left : Stream) (address : List ℕ) (r : Result Served LoopFault) → Serves plan a b minds words left address r
     → r ≡ Err Wires → Rose a.turns_failed b.turns_failed
-rose_of plan a b minds words address r p is = (subst (λ z. Serves plan a b minds words address z) is p).1
+rose_of plan a b minds words left address r p is = (subst (λ z. Serves plan a b minds words left address z) is p).1
 
-pub off_of : (plan : Plan) (a b : Around) (minds : List Mind) (words : Stream) (address : List ℕ) (r : Result Served LoopFault) → Serves plan a b minds words address r
+pub off_of : (plan : Plan) (a b : Around) (minds : List Mind) (words left : Stream) (address : List ℕ) (r : Result Served LoopFault) → Serves plan a b minds words left address r
     → r ≡ Err Sink → BreaksOffServing (outside_of a) (outside_of b) plan address minds words
-off_of plan a b minds words address r p is = (subst (λ z. Serves plan a b minds words address z) is p).0
+off_of plan a b minds words left address r p is = (subst (λ z. Serves plan a b minds words left address z) is p).0
 
-pub sunk_of : (plan : Plan) (a b : Around) (minds : List Mind) (words : Stream) (address : List ℕ) (r : Result Served LoopFault) → Serves plan a b minds words address r
+pub sunk_of : (plan : Plan) (a b : Around) (minds : List Mind) (words left : Stream) (address : List ℕ) (r : Result Served LoopFault) → Serves plan a b minds words left address r
     → r ≡ Err Sink → Rose a.seen.sunk b.seen.sunk
-sunk_of plan a b minds words address r p is = (subst (λ z. Serves plan a b minds words address z) is p).1
+sunk_of plan a b minds words left address r p is = (subst (λ z. Serves plan a b minds words left address z) is p).1
 
-pub memory_of : (plan : Plan) (a b : Around) (minds : List Mind) (words : Stream) (address : List ℕ) (r : Result Served LoopFault) → Serves plan a b minds words address r
+pub memory_of : (plan : Plan) (a b : Around) (minds : List Mind) (words left : Stream) (address : List ℕ) (r : Result Served LoopFault) → Serves plan a b minds words left address r
     → (want : Want) → r ≡ Err (NoMemory want) → BreaksOffServing (outside_of a) (outside_of b) plan address minds words
-memory_of plan a b minds words address r p want is = (subst (λ z. Serves plan a b minds words address z) is p).0
+memory_of plan a b minds words left address r p want is = (subst (λ z. Serves plan a b minds words left address z) is p).0
 
-pub memory_as : (plan plan' : Plan) (a b : Around) (minds : List Mind) (words : Stream) (address : List ℕ) (r : Result Served LoopFault) → plan ≡ plan' → Serves plan a b minds words address r
+pub memory_as : (plan plan' : Plan) (a b : Around) (minds : List Mind) (words left : Stream) (address : List ℕ) (r : Result Served LoopFault) → plan ≡ plan' → Serves plan a b minds words left address r
     → (want : Want) → r ≡ Err (NoMemory want) → BreaksOffServing (outside_of a) (outside_of b) plan' address minds words
-memory_as plan plan' a b minds words address r same p want is =
-    subst (λ z. BreaksOffServing (outside_of a) (outside_of b) z address minds words) same (memory_of plan a b minds words address r p want is)
+memory_as plan plan' a b minds words left address r same p want is =
+    subst (λ z. BreaksOffServing (outside_of a) (outside_of b) z address minds words) same (memory_of plan a b minds words left address r p want is)
 
-pub failed_as : (plan plan' : Plan) (a b : Around) (minds : List Mind) (words : Stream) (address : List ℕ) (r : Result Served LoopFault) → plan ≡ plan' → Serves plan a b minds words address r
-    → r ≡ Err Wires → FailsToServe (outside_of a) (outside_of b) plan' address minds words
-failed_as plan plan' a b minds words address r same p is =
-    subst (λ z. FailsToServe (outside_of a) (outside_of b) z address minds words) same (failed_of plan a b minds words address r p is)
+pub failed_as : (plan plan' : Plan) (a b : Around) (minds : List Mind) (words left : Stream) (address : List ℕ) (r : Result Served LoopFault) → plan ≡ plan' → Serves plan a b minds words left address r
+    → r ≡ Err Wires → FailsToServe (outside_of a) (outside_of b) plan' address minds words left
+failed_as plan plan' a b minds words left address r same p is =
+    subst (λ z. FailsToServe (outside_of a) (outside_of b) z address minds words left) same (failed_of plan a b minds words left address r p is)
+
+pub off_as : (plan plan' : Plan) (a b : Around) (minds : List Mind) (words left : Stream) (address : List ℕ) (r : Result Served LoopFault) → plan ≡ plan' → Serves plan a b minds words left address r
+    → r ≡ Err Sink → BreaksOffServing (outside_of a) (outside_of b) plan' address minds words
+off_as plan plan' a b minds words left address r same p is =
+    subst (λ z. BreaksOffServing (outside_of a) (outside_of b) z address minds words) same (off_of plan a b minds words left address r p is)

@@ -10,7 +10,7 @@ use Rattle.loop_model.specs.Visits.{Flow, Going, PutOff, Failing, writes_once, w
 use Rattle.loop_model.specs.Loops.{visit_at, swept, before, Sweeps, numbers}
 use Rattle.loop_model.specs.Parts.{opened_in, opens}
 use Rattle.loop_model.specs.Laws.{turns_of, turn_of}
-use Rattle.er_end.specs.KeptEnds.{deadline_of}
+use Rattle.loop_model.specs.Ends.{EndOps}
 
 -- a part opens no connection, and makes no turn
 abbrev pub OpensNone : {S : Type 0} → Out S → Type 0
@@ -32,7 +32,7 @@ next_opens o f p q = (
   turns_of-append o.calls (f o.state).calls ∙ ap (λ z. z ++ turns_of (f o.state).calls) p.1 ∙ q.1,
 )
 
-writes_if_opens : (w : Flow) (s : Session) (a : WriteAnswer) → OpensNone (writes_if w s a)
+writes_if_opens : {E : Type 0} (w : Flow) (s : Session E) (a : WriteAnswer) → OpensNone (writes_if w s a)
 unfolding opened_in turns_of
 writes_if_opens Going s a =
     elim (cases_Bool (length s.output == 0)) [
@@ -42,92 +42,96 @@ writes_if_opens Going s a =
 writes_if_opens PutOff s a = (refl, refl)
 writes_if_opens Failing s a = (refl, refl)
 
-acts_opens : (x : Session × Flow) (answers : List WriteAnswer) → OpensNone (acts writes_once x answers)
+acts_opens : {E : Type 0} (x : Session E × Flow) (answers : List WriteAnswer) → OpensNone (acts writes_once x answers)
 unfolding acts writes_once opened_in turns_of
 acts_opens x [] = (refl, refl)
 acts_opens x (a ∷ answers) =
     next_opens (writes_if x.1 x.0 a) (λ t. acts writes_once t answers) (writes_if_opens x.1 x.0 a) (acts_opens (writes_if x.1 x.0 a).state answers)
 
-flowed_opens : (r : Rules) (m : ℕ) (x : Session) (w : Flow) (a : Wrote) → OpensNone (flowed r m (x, w) a.says)
-unfolding opened_in turns_of
-flowed_opens r m s Going a = (refl, refl)
-flowed_opens r m s PutOff a = (refl, refl)
-flowed_opens r m s Failing a = (refl, refl)
+module _ {E : Type 0} (o : EndOps E) where
+  flowed_opens : (r : Rules) (m : ℕ) (x : Session E) (w : Flow) (a : Wrote) → OpensNone (flowed o r m (x, w) a.says)
+  unfolding opened_in turns_of
+  flowed_opens r m s Going a = (refl, refl)
+  flowed_opens r m s PutOff a = (refl, refl)
+  flowed_opens r m s Failing a = (refl, refl)
 
-written_opens : (r : Rules) (m : ℕ) (s : Session) (a : Wrote) → OpensNone (written r m s a)
-unfolding written writes opened_in turns_of
-written_opens r m s a =
-    elim (cases_Bool s.broken) [
-      | inl p ↦ subst (λ b. OpensNone (written_unless b r m s a)) (sym p) (refl, refl)
-      | inr p ↦ subst (λ b. OpensNone (written_unless b r m s a)) (sym p)
-          (next_opens (writes s a.answers) (λ x. flowed r m x a.says) (acts_opens (s, Going) _) (flowed_opens r m (writes s a.answers).state.0 (writes s a.answers).state.1 a))
-    ]
+  written_opens : (r : Rules) (m : ℕ) (s : Session E) (a : Wrote) → OpensNone (written o r m s a)
+  unfolding written writes opened_in turns_of
+  written_opens r m s a =
+      elim (cases_Bool s.broken) [
+        | inl p ↦ subst (λ b. OpensNone (written_unless o b r m s a)) (sym p) (refl, refl)
+        | inr p ↦ subst (λ b. OpensNone (written_unless o b r m s a)) (sym p)
+            (next_opens (writes s a.answers) (λ x. flowed o r m x a.says) (acts_opens (s, Going) _) (flowed_opens r m (writes s a.answers).state.0 (writes s a.answers).state.1 a))
+      ]
 
-settled_opens : (s : Session) → OpensNone (settled s)
-unfolding settled opened_in turns_of
-settled_opens s =
-    elim (cases_Bool (s.broken || (is_released s && (length s.output == 0)))) [
-      | inl p ↦ rw p (refl, refl)
-      | inr p ↦ rw p (refl, refl)
-    ]
+  settled_opens : (s : Session E) → OpensNone (settled o s)
+  unfolding settled opened_in turns_of
+  settled_opens s =
+      elim (cases_Bool (s.broken || (is_released o s && (length s.output == 0)))) [
+        | inl p ↦ rw p (refl, refl)
+        | inr p ↦ rw p (refl, refl)
+      ]
 
-rests_opens : (r : Rules) (m : ℕ) (s : Session) (a : Wrote) → OpensNone (rests r m s a)
-unfolding rests
-rests_opens r m s a = next_opens (written r m s a) settled (written_opens r m s a) (settled_opens (written r m s a).state)
+  rests_opens : (r : Rules) (m : ℕ) (s : Session E) (a : Wrote) → OpensNone (rests o r m s a)
+  unfolding rests
+  rests_opens r m s a = next_opens (written o r m s a) (settled o) (written_opens r m s a) (settled_opens (written o r m s a).state)
 
-pub served_opens : (r : Rules) (m : ℕ) (s : Session) (g : Given) (a : Met) → OpensNone (served r m s g a)
-unfolding served
-served_opens r m s g a = rests_opens r m _ a.wrote
+  pub served_opens : (r : Rules) (m : ℕ) (s : Session E) (g : Given) (a : Met) → OpensNone (served o r m s g a)
+  unfolding served
+  served_opens r m s g a = rests_opens r m _ a.wrote
 
-behind_opens : (g : Reading) (r : Rules) (m : ℕ) (s : Session) (a : Wrote) → OpensNone (rests_behind g r m s a)
-unfolding opened_in turns_of
-behind_opens (Gave octets) r m s a = rests_opens r m s a
-behind_opens NotNow r m s a = (refl, refl)
-behind_opens End r m s a = rests_opens r m s a
-behind_opens Failed r m s a = rests_opens r m s a
+  behind_opens : (g : Reading) (r : Rules) (m : ℕ) (s : Session E) (a : Wrote) → OpensNone (rests_behind o g r m s a)
+  unfolding opened_in turns_of
+  behind_opens (Gave octets) r m s a = rests_opens r m s a
+  behind_opens NotNow r m s a = (refl, refl)
+  behind_opens End r m s a = rests_opens r m s a
+  behind_opens Failed r m s a = rests_opens r m s a
 
-visited_opens : (r : Rules) (m : ℕ) (v : Visit) (s : Session) (a : Met) → OpensNone (visited r m v s a)
-unfolding visited read_once opened_in turns_of
-visited_opens r m Tick s a =
-    elim (cases_Bool (is_due m (deadline_of s.end))) [
-      | inl p ↦ rw p (served_opens r m s _ a)
-      | inr p ↦ rw p (refl, refl)
-    ]
-visited_opens r m Read s a =
-    elim (cases_Bool (is_released s)) [
-      | inl p ↦ rw p (refl, refl)
-      | inr p ↦ rw p (next_opens (read_once r m s a) (λ t. rests_behind a.reading r m t a.wrote) (refl, refl) (behind_opens a.reading r m _ a.wrote))
-    ]
-visited_opens r m Write s a = rests_opens r m s a.wrote
-visited_opens r m Expire s a =
-    elim (cases_Bool (is_due m s.closing)) [
-      | inl p ↦ rw p (refl, refl)
-      | inr p ↦ rw p (refl, refl)
-    ]
+  visited_opens : (r : Rules) (m : ℕ) (v : Visit) (s : Session E) (a : Met) → OpensNone (visited o r m v s a)
+  unfolding visited read_once opened_in turns_of
+  visited_opens r m Tick s a =
+      elim (cases_Bool (is_due m (o.deadline s.end))) [
+        | inl p ↦ rw p (served_opens r m s _ a)
+        | inr p ↦ rw p (refl, refl)
+      ]
+  visited_opens r m Read s a =
+      elim (cases_Bool (is_released o s)) [
+        | inl p ↦ rw p (refl, refl)
+        | inr p ↦ rw p (next_opens (read_once o r m s a) (λ t. rests_behind o a.reading r m t a.wrote) (refl, refl) (behind_opens a.reading r m _ a.wrote))
+      ]
+  visited_opens r m Write s a = rests_opens r m s a.wrote
+  visited_opens r m Expire s a =
+      elim (cases_Bool (is_due m s.closing)) [
+        | inl p ↦ rw p (refl, refl)
+        | inr p ↦ rw p (refl, refl)
+      ]
 
-visit_none : (r : Rules) (m : ℕ) (v : Visit) (n : ℕ) (ss : List Session) (a : Met) → OpensNone (visit_at (visited r m v) n ss a)
-unfolding visit_at opened_in turns_of
-visit_none r m v n [] a = (refl, refl)
-visit_none r m v n (s ∷ ss) a =
-    elim (cases_Bool (s.number == n)) [
-      | inl p ↦ rw p (visited_opens r m v s a)
-      | inr p ↦ rw p (visit_none r m v n ss a)
-    ]
+  visit_none : (r : Rules) (m : ℕ) (v : Visit) (n : ℕ) (ss : List (Session E)) (a : Met) → OpensNone (visit_at (visited o r m v) n ss a)
+  unfolding visit_at opened_in turns_of
+  visit_none r m v n [] a = (refl, refl)
+  visit_none r m v n (s ∷ ss) a =
+      elim (cases_Bool (s.number == n)) [
+        | inl p ↦ rw p (visited_opens r m v s a)
+        | inr p ↦ rw p (visit_none r m v n ss a)
+      ]
 
-swept_opens : (r : Rules) (m : ℕ) (v : Visit) (ns : List ℕ) (ss : List Session) (answers : List Met) → OpensNone (swept (visited r m v) ns ss answers)
-unfolding swept opened_in turns_of
-swept_opens r m v [] ss answers = (refl, refl)
-swept_opens r m v (n ∷ ns) ss answers =
-    next_opens (visit_at (visited r m v) n ss (first_of nothing_met answers)) (λ now. swept (visited r m v) ns now (drop 1 answers)) (visit_none r m v n ss (first_of nothing_met answers)) (swept_opens r m v ns _ (drop 1 answers))
+  swept_opens : (r : Rules) (m : ℕ) (v : Visit) (ns : List ℕ) (ss : List (Session E)) (answers : List Met) → OpensNone (swept (visited o r m v) ns ss answers)
+  unfolding swept opened_in turns_of
+  swept_opens r m v [] ss answers = (refl, refl)
+  swept_opens r m v (n ∷ ns) ss answers =
+      next_opens (visit_at (visited o r m v) n ss (first_of nothing_met answers)) (λ now. swept (visited o r m v) ns now (drop 1 answers)) (visit_none r m v n ss (first_of nothing_met answers)) (swept_opens r m v ns _ (drop 1 answers))
 
-before_none : (r : Rules) (m : ℕ) (ss : List Session) (a : Sweeps) → OpensNone (before r m ss a)
-unfolding before
-before_none r m ss a =
-    next_opens (swept (visited r m Tick) (numbers ss) ss a.ticks) (λ now. swept (visited r m Expire) (numbers now) now a.closings)
-    (swept_opens r m Tick (numbers ss) ss a.ticks) (swept_opens r m Expire _ _ a.closings)
+  before_none : (r : Rules) (m : ℕ) (ss : List (Session E)) (a : Sweeps) → OpensNone (before o r m ss a)
+  unfolding before
+  before_none r m ss a =
+      next_opens (swept (visited o r m Tick) (numbers ss) ss a.ticks) (λ now. swept (visited o r m Expire) (numbers now) now a.closings)
+      (swept_opens r m Tick (numbers ss) ss a.ticks) (swept_opens r m Expire _ _ a.closings)
 
-pub visit_opens : (r : Rules) (m : ℕ) (v : Visit) (n : ℕ) (ss : List Session) (a : Met) → opened_in (visit_at (visited r m v) n ss a).calls ≡ []
-visit_opens r m v n ss a = (visit_none r m v n ss a).0
+  pub visit_opens : (r : Rules) (m : ℕ) (v : Visit) (n : ℕ) (ss : List (Session E)) (a : Met) → opened_in (visit_at (visited o r m v) n ss a).calls ≡ []
+  visit_opens r m v n ss a = (visit_none r m v n ss a).0
 
-pub before_opens : (r : Rules) (m : ℕ) (ss : List Session) (a : Sweeps) → opened_in (before r m ss a).calls ≡ []
-before_opens r m ss a = (before_none r m ss a).0
+  pub before_opens : (r : Rules) (m : ℕ) (ss : List (Session E)) (a : Sweeps) → opened_in (before o r m ss a).calls ≡ []
+  before_opens r m ss a = (before_none r m ss a).0
+
+  pub before_turns : (r : Rules) (m : ℕ) (ss : List (Session E)) (a : Sweeps) → turns_of (before o r m ss a).calls ≡ []
+  before_turns r m ss a = (before_none r m ss a).1

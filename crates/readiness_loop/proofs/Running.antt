@@ -1,47 +1,51 @@
 -- A run of turns, turn by turn.
+use Rattle.er_end.specs.KeptEnds.{KEnd}
+use Rattle.loop_session.specs.Keeping.{kept_ends}
 use Rattle.std.proofs.Common.{◌≡◌, ℕ, zero, suc, ◌+◌, ◌-◌, ◌<◌, ◌≤◌, List, [], ◌∷◌, ◌++◌, Option, Some, None, Ok, Err, length, refl, sym, ◌∙◌, ap, subst, arith, append-nil, append_assoc, length-append}
 use Rattle.link_trait.specs.Outside.{Rose}
 use Rattle.link_trait.specs.Growth.{grew_nothing, grew_then}
+use Rattle.loop_model.specs.Ends.{EndOps}
 use Rattle.loop_model.specs.Outs.{Out, still, next, acts, exactly}
 use Rattle.loop_model.specs.Loops.{Plan, Loop, Halt, OnFailed, Course, Turn, went, went_unless, run, nothing_comes}
 use Rattle.loop_model.specs.Parts.{opened_in, Rises, newest}
 use Rattle.loop_session.specs.declared.loop_fault.LoopFault.{LoopFault}
 use Rattle.loop_session.specs.declared.loop_fault.LoopFault.TheVariants.{Wires, Sink, NoMemory}
-use Rattle.loop_visit.specs.Acting.{BreaksAt}
 use Rattle.readiness_loop.specs.declared.live_loop.Next.{Next}
-use Rattle.readiness_loop.specs.Courses.{Around, Came, Went, WentOff, Turns, Runs, course_of, halt_of}
-use Rattle.loop_visit.specs.Sequels.{breaks_first}
-use Rattle.readiness_loop.proofs.Sequences.{acted_still, acted_then, breaks_then}
+use Rattle.readiness_loop.specs.Cuts.{behind, LiesInTurn}
+use Rattle.readiness_loop.specs.Courses.{Around, Came, Went, WentOff, RanOff, Turns, Runs, course_of, halt_of}
+use Rattle.readiness_loop.proofs.Cutting.{broke_behind}
+use Rattle.readiness_loop.proofs.Planned.{exactly_all, run_many, lies_acts}
+use Rattle.readiness_loop.proofs.Sequences.{acted_still, acted_then}
 use Rattle.readiness_loop.proofs.Openings.{opened_in-append}
 use Rattle.readiness_loop.proofs.Sweeps.{after, after_after}
 
 -- so many turns were done, and the loop goes on
-pub record RanSome (plan : Plan) (a b : Around) (c : Course) (l : Loop) (n many : ℕ) : Type 0 where
+pub record RanSome (plan : Plan) (a b : Around) (c : Course KEnd) (l : Loop KEnd) (n many : ℕ) : Type 0 where
   pub answers : List Turn
   pub count : length answers ≡ many
-  pub is : Came a b c l n None (acts (went plan) c answers)
+  pub is : Came a b c l n None (acts (went kept_ends plan) c answers)
 
-acts-append : {S A : Type 0} (f : S → A → Out S) (s : S) (xs ys : List A) → acts f s (xs ++ ys) ≡ next (acts f s xs) (λ t. acts f t ys)
+pub acts-append : {S A : Type 0} (f : S → A → Out S) (s : S) (xs ys : List A) → acts f s (xs ++ ys) ≡ next (acts f s xs) (λ t. acts f t ys)
 unfolding acts
 acts-append f s [] ys = refl
 acts-append f s (x ∷ xs) ys =
     let o = f s x in
     ap (after o) (acts-append f o.state xs ys) ∙ after_after o (acts f o.state xs) (acts f (acts f o.state xs).state ys)
 
-acts_one : {S A : Type 0} (f : S → A → Out S) (s : S) (x : A) → acts f s (x ∷ []) ≡ f s x
+pub acts_one : {S A : Type 0} (f : S → A → Out S) (s : S) (x : A) → acts f s (x ∷ []) ≡ f s x
 unfolding acts
 acts_one f s x = let o = f s x in rw (append-nil o.entries, append-nil o.calls) refl
 
 -- where the loop has halted, nothing comes any more
-halted_went : (plan : Plan) (c : Course) (why : Halt) (x : Turn) → c.halt ≡ Some why → went plan c x ≡ still c
+halted_went : {E : Type 0} (o : EndOps E) (plan : Plan) (c : Course E) (why : Halt) (x : Turn) → c.halt ≡ Some why → went o plan c x ≡ still c
 unfolding went
-halted_went plan c why x p = ap (λ h. went_unless h plan c x) p
+halted_went o plan c why x p = ap (λ h. went_unless o h plan c x) p
 
-pub halted_acts : (plan : Plan) (c : Course) (why : Halt) (xs : List Turn) → c.halt ≡ Some why → acts (went plan) c xs ≡ still c
+pub halted_acts : {E : Type 0} (o : EndOps E) (plan : Plan) (c : Course E) (why : Halt) (xs : List Turn) → c.halt ≡ Some why → acts (went o plan) c xs ≡ still c
 unfolding acts
-halted_acts plan c why [] p = refl
-halted_acts plan c why (x ∷ xs) p =
-    subst (λ (o : Out Course). next o (λ t. acts (went plan) t xs) ≡ still c) (sym (halted_went plan c why x p)) (halted_acts plan c why xs p)
+halted_acts o plan c why [] p = refl
+halted_acts {E} o plan c why (x ∷ xs) p =
+    subst (λ (z : Out (Course E)). next z (λ t. acts (went o plan) t xs) ≡ still c) (sym (halted_went o plan c why x p)) (halted_acts o plan c why xs p)
 
 exactly_more : (n : ℕ) (xs : List Turn) → length xs ≤ n → exactly n nothing_comes xs ≡ xs ++ exactly (n - length xs) nothing_comes []
 unfolding exactly
@@ -53,14 +57,7 @@ exactly_more (suc n) (x ∷ xs) p =
     let e : n - length xs ≡ suc n - length (x ∷ xs) = omega arith in
     ap (λ z. x ∷ z) (exactly_more n xs (omega (arith, q))) ∙ ap (λ z. x ∷ (xs ++ exactly z nothing_comes [])) e)
 
-exactly_all : (n : ℕ) (xs : List Turn) → length xs ≡ n → exactly n nothing_comes xs ≡ xs
-unfolding exactly
-exactly_all zero [] p = refl
-exactly_all zero (x ∷ xs) p = absurd (let q : length (x ∷ xs) ≡ 0 = p in omega (arith, q))
-exactly_all (suc n) [] p = absurd (let q : 0 ≡ suc n = p in omega (arith, q))
-exactly_all (suc n) (x ∷ xs) p = ap (λ z. x ∷ z) (exactly_all n xs (let q : length (x ∷ xs) ≡ suc n = p in omega (arith, q)))
-
-pub ran_none : (plan : Plan) (a : Around) (l : Loop) (n : ℕ) (asked : List ℕ) → RanSome plan a a (course_of l n asked) l n 0
+pub ran_none : (plan : Plan) (a : Around) (l : Loop KEnd) (n : ℕ) (asked : List ℕ) → RanSome plan a a (course_of l n asked) l n 0
 unfolding acts opened_in
 ran_none plan a l n asked = record {
   answers = [];
@@ -82,11 +79,11 @@ ran_none plan a l n asked = record {
 }
 
 -- a course that goes on is one of its loop and its turns
-pub course_is : (a b : Around) (c : Course) (l : Loop) (n : ℕ) (o : Out Course) → Came a b c l n None o → course_of l n o.state.asked ≡ o.state
+pub course_is : (a b : Around) (c : Course KEnd) (l : Loop KEnd) (n : ℕ) (o : Out (Course KEnd)) → Came a b c l n None o → course_of l n o.state.asked ≡ o.state
 course_is a b c l n o p =
-    ap (λ (z : Loop). course_of z n o.state.asked) p.loop
+    ap (λ (z : Loop KEnd). course_of z n o.state.asked) p.loop
     ∙ ap (λ (z : ℕ). course_of o.state.loop z o.state.asked) p.turns
-    ∙ ap (λ (z : Option Halt). let d : Course = record { loop = o.state.loop; turns = o.state.turns; halt = z; asked = o.state.asked } in d) p.halt
+    ∙ ap (λ (z : Option Halt). let d : Course KEnd = record { loop = o.state.loop; turns = o.state.turns; halt = z; asked = o.state.asked } in d) p.halt
 
 newest-append : (from : ℕ) (xs ys : List ℕ) → newest from (xs ++ ys) ≡ newest (newest from xs) ys
 newest-append from [] ys = refl
@@ -96,11 +93,11 @@ rises-append : (from : ℕ) (xs ys : List ℕ) → Rises from xs → Rises (newe
 rises-append from [] ys p q = q
 rises-append from (x ∷ xs) ys p q = (p.0, rises-append x xs ys p.1 q)
 
-pub after_still : (o : Out Course) → after o (still o.state) ≡ o
+pub after_still : {S : Type 0} (o : Out S) → after o (still o.state) ≡ o
 after_still o = rw (append-nil o.entries, append-nil o.calls) refl
 
 -- one part, and another behind it
-pub came_next : (a m b : Around) (c : Course) (o : Out Course) (f : Course → Out Course) (l new : Loop) (n count : ℕ) (h why : Option Halt)
+pub came_next : (a m b : Around) (c : Course KEnd) (o : Out (Course KEnd)) (f : Course KEnd → Out (Course KEnd)) (l new : Loop KEnd) (n count : ℕ) (h why : Option Halt)
     → Came a m c l n h o → Came m b o.state new count why (f o.state) → Came a b c new count why (next o f)
 came_next a m b c o f l new n count h why p q =
     let w = f o.state in
@@ -121,25 +118,25 @@ came_next a m b c o f l new n count h why p q =
     }
 
 -- one turn more
-came_more : (plan : Plan) (a m b : Around) (c : Course) (l new : Loop) (n count : ℕ) (h : Option Halt) (xs : List Turn) (x : Turn)
-    → Came a m c l n None (acts (went plan) c xs)
-    → Came m b (course_of l n (acts (went plan) c xs).state.asked) new count h (went plan (course_of l n (acts (went plan) c xs).state.asked) x)
-    → Came a b c new count h (acts (went plan) c (xs ++ x ∷ []))
+came_more : (plan : Plan) (a m b : Around) (c : Course KEnd) (l new : Loop KEnd) (n count : ℕ) (h : Option Halt) (xs : List Turn) (x : Turn)
+    → Came a m c l n None (acts (went kept_ends plan) c xs)
+    → Came m b (course_of l n (acts (went kept_ends plan) c xs).state.asked) new count h (went kept_ends plan (course_of l n (acts (went kept_ends plan) c xs).state.asked) x)
+    → Came a b c new count h (acts (went kept_ends plan) c (xs ++ x ∷ []))
 came_more plan a m b c l new n count h xs x p q =
-    let o = acts (went plan) c xs in
+    let o = acts (went kept_ends plan) c xs in
     let d = course_is a m c l n o p in
-    let q' : Came m b o.state new count h (went plan o.state x) =
-    subst (λ (z : Course). Came m b z new count h (went plan z x)) d q in
-    let whole : acts (went plan) c (xs ++ x ∷ []) ≡ next o (λ t. went plan t x) =
-    acts-append (went plan) c xs (x ∷ []) ∙ ap (after o) (acts_one (went plan) o.state x) in
-    subst (λ z. Came a b c new count h z) (sym whole) (came_next a m b c o (λ t. went plan t x) l new n count None h p q')
+    let q' : Came m b o.state new count h (went kept_ends plan o.state x) =
+    subst (λ (z : Course KEnd). Came m b z new count h (went kept_ends plan z x)) d q in
+    let whole : acts (went kept_ends plan) c (xs ++ x ∷ []) ≡ next o (λ t. went kept_ends plan t x) =
+    acts-append (went kept_ends plan) c xs (x ∷ []) ∙ ap (after o) (acts_one (went kept_ends plan) o.state x) in
+    subst (λ z. Came a b c new count h z) (sym whole) (came_next a m b c o (λ t. went kept_ends plan t x) l new n count None h p q')
 
-pub ran_more : (plan : Plan) (a m b : Around) (c : Course) (l new : Loop) (n count many : ℕ)
+pub ran_more : (plan : Plan) (a m b : Around) (c : Course KEnd) (l new : Loop KEnd) (n count many : ℕ)
     → RanSome plan a m c l n many
-    → ((asked : List ℕ) → Went (went plan (course_of l n asked)) m b (course_of l n asked) new count None)
+    → ((asked : List ℕ) → Went (went kept_ends plan (course_of l n asked)) m b (course_of l n asked) new count None)
     → RanSome plan a b c new count (many + 1)
 ran_more plan a m b c l new n count many p q =
-    let t = q (acts (went plan) c p.answers).state.asked in
+    let t = q (acts (went kept_ends plan) c p.answers).state.asked in
     record {
       answers = p.answers ++ t.answers ∷ [];
       count = length-append p.answers (t.answers ∷ []) ∙ (let h = p.count in omega (arith, h));
@@ -147,74 +144,68 @@ ran_more plan a m b c l new n count many p q =
     }
 
 -- the turn halted: what would follow is nothing
-pub ran_halted : (plan : Plan) (a m b : Around) (c : Course) (l new : Loop) (n count many : ℕ) (why : Halt)
+pub ran_halted : (plan : Plan) (a m b : Around) (c : Course KEnd) (l new : Loop KEnd) (n count many : ℕ) (why : Halt)
     → RanSome plan a m c l n many → many + 1 ≤ plan.turns
-    → ((asked : List ℕ) → Went (went plan (course_of l n asked)) m b (course_of l n asked) new count (Some why))
-    → Went (run plan c) a b c new count (Some why)
+    → ((asked : List ℕ) → Went (went kept_ends plan (course_of l n asked)) m b (course_of l n asked) new count (Some why))
+    → Went (run kept_ends plan c) a b c new count (Some why)
 unfolding run
 ran_halted plan a m b c l new n count many why p fits q =
-    let t = q (acts (went plan) c p.answers).state.asked in
+    let t = q (acts (went kept_ends plan) c p.answers).state.asked in
     let xs = p.answers ++ t.answers ∷ [] in
     let came = came_more plan a m b c l new n count (Some why) p.answers t.answers p.is t.is in
-    let o = acts (went plan) c xs in
+    let o = acts (went kept_ends plan) c xs in
     let rest = exactly (plan.turns - length xs) nothing_comes [] in
     let few : length xs ≤ plan.turns = (let h = p.count in let k = length-append p.answers (t.answers ∷ []) in omega (arith, h, k, fits)) in
-    let done : acts (went plan) o.state rest ≡ still o.state = halted_acts plan o.state why rest (sym came.halt) in
-    let whole : acts (went plan) c (exactly plan.turns nothing_comes xs) ≡ o =
-    ap (acts (went plan) c) (exactly_more plan.turns xs few) ∙ acts-append (went plan) c xs rest ∙ ap (after o) done ∙ after_still o in
+    let done : acts (went kept_ends plan) o.state rest ≡ still o.state = halted_acts kept_ends plan o.state why rest (sym came.halt) in
+    let whole : acts (went kept_ends plan) c (exactly plan.turns nothing_comes xs) ≡ o =
+    ap (acts (went kept_ends plan) c) (exactly_more plan.turns xs few) ∙ acts-append (went kept_ends plan) c xs rest ∙ ap (after o) done ∙ after_still o in
     record { answers = xs; is = subst (λ z. Came a b c new count (Some why) z) (sym whole) came }
 
-pub ran_all : (plan : Plan) (a b : Around) (c : Course) (l : Loop) (n many : ℕ) → RanSome plan a b c l n many → many ≡ plan.turns
-    → Went (run plan c) a b c l n None
+pub ran_all : (plan : Plan) (a b : Around) (c : Course KEnd) (l : Loop KEnd) (n many : ℕ) → RanSome plan a b c l n many → many ≡ plan.turns
+    → Went (run kept_ends plan c) a b c l n None
 unfolding run
 ran_all plan a b c l n many p is = record {
   answers = p.answers;
-  is = subst (λ z. Came a b c l n None (acts (went plan) c z)) (sym (exactly_all plan.turns p.answers (p.count ∙ is))) p.is;
+  is = subst (λ z. Came a b c l n None (acts (went kept_ends plan) c z)) (sym (exactly_all plan.turns p.answers (p.count ∙ is))) p.is;
 }
 
-pub ran_off : (plan : Plan) (a m b : Around) (c : Course) (l : Loop) (n many : ℕ) (fault : LoopFault)
+pub ran_off : (plan : Plan) (a m b : Around) (c : Course KEnd) (l : Loop KEnd) (n many : ℕ) (fault : LoopFault)
     → RanSome plan a m c l n many → many + 1 ≤ plan.turns
-    → ((asked : List ℕ) → WentOff (went plan (course_of l n asked)) m b fault)
-    → WentOff (run plan c) a b fault
-unfolding run acts
+    → ((asked : List ℕ) → WentOff (LiesInTurn kept_ends plan (course_of l n asked)) m b fault)
+    → RanOff plan a b c fault
+unfolding lies_acts
 ran_off plan a m b c l n many fault p fits q =
-    let o = acts (went plan) c p.answers in
+    let o = acts (went kept_ends plan) c p.answers in
     let t = q o.state.asked in
-    let xs = p.answers ++ t.answers ∷ [] in
-    let rest = exactly (plan.turns - length xs) nothing_comes [] in
-    let few : length xs ≤ plan.turns = (let h = p.count in let k = length-append p.answers (t.answers ∷ []) in omega (arith, h, k, fits)) in
-    let breaks : BreaksAt m.seen b.seen (went plan o.state t.answers) fault =
-    subst (λ (z : Course). BreaksAt m.seen b.seen (went plan z t.answers) fault) (course_is a m c l n o p.is) t.breaks in
-    let whole : acts (went plan) c (exactly plan.turns nothing_comes xs) ≡ next o (λ z. acts (went plan) z (t.answers ∷ rest)) =
-    ap (acts (went plan) c) (exactly_more plan.turns xs few ∙ append_assoc p.answers (t.answers ∷ []) rest) ∙ acts-append (went plan) c p.answers (t.answers ∷ rest) in
     record {
-      answers = xs;
-      breaks = subst (λ z. BreaksAt a.seen b.seen z fault) (sym whole)
-          (breaks_then a.seen m.seen b.seen o.state o (λ z. acts (went plan) z (t.answers ∷ rest)) fault p.is.acted
-          (breaks_first m.seen b.seen (went plan o.state t.answers) (λ z. acts (went plan) z rest) fault breaks));
+      cut = behind o t.cut;
+      lies = lies_acts kept_ends plan c (behind o t.cut) p.answers (let h = p.count in omega (arith, h, fits)) (sym p.is.halt) t.answers t.cut
+          (subst (λ (z : Course KEnd). LiesInTurn kept_ends plan z t.answers t.cut) (course_is a m c l n o p.is) t.lies) refl;
+      rises = subst (λ (z : Out (Course KEnd)). Rises a.newest (opened_in z.calls)) (sym (run_many kept_ends plan c p.answers)) p.is.rises;
+      broke = broke_behind a.seen m.seen b.seen o.state o t.cut fault p.is.acted t.broke;
     }
 
 -- ---- the same, by the facts as a function has them
 
-pub run_goes : (plan : Plan) (a m b : Around) (c : Course) (l new : Loop) (n count many : ℕ) (then_ : Next)
+pub run_goes : (plan : Plan) (a m b : Around) (c : Course KEnd) (l new : Loop KEnd) (n count many : ℕ) (then_ : Next)
     → RanSome plan a m c l n many → halt_of then_ ≡ None
     → ((asked : List ℕ) → Turns plan m b (course_of l n asked) new count (Ok then_))
     → RanSome plan a b c new count (many + 1)
 run_goes plan a m b c l new n count many then_ p is q =
-    ran_more plan a m b c l new n count many p (λ asked. subst (λ h. Went (went plan (course_of l n asked)) m b (course_of l n asked) new count h) is (q asked))
+    ran_more plan a m b c l new n count many p (λ asked. subst (λ h. Went (went kept_ends plan (course_of l n asked)) m b (course_of l n asked) new count h) is (q asked))
 
-pub run_halts : (plan : Plan) (a m b : Around) (c : Course) (l new : Loop) (n count many : ℕ) (then_ : Next) (why : Halt)
+pub run_halts : (plan : Plan) (a m b : Around) (c : Course KEnd) (l new : Loop KEnd) (n count many : ℕ) (then_ : Next) (why : Halt)
     → RanSome plan a m c l n many → many < plan.turns → halt_of then_ ≡ Some why
     → ((asked : List ℕ) → Turns plan m b (course_of l n asked) new count (Ok then_))
-    → Went (run plan c) a b c new count (Some why)
+    → Went (run kept_ends plan c) a b c new count (Some why)
 run_halts plan a m b c l new n count many then_ why p fits is q =
     ran_halted plan a m b c l new n count many why p (omega (arith, fits))
-    (λ asked. subst (λ h. Went (went plan (course_of l n asked)) m b (course_of l n asked) new count h) is (q asked))
+    (λ asked. subst (λ h. Went (went kept_ends plan (course_of l n asked)) m b (course_of l n asked) new count h) is (q asked))
 
 rose_later : (x y z : ℕ) → x ≤ y → Rose y z → Rose x z
 rose_later x y z p q = omega (arith, p, q)
 
-pub run_stops : (plan : Plan) (a m b : Around) (c : Course) (l new : Loop) (n count many : ℕ) (fault : LoopFault)
+pub run_stops : (plan : Plan) (a m b : Around) (c : Course KEnd) (l new : Loop KEnd) (n count many : ℕ) (fault : LoopFault)
     → RanSome plan a m c l n many → many < plan.turns
     → ((asked : List ℕ) → Turns plan m b (course_of l n asked) new count (Err fault))
     → Runs plan a b c new count (Err fault)
@@ -225,5 +216,5 @@ run_stops plan a m b c l new n count many Wires p fits q = record {
 run_stops plan a m b c l new n count many Sink p fits q = ran_off plan a m b c l n many Sink p (omega (arith, fits)) q
 run_stops plan a m b c l new n count many (NoMemory want) p fits q = ran_off plan a m b c l n many (NoMemory want) p (omega (arith, fits)) q
 
-pub ran_start : (plan : Plan) (a : Around) (l : Loop) (n : ℕ) (asked : List ℕ) → n ≡ 0 → RanSome plan a a (course_of l 0 asked) l n 0
+pub ran_start : (plan : Plan) (a : Around) (l : Loop KEnd) (n : ℕ) (asked : List ℕ) → n ≡ 0 → RanSome plan a a (course_of l 0 asked) l n 0
 ran_start plan a l n asked is = subst (λ z. RanSome plan a a (course_of l 0 asked) l z 0) (sym is) (ran_none plan a l 0 asked)

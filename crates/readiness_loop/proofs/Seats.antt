@@ -1,4 +1,5 @@
 -- A visit of the session of a number is a visit of the session in the slot at that number's place.
+use Rattle.er_end.specs.KeptEnds.{KEnd}
 use Rattle.std.proofs.Common.{◌≡◌, ◌≢◌, ℕ, true, false, List, [], ◌∷◌, Option, Some, None, inl, inr, cond, refl, sym, ◌∙◌, ap, subst, arith}
 use Rattle.std.specs.Prelude.{◌==◌}
 use Rattle.std.specs.Ordering.{nat_cmp, is_eq}
@@ -15,15 +16,15 @@ use Rattle.readiness_loop.proofs.Sequences.{SaysSame}
 use Rattle.readiness_loop.specs.Books.{seat, seats, sessions_at, IsSeat, IsApart, AreSeated}
 
 -- the places of other slots, while one changes
-abbrev pub OthersStay : Slab Session → Slab Session → ℕ → Type 0
+abbrev pub OthersStay : Slab (Session KEnd) → Slab (Session KEnd) → ℕ → Type 0
 OthersStay slots now k = (j : ℕ) → j ≢ k → get now j ≡ get slots j
 
-others_seats : (slots now : Slab Session) (k : ℕ) (es : List (ℕ × ℕ)) → OthersStay slots now k → IsApart k es → sessions_at now es ≡ sessions_at slots es
+others_seats : (slots now : Slab (Session KEnd)) (k : ℕ) (es : List (ℕ × ℕ)) → OthersStay slots now k → IsApart k es → sessions_at now es ≡ sessions_at slots es
 unfolding seats
 others_seats slots now k [] h p = refl
 others_seats slots now k (e ∷ es) h p = rw (h e.1 p.0, others_seats slots now k es h p.1) refl
 
-others_seated : (newest : ℕ) (slots now : Slab Session) (k : ℕ) (es : List (ℕ × ℕ)) → OthersStay slots now k → IsApart k es
+others_seated : (newest : ℕ) (slots now : Slab (Session KEnd)) (k : ℕ) (es : List (ℕ × ℕ)) → OthersStay slots now k → IsApart k es
     → AreSeated newest slots es → AreSeated newest now es
 unfolding AreSeated
 others_seated newest slots now k [] h p q = tt
@@ -55,30 +56,30 @@ found_apart n j k (e ∷ es) p q =
 -- ---- a visit
 
 -- the session of a place
-seated_at : (newest : ℕ) (slots : Slab Session) (e : ℕ × ℕ) (es : List (ℕ × ℕ)) → AreSeated newest slots (e ∷ es)
-    → (s : Session) × (get slots e.1 ≡ Some s) × (s.number ≡ e.0)
+seated_at : (newest : ℕ) (slots : Slab (Session KEnd)) (e : ℕ × ℕ) (es : List (ℕ × ℕ)) → AreSeated newest slots (e ∷ es)
+    → (s : Session KEnd) × (get slots e.1 ≡ Some s) × (s.number ≡ e.0)
 unfolding AreSeated
 seated_at newest slots e es p = of_seat (get slots e.1) refl p.1
   where
-    of_seat : (o : Option Session) → o ≡ get slots e.1 → IsSeat e.0 o → (s : Session) × (get slots e.1 ≡ Some s) × (s.number ≡ e.0)
+    of_seat : (o : Option (Session KEnd)) → o ≡ get slots e.1 → IsSeat e.0 o → (s : Session KEnd) × (get slots e.1 ≡ Some s) × (s.number ≡ e.0)
     of_seat None is q = absurd q
     of_seat (Some s) is q = (s, sym is, q)
 
-seated_rest : (newest : ℕ) (slots : Slab Session) (e : ℕ × ℕ) (es : List (ℕ × ℕ)) → AreSeated newest slots (e ∷ es) → AreSeated newest slots es
+seated_rest : (newest : ℕ) (slots : Slab (Session KEnd)) (e : ℕ × ℕ) (es : List (ℕ × ℕ)) → AreSeated newest slots (e ∷ es) → AreSeated newest slots es
 unfolding AreSeated
 seated_rest newest slots e es p = p.3
 
-apart_rest : (newest : ℕ) (slots : Slab Session) (e : ℕ × ℕ) (es : List (ℕ × ℕ)) → AreSeated newest slots (e ∷ es) → IsApart e.1 es
+apart_rest : (newest : ℕ) (slots : Slab (Session KEnd)) (e : ℕ × ℕ) (es : List (ℕ × ℕ)) → AreSeated newest slots (e ∷ es) → IsApart e.1 es
 unfolding AreSeated
 apart_rest newest slots e es p = p.2
 
-sessions_first : (slots : Slab Session) (e : ℕ × ℕ) (es : List (ℕ × ℕ)) (s : Session) → get slots e.1 ≡ Some s
+sessions_first : (slots : Slab (Session KEnd)) (e : ℕ × ℕ) (es : List (ℕ × ℕ)) (s : Session KEnd) → get slots e.1 ≡ Some s
     → sessions_at slots (e ∷ es) ≡ s ∷ sessions_at slots es
 unfolding seats
 sessions_first slots e es s p = ap (λ z. seat z (sessions_at slots es)) p
 
 -- nobody has the number
-pub visit_none : (f : Session → Met → Out (List Session)) (newest n : ℕ) (slots : Slab Session) (es : List (ℕ × ℕ)) (a : Met)
+pub visit_none : (f : Session KEnd → Met → Out (List (Session KEnd))) (newest n : ℕ) (slots : Slab (Session KEnd)) (es : List (ℕ × ℕ)) (a : Met)
     → AreSeated newest slots es → place_of n es ≡ None → visit_at f n (sessions_at slots es) a ≡ still (sessions_at slots es)
 unfolding visit_at seats
 visit_none f newest n slots [] a p q = refl
@@ -93,7 +94,7 @@ visit_none f newest n slots (e ∷ es) a p q =
     ]
 
 -- the session that stands at the place of the number
-pub visit_says : (f : Session → Met → Out (List Session)) (newest n k : ℕ) (slots : Slab Session) (es : List (ℕ × ℕ)) (s : Session) (a : Met)
+pub visit_says : (f : Session KEnd → Met → Out (List (Session KEnd))) (newest n k : ℕ) (slots : Slab (Session KEnd)) (es : List (ℕ × ℕ)) (s : Session KEnd) (a : Met)
     → AreSeated newest slots es → place_of n es ≡ Some k → get slots k ≡ Some s
     → SaysSame (f s a) (visit_at f n (sessions_at slots es) a)
 unfolding visit_at seats
@@ -114,7 +115,7 @@ visit_says f newest n k slots (e ∷ es) s a p q r =
     ]
 
 -- it stays, as it is now
-pub visit_leaves : (f : Session → Met → Out (List Session)) (newest n k : ℕ) (slots now : Slab Session) (es : List (ℕ × ℕ)) (s t : Session) (a : Met)
+pub visit_leaves : (f : Session KEnd → Met → Out (List (Session KEnd))) (newest n k : ℕ) (slots now : Slab (Session KEnd)) (es : List (ℕ × ℕ)) (s t : Session KEnd) (a : Met)
     → AreSeated newest slots es → place_of n es ≡ Some k → get slots k ≡ Some s → Updates slots now k (Some t) → t ∷ [] ≡ (f s a).state
     → sessions_at now es ≡ (visit_at f n (sessions_at slots es) a).state
 unfolding visit_at seats
@@ -139,7 +140,7 @@ visit_leaves f newest n k slots now (e ∷ es) s t a p q r u is =
           rw (here.1, other, away, rest) refl
     ]
 
-pub visit_leaves_seated : (newest n k : ℕ) (slots now : Slab Session) (es : List (ℕ × ℕ)) (s t : Session)
+pub visit_leaves_seated : (newest n k : ℕ) (slots now : Slab (Session KEnd)) (es : List (ℕ × ℕ)) (s t : Session KEnd)
     → AreSeated newest slots es → place_of n es ≡ Some k → get slots k ≡ Some s → Updates slots now k (Some t) → t.number ≡ s.number
     → AreSeated newest now es
 unfolding AreSeated
@@ -161,7 +162,7 @@ visit_leaves_seated newest n k slots now (e ∷ es) s t p q r u is =
     ]
 
 -- it was closed
-pub visit_drops : (f : Session → Met → Out (List Session)) (newest n k : ℕ) (slots now : Slab Session) (es : List (ℕ × ℕ)) (s : Session) (a : Met)
+pub visit_drops : (f : Session KEnd → Met → Out (List (Session KEnd))) (newest n k : ℕ) (slots now : Slab (Session KEnd)) (es : List (ℕ × ℕ)) (s : Session KEnd) (a : Met)
     → AreSeated newest slots es → place_of n es ≡ Some k → get slots k ≡ Some s → Updates slots now k None → [] ≡ (f s a).state
     → sessions_at now (remove_entry (is_at (nat_cmp n)) es) ≡ (visit_at f n (sessions_at slots es) a).state
 unfolding visit_at seats
@@ -193,7 +194,7 @@ apart_fewer n k (e ∷ es) p =
       | inr b ↦ rw b (p.0, apart_fewer n k es p.1)
     ]
 
-pub visit_drops_seated : (newest n k : ℕ) (slots now : Slab Session) (es : List (ℕ × ℕ))
+pub visit_drops_seated : (newest n k : ℕ) (slots now : Slab (Session KEnd)) (es : List (ℕ × ℕ))
     → AreSeated newest slots es → place_of n es ≡ Some k → Updates slots now k None
     → AreSeated newest now (remove_entry (is_at (nat_cmp n)) es)
 unfolding AreSeated
@@ -210,7 +211,7 @@ visit_drops_seated newest n k slots now (e ∷ es) p q u =
     ]
 
 -- the slot of a place has a session
-pub seat_found : (newest n k : ℕ) (slots : Slab Session) (es : List (ℕ × ℕ)) → AreSeated newest slots es → place_of n es ≡ Some k → get slots k ≡ None → ⊥
+pub seat_found : (newest n k : ℕ) (slots : Slab (Session KEnd)) (es : List (ℕ × ℕ)) → AreSeated newest slots es → place_of n es ≡ Some k → get slots k ≡ None → ⊥
 seat_found newest n k slots [] p q r = none_some k q
 seat_found newest n k slots (e ∷ es) p q r =
     let here = seated_at newest slots e es p in

@@ -7,7 +7,8 @@ use Rattle.loop_model.specs.Journals.{text}
 use Rattle.loop_model.specs.Outs.{Out, still, next}
 use Rattle.loop_model.specs.Laws.{failures}
 use Rattle.loop_session.specs.declared.loop_fault.LoopFault.{LoopFault}
-use Rattle.loop_visit.specs.Acting.{Seen, AreAnsweredSo, Counts, Acted, Began, BreaksAt}
+use Rattle.loop_visit.specs.Acting.{Acted, Began, BreaksAt}
+use Rattle.loop_visit.specs.Seeing.{Seen, AreAnsweredSo, Counts}
 use Rattle.loop_visit.specs.Sequels.{text_parts, answered_parts, grammar_parts, counts_then, began_then, failed_behind}
 
 pub failures-none : failures [] ≡ 0

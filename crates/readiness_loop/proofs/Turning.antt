@@ -1,8 +1,11 @@
 -- A turn: what happens is handled whole, and why the loop halts behind it.
+use Rattle.er_end.specs.KeptEnds.{KEnd}
+use Rattle.loop_session.specs.Keeping.{kept_ends}
 use Rattle.std.proofs.Common.{◌≡◌, ℕ, ◌+◌, ◌-◌, ◌≤◌, max, nat_lt, Bool, true, false, inl, inr, List, [], ◌∷◌, ◌++◌, Option, Some, None, Result, Ok, Err, length, refl, sym, ◌∙◌, ap, subst, arith, append-nil}
 use Rattle.std.specs.Prelude.{◌==◌, ◌&&◌, if◌then◌else◌}
 use Rattle.std.proofs.lemmas.Bool.{cases_Bool}
 use Rattle.slab.specs.Slab.{Slab}
+use Rattle.link_trait.specs.States.{ClockState, SinkState, WiresState}
 use Rattle.link_trait.specs.Outside.{Grew, Rose}
 use Rattle.link_trait.specs.Growth.{grew_nothing}
 use Rattle.link_trait.specs.Wires.{Call, Turns, opened_by_turn}
@@ -18,63 +21,66 @@ use Rattle.loop_model.specs.Laws.{failures}
 use Rattle.er_users.specs.Users.{Mind}
 use Rattle.loop_session.specs.declared.loop_fault.LoopFault.{LoopFault}
 use Rattle.loop_session.specs.declared.loop_fault.LoopFault.TheVariants.{Wires, Sink, NoMemory}
-use Rattle.loop_visit.specs.Acting.{Seen, seen, Acted, Did, Stopped, Does}
+use Rattle.loop_visit.specs.Acting.{Acted, Did, Stopped, Does}
+use Rattle.loop_visit.specs.Seeing.{Seen, seen}
 use Rattle.readiness_loop.specs.declared.live_loop.Next.{Next}
 use Rattle.readiness_loop.specs.Books.{AreSeated}
-use Rattle.readiness_loop.specs.Courses.{around, Went, WentOff, Turned, halt_of, halt_after, HaltsSo, course_of, Acts, IsReadyFor}
-use Rattle.readiness_loop.proofs.Sequences.{acted_as, acted_still, acted_then, breaks_as, breaks_then}
+use Rattle.readiness_loop.specs.Cuts.{behind}
+use Rattle.readiness_loop.specs.Courses.{around, Went, WentOff, LiesBehind, Turned, halt_of, halt_after, HaltsSo, course_of, Acts, IsReadyFor}
+use Rattle.readiness_loop.proofs.Sequences.{acted_as, acted_still, acted_then, breaks_as}
 use Rattle.readiness_loop.proofs.Openings.{visit_opens}
+use Rattle.readiness_loop.proofs.Cutting.{cut_of, cut_lies, cut_broke, broke_behind}
 
 -- ---- what happened
 
-pub react_accept : {T : Type 0} (a b : Seen) (plan : Plan) (l new : Loop) (conn : Conn) (r : Result T LoopFault)
-    → Acts a b new (accepted plan l conn.0) r → Does a b new (happened plan l (happening.Accepted conn)) r
+pub react_accept : {T : Type 0} (a b : Seen) (plan : Plan) (l new : Loop KEnd) (conn : Conn) (r : Result T LoopFault)
+    → Acts a b new (accepted kept_ends plan l conn.0) r → Does a b new (happened kept_ends plan l (happening.Accepted conn)) r
 unfolding happened
 react_accept a b plan l new conn (Ok done) p = record { answers = nothing_met; is = p }
 react_accept a b plan l new conn (Err fault) p = record { answers = nothing_met; breaks = p }
 
-pub react_read : {T : Type 0} (a b : Seen) (plan : Plan) (l new : Loop) (ss : List Session) (conn : Conn) (r : Result T LoopFault)
-    → new ≡ with_sessions l ss → Does a b ss (visit_at (visited (rules_of plan) l.moment Read) conn.0 l.sessions) r
-    → Does a b new (happened plan l (happening.Readable conn)) r
+pub react_read : {T : Type 0} (a b : Seen) (plan : Plan) (l new : Loop KEnd) (ss : List (Session KEnd)) (conn : Conn) (r : Result T LoopFault)
+    → new ≡ with_sessions l ss → Does a b ss (visit_at (visited kept_ends (rules_of plan) l.moment Read) conn.0 l.sessions) r
+    → Does a b new (happened kept_ends plan l (happening.Readable conn)) r
 unfolding happened
 react_read a b plan l new ss conn (Ok done) same p = record {
   answers = p.answers;
-  is = acted_as a b ss new (visit_at (visited (rules_of plan) l.moment Read) conn.0 l.sessions p.answers) (changed (with_sessions l) (visit_at (visited (rules_of plan) l.moment Read) conn.0 l.sessions p.answers)) (record { entries = refl; calls = refl })
+  is = acted_as a b ss new (visit_at (visited kept_ends (rules_of plan) l.moment Read) conn.0 l.sessions p.answers) (changed (with_sessions l) (visit_at (visited kept_ends (rules_of plan) l.moment Read) conn.0 l.sessions p.answers)) (record { entries = refl; calls = refl })
       (same ∙ ap (with_sessions l) p.is.state) p.is;
 }
 react_read a b plan l new ss conn (Err fault) same p = record {
   answers = p.answers;
-  breaks = breaks_as a b (visit_at (visited (rules_of plan) l.moment Read) conn.0 l.sessions p.answers) (changed (with_sessions l) (visit_at (visited (rules_of plan) l.moment Read) conn.0 l.sessions p.answers)) fault (record { entries = refl; calls = refl }) p.breaks;
+  breaks = breaks_as a b (visit_at (visited kept_ends (rules_of plan) l.moment Read) conn.0 l.sessions p.answers) (changed (with_sessions l) (visit_at (visited kept_ends (rules_of plan) l.moment Read) conn.0 l.sessions p.answers)) fault (record { entries = refl; calls = refl }) p.breaks;
 }
 
-pub react_write : {T : Type 0} (a b : Seen) (plan : Plan) (l new : Loop) (ss : List Session) (conn : Conn) (r : Result T LoopFault)
-    → new ≡ with_sessions l ss → Does a b ss (visit_at (visited (rules_of plan) l.moment Write) conn.0 l.sessions) r
-    → Does a b new (happened plan l (happening.Writable conn)) r
+pub react_write : {T : Type 0} (a b : Seen) (plan : Plan) (l new : Loop KEnd) (ss : List (Session KEnd)) (conn : Conn) (r : Result T LoopFault)
+    → new ≡ with_sessions l ss → Does a b ss (visit_at (visited kept_ends (rules_of plan) l.moment Write) conn.0 l.sessions) r
+    → Does a b new (happened kept_ends plan l (happening.Writable conn)) r
 unfolding happened
 react_write a b plan l new ss conn (Ok done) same p = record {
   answers = p.answers;
-  is = acted_as a b ss new (visit_at (visited (rules_of plan) l.moment Write) conn.0 l.sessions p.answers) (changed (with_sessions l) (visit_at (visited (rules_of plan) l.moment Write) conn.0 l.sessions p.answers)) (record { entries = refl; calls = refl })
+  is = acted_as a b ss new (visit_at (visited kept_ends (rules_of plan) l.moment Write) conn.0 l.sessions p.answers) (changed (with_sessions l) (visit_at (visited kept_ends (rules_of plan) l.moment Write) conn.0 l.sessions p.answers)) (record { entries = refl; calls = refl })
       (same ∙ ap (with_sessions l) p.is.state) p.is;
 }
 react_write a b plan l new ss conn (Err fault) same p = record {
   answers = p.answers;
-  breaks = breaks_as a b (visit_at (visited (rules_of plan) l.moment Write) conn.0 l.sessions p.answers) (changed (with_sessions l) (visit_at (visited (rules_of plan) l.moment Write) conn.0 l.sessions p.answers)) fault (record { entries = refl; calls = refl }) p.breaks;
+  breaks = breaks_as a b (visit_at (visited kept_ends (rules_of plan) l.moment Write) conn.0 l.sessions p.answers) (changed (with_sessions l) (visit_at (visited kept_ends (rules_of plan) l.moment Write) conn.0 l.sessions p.answers)) fault (record { entries = refl; calls = refl }) p.breaks;
 }
 
-pub react_quiet : (a : Seen) (plan : Plan) (l : Loop) → Did a a l (happened plan l happening.Quiet)
+pub react_quiet : (a : Seen) (plan : Plan) (l : Loop KEnd) → Did a a l (happened kept_ends plan l happening.Quiet)
 unfolding happened
 react_quiet a plan l = record { answers = nothing_met; is = acted_still a l l refl }
 
-pub react_ended : (a : Seen) (plan : Plan) (l : Loop) → Did a a l (happened plan l happening.Ended)
+pub react_ended : (a : Seen) (plan : Plan) (l : Loop KEnd) → Did a a l (happened kept_ends plan l happening.Ended)
 unfolding happened
 react_ended a plan l = record { answers = nothing_met; is = acted_still a l l refl }
 
-pub react_failed : (a : Seen) (plan : Plan) (l : Loop) → Did a a l (happened plan l happening.Failed)
+pub react_failed : (a : Seen) (plan : Plan) (l : Loop KEnd) → Did a a l (happened kept_ends plan l happening.Failed)
 unfolding happened
 react_failed a plan l = record { answers = nothing_met; is = acted_still a l l refl }
 
 -- behind a turn
-pub ready_for : (what : Happening) (before now : ℕ) (slots : Slab Session) (es : List (ℕ × ℕ)) → now ≡ opened_by_turn what before
+pub ready_for : (what : Happening) (before now : ℕ) (slots : Slab (Session KEnd)) (es : List (ℕ × ℕ)) → now ≡ opened_by_turn what before
     → ((conn : Conn) → what ≡ happening.Accepted conn → conn.0 ≡ before + 1) → AreSeated before slots es → IsReadyFor what now slots es
 ready_for (happening.Accepted conn) before now slots es p number q =
     let is : conn.0 ≡ before + 1 = number conn refl in
@@ -87,20 +93,20 @@ ready_for happening.Failed before now slots es p number q = subst (λ z. AreSeat
 
 -- ---- nothing that happens opens a connection, but the turn itself
 
-answered_opens : (o : Option Mind) (plan : Plan) (l : Loop) (conn : ℕ) → opened_in (answered_by o plan l conn).calls ≡ []
+answered_opens : (o : Option Mind) (plan : Plan) (l : Loop KEnd) (conn : ℕ) → opened_in (answered_by kept_ends o plan l conn).calls ≡ []
 unfolding opened_in
 answered_opens None plan l conn = refl
 answered_opens (Some mind) plan l conn = refl
 
-happened_opens : (plan : Plan) (l : Loop) (what : Happening) (a : Met) → opened_in (happened plan l what a).calls ≡ []
+happened_opens : (plan : Plan) (l : Loop KEnd) (what : Happening) (a : Met) → opened_in (happened kept_ends plan l what a).calls ≡ []
 unfolding happened accepted opened_in
 happened_opens plan l (happening.Accepted conn) a =
     elim (cases_Bool (nat_lt (length l.sessions) most_live)) [
       | inl p ↦ rw p (answered_opens (next_user l.users) plan l conn.0)
       | inr p ↦ rw p refl
     ]
-happened_opens plan l (happening.Readable conn) a = visit_opens (rules_of plan) l.moment Read conn.0 l.sessions a
-happened_opens plan l (happening.Writable conn) a = visit_opens (rules_of plan) l.moment Write conn.0 l.sessions a
+happened_opens plan l (happening.Readable conn) a = visit_opens kept_ends (rules_of plan) l.moment Read conn.0 l.sessions a
+happened_opens plan l (happening.Writable conn) a = visit_opens kept_ends (rules_of plan) l.moment Write conn.0 l.sessions a
 happened_opens plan l happening.Quiet a = refl
 happened_opens plan l happening.Ended a = refl
 happened_opens plan l happening.Failed a = refl
@@ -126,12 +132,12 @@ none_by happening.Failed heard hearing deaf = refl
 -- ---- a turn and what follows
 
 -- the turn itself, as one part
-turn_acted : {S : Type 0} (h : Option (List ℕ)) (f : ℕ) (calls now : Option (List Call)) (x y : ℕ) (s : S) (at : Option ℕ) (what : Happening)
-    → Grew calls now (Turns at what ∷ []) → x ≤ y → Acted (seen h f calls x) (seen h f now y) s (makes (Turns at what) s)
+turn_acted : {S : Type 0} (h : SinkState) (calls now : WiresState) (s : S) (at : Option ℕ) (what : Happening)
+    → Grew calls.calls now.calls (Turns at what ∷ []) → calls.faults ≤ now.faults → Acted (seen h calls) (seen h now) s (makes (Turns at what) s)
 unfolding failures
-turn_acted h f calls now x y s at what p less = record {
+turn_acted h calls now s at what p less = record {
   state = refl;
-  printed = grew_nothing h;
+  printed = grew_nothing h.held;
   later = omega arith;
   told = p;
   answered = (tt, tt);
@@ -143,78 +149,82 @@ turn_acted h f calls now x y s at what p less = record {
 met_in : Happening → ℕ → Met → Turn
 met_in what at met = record { first = 0; sweeps = record { ticks = []; closings = [] }; happening = what; second = at; met = met }
 
-pub turned_came : (plan : Plan) (h i : Option (List ℕ)) (f g : ℕ) (calls mid now : Option (List Call)) (x y z : ℕ) (tf tg : ℕ) (before opened : ℕ) (heard hears : Bool) (k j : Option (List ℕ))
-    (l new : Loop) (n : ℕ) (asked : List ℕ) (at : Option ℕ) (what : Happening) (second : ℕ) (why : Option Halt)
-    → at ≡ until l.sessions → Grew calls mid (Turns at what ∷ []) → x ≤ y → Grew k j (second ∷ [])
-    → Did (seen h f mid y) (seen i g now z) new (happened plan (record l { moment = max l.moment second }) what)
-    → opened ≡ opened_by_turn what before → ((conn : Conn) → what ≡ happening.Accepted conn → conn.0 ≡ before + 1) → tf ≤ tg
-    → hears ≡ heard → ((conn : Conn) → what ≡ happening.Accepted conn → heard ≡ true)
+pub turned_came : (plan : Plan) (h i : SinkState) (calls mid now : WiresState) (k j : ClockState)
+    (l new : Loop KEnd) (n : ℕ) (asked : List ℕ) (at : Option ℕ) (what : Happening) (second : ℕ) (why : Option Halt)
+    → at ≡ until kept_ends l.sessions → Grew calls.calls mid.calls (Turns at what ∷ []) → calls.faults ≤ mid.faults → Grew k.answers j.answers (second ∷ [])
+    → Did (seen h mid) (seen i now) new (happened kept_ends plan (record l { moment = max l.moment second }) what)
+    → now.opened ≡ opened_by_turn what calls.opened → ((conn : Conn) → what ≡ happening.Accepted conn → conn.0 ≡ calls.opened + 1) → calls.turn_faults ≤ now.turn_faults
+    → now.listening ≡ calls.listening → ((conn : Conn) → what ≡ happening.Accepted conn → calls.listening ≡ true)
     → why ≡ halt_behind plan what new.sessions
-    → Went (turned_unless None plan (course_of l n asked)) (around (seen h f calls x) tf before heard k) (around (seen i g now z) tg opened hears j) (course_of l n asked) new (n + 1) why
+    → Went (turned_unless kept_ends None plan (course_of l n asked)) (around h calls k) (around i now j) (course_of l n asked) new (n + 1) why
 unfolding met_in opened_in
-turned_came plan h i f g calls mid now x y z tf tg before opened heard hears k j l new n asked at what second why due told less clock did op number fewer same hearing halts =
+turned_came plan h i calls mid now k j l new n asked at what second why due told less clock did op number fewer same hearing halts =
     let c = course_of l n asked in
     let a = met_in what second did.answers in
-    let d : Course = record { loop = record l { moment = max l.moment second }; turns = n + 1; halt = None; asked = asked ++ second ∷ [] } in
-    let first = turn_acted h f calls mid x y d (until l.sessions) what (subst (λ t. Grew calls mid (Turns t what ∷ [])) due told) less in
-    let o = happened plan d.loop what did.answers in
-    let rest = acted_as (seen h f mid y) (seen i g now z) new (follows plan d a).state o (follows plan d a) (record { entries = refl; calls = refl }) refl did.is in
-    let calls_are : opened_in (Turns (until l.sessions) what ∷ o.calls) ≡ opened_by what = ap (λ t. opened_by what ++ t) (happened_opens plan d.loop what did.answers) ∙ append-nil (opened_by what) in
-    let counts = newest_by what before opened op number in
+    let d : Course KEnd = record { loop = record l { moment = max l.moment second }; turns = n + 1; halt = None; asked = asked ++ second ∷ [] } in
+    let first = turn_acted h calls mid d (until kept_ends l.sessions) what (subst (λ t. Grew calls.calls mid.calls (Turns t what ∷ [])) due told) less in
+    let o = happened kept_ends plan d.loop what did.answers in
+    let rest = acted_as (seen h mid) (seen i now) new (follows kept_ends plan d a).state o (follows kept_ends plan d a) (record { entries = refl; calls = refl }) refl did.is in
+    let calls_are : opened_in (Turns (until kept_ends l.sessions) what ∷ o.calls) ≡ opened_by what = ap (λ t. opened_by what ++ t) (happened_opens plan d.loop what did.answers) ∙ append-nil (opened_by what) in
+    let counts = newest_by what calls.opened now.opened op number in
     record {
       answers = a;
       is = record {
         loop = did.is.state;
         turns = refl;
-        halt = halts ∙ ap (λ (t : Loop). halt_behind plan what t.sessions) did.is.state;
-        acted = acted_then (seen h f calls x) (seen h f mid y) (seen i g now z) d (follows plan d a).state (turn c a) (λ t. follows plan t a) first rest;
+        halt = halts ∙ ap (λ (t : Loop KEnd). halt_behind plan what t.sessions) did.is.state;
+        acted = acted_then (seen h calls) (seen h mid) (seen i now) d (follows kept_ends plan d a).state (turn kept_ends c a) (λ t. follows kept_ends plan t a) first rest;
         more = second ∷ [];
         asked = refl;
         answered = clock;
-        opened = counts.0 ∙ ap (newest before) (sym calls_are);
-        rises = subst (λ t. Rises before t) (sym calls_are) counts.1;
+        opened = counts.0 ∙ ap (newest calls.opened) (sym calls_are);
+        rises = subst (λ t. Rises calls.opened t) (sym calls_are) counts.1;
         failed = fewer;
         listens = same;
-        alone = λ deaf. calls_are ∙ none_by what heard hearing deaf;
+        alone = λ deaf. calls_are ∙ none_by what calls.listening hearing deaf;
       };
     }
 
-went_off : (plan : Plan) (h i : Option (List ℕ)) (f g : ℕ) (calls mid now : Option (List Call)) (x y z : ℕ) (tf tg : ℕ) (before opened : ℕ) (heard hears : Bool) (k j : Option (List ℕ))
-    (l : Loop) (n : ℕ) (asked : List ℕ) (at : Option ℕ) (what : Happening) (second : ℕ) (fault : LoopFault)
-    → at ≡ until l.sessions → Grew calls mid (Turns at what ∷ []) → x ≤ y
-    → Stopped (seen h f mid y) (seen i g now z) (happened plan (record l { moment = max l.moment second }) what) fault
-    → WentOff (turned_unless None plan (course_of l n asked)) (around (seen h f calls x) tf before heard k) (around (seen i g now z) tg opened hears j) fault
+went_off : (plan : Plan) (h i : SinkState) (calls mid now : WiresState) (k j : ClockState)
+    (l : Loop KEnd) (n : ℕ) (asked : List ℕ) (at : Option ℕ) (what : Happening) (second : ℕ) (fault : LoopFault)
+    → at ≡ until kept_ends l.sessions → Grew calls.calls mid.calls (Turns at what ∷ []) → calls.faults ≤ mid.faults
+    → Stopped (seen h mid) (seen i now) (happened kept_ends plan (record l { moment = max l.moment second }) what) fault
+    → WentOff (LiesBehind plan (course_of l n asked)) (around h calls k) (around i now j) fault
 unfolding met_in
-went_off plan h i f g calls mid now x y z tf tg before opened heard hears k j l n asked at what second fault due told less p =
+went_off plan h i calls mid now k j l n asked at what second fault due told less p =
     let c = course_of l n asked in
     let a = met_in what second p.answers in
-    let d : Course = record { loop = record l { moment = max l.moment second }; turns = n + 1; halt = None; asked = asked ++ second ∷ [] } in
-    let first = turn_acted h f calls mid x y d (until l.sessions) what (subst (λ t. Grew calls mid (Turns t what ∷ [])) due told) less in
+    let d : Course KEnd = record { loop = record l { moment = max l.moment second }; turns = n + 1; halt = None; asked = asked ++ second ∷ [] } in
+    let first = turn_acted h calls mid d (until kept_ends l.sessions) what (subst (λ t. Grew calls.calls mid.calls (Turns t what ∷ [])) due told) less in
+    let breaks = breaks_as (seen h mid) (seen i now) (happened kept_ends plan d.loop what p.answers) (follows kept_ends plan d a) fault (record { entries = refl; calls = refl }) p.breaks in
+    let rest = cut_of (seen h mid) (seen i now) (follows kept_ends plan d a) fault breaks in
     record {
       answers = a;
-      breaks = breaks_then (seen h f calls x) (seen h f mid y) (seen i g now z) d (turn c a) (λ t. follows plan t a) fault first
-          (breaks_as (seen h f mid y) (seen i g now z) (happened plan d.loop what p.answers) (follows plan d a) fault (record { entries = refl; calls = refl }) p.breaks);
+      cut = behind (turn kept_ends c a) rest;
+      lies = record { rest = rest; lies = cut_lies (seen h mid) (seen i now) (follows kept_ends plan d a) fault breaks; is = refl };
+      broke = broke_behind (seen h calls) (seen h mid) (seen i now) d (turn kept_ends c a) rest fault first
+          (cut_broke (seen h mid) (seen i now) (follows kept_ends plan d a) fault breaks);
     }
 
-pub turned_off : (plan : Plan) (h i : Option (List ℕ)) (f g : ℕ) (calls mid now : Option (List Call)) (x y z : ℕ) (tf tg : ℕ) (before opened : ℕ) (heard hears : Bool) (k j : Option (List ℕ))
-    (l new : Loop) (n m : ℕ) (asked : List ℕ) (at : Option ℕ) (what : Happening) (second : ℕ) (fault : LoopFault)
-    → at ≡ until l.sessions → Grew calls mid (Turns at what ∷ []) → x ≤ y
-    → Stopped (seen h f mid y) (seen i g now z) (happened plan (record l { moment = max l.moment second }) what) fault
-    → Turned plan (around (seen h f calls x) tf before heard k) (around (seen i g now z) tg opened hears j) (course_of l n asked) new m (Err fault)
-turned_off plan h i f g calls mid now x y z tf tg before opened heard hears k j l new n m asked at what second Wires due told less p = absurd p.breaks.failed
-turned_off plan h i f g calls mid now x y z tf tg before opened heard hears k j l new n m asked at what second Sink due told less p =
-    went_off plan h i f g calls mid now x y z tf tg before opened heard hears k j l n asked at what second Sink due told less p
-turned_off plan h i f g calls mid now x y z tf tg before opened heard hears k j l new n m asked at what second (NoMemory want) due told less p =
-    went_off plan h i f g calls mid now x y z tf tg before opened heard hears k j l n asked at what second (NoMemory want) due told less p
+pub turned_off : (plan : Plan) (h i : SinkState) (calls mid now : WiresState) (k j : ClockState)
+    (l new : Loop KEnd) (n m : ℕ) (asked : List ℕ) (at : Option ℕ) (what : Happening) (second : ℕ) (fault : LoopFault)
+    → at ≡ until kept_ends l.sessions → Grew calls.calls mid.calls (Turns at what ∷ []) → calls.faults ≤ mid.faults
+    → Stopped (seen h mid) (seen i now) (happened kept_ends plan (record l { moment = max l.moment second }) what) fault
+    → Turned plan (around h calls k) (around i now j) (course_of l n asked) new m (Err fault)
+turned_off plan h i calls mid now k j l new n m asked at what second Wires due told less p = absurd p.breaks.failed
+turned_off plan h i calls mid now k j l new n m asked at what second Sink due told less p =
+    went_off plan h i calls mid now k j l n asked at what second Sink due told less p
+turned_off plan h i calls mid now k j l new n m asked at what second (NoMemory want) due told less p =
+    went_off plan h i calls mid now k j l n asked at what second (NoMemory want) due told less p
 
-not_failed : (plan : Plan) (ss : List Session) → Some OnFailed ≡ halt_by plan ss → ⊥
+not_failed : (plan : Plan) (ss : List (Session KEnd)) → Some OnFailed ≡ halt_by plan ss → ⊥
 not_failed plan ss p =
     elim (cases_Bool (plan.dials && (length ss == 0))) [
       | inl t ↦ (let q : Some OnFailed ≡ Some OnClosed = p ∙ ap (λ b. if b then Some OnClosed else None) t in cc)
       | inr t ↦ (let q : Some OnFailed ≡ None = p ∙ ap (λ b. if b then Some OnClosed else None) t in cc)
     ]
 
-failed_only : (plan : Plan) (what : Happening) (ss : List Session) → Some OnFailed ≡ halt_behind plan what ss → what ≡ happening.Failed
+failed_only : (plan : Plan) (what : Happening) (ss : List (Session KEnd)) → Some OnFailed ≡ halt_behind plan what ss → what ≡ happening.Failed
 failed_only plan (happening.Accepted conn) ss p = absurd (not_failed plan ss p)
 failed_only plan (happening.Readable conn) ss p = absurd (not_failed plan ss p)
 failed_only plan (happening.Writable conn) ss p = absurd (not_failed plan ss p)
@@ -223,25 +233,25 @@ failed_only plan happening.Ended ss p = absurd (let q : Some OnFailed ≡ Some O
 failed_only plan happening.Failed ss p = refl
 
 -- by what follows the happening
-pub turned_on : (plan : Plan) (h i : Option (List ℕ)) (f g : ℕ) (calls mid now : Option (List Call)) (x y z : ℕ) (tf tg : ℕ) (before opened : ℕ) (heard hears : Bool) (k j : Option (List ℕ))
-    (l new : Loop) (n : ℕ) (asked : List ℕ) (at : Option ℕ) (what : Happening) (second : ℕ) (r : Result Next LoopFault)
-    → at ≡ until l.sessions → Grew calls mid (Turns at what ∷ []) → x ≤ y → Grew k j (second ∷ [])
-    → Did (seen h f mid y) (seen i g now z) new (happened plan (record l { moment = max l.moment second }) what)
-    → opened ≡ opened_by_turn what before → ((conn : Conn) → what ≡ happening.Accepted conn → conn.0 ≡ before + 1) → tf ≤ tg
-    → hears ≡ heard → ((conn : Conn) → what ≡ happening.Accepted conn → heard ≡ true)
-    → (what ≡ happening.Failed → Rose tf tg) → HaltsSo r (halt_behind plan what new.sessions)
-    → Turned plan (around (seen h f calls x) tf before heard k) (around (seen i g now z) tg opened hears j) (course_of l n asked) new (n + 1) r
-turned_on plan h i f g calls mid now x y z tf tg before opened heard hears k j l new n asked at what second (Ok then_) due told less clock did op number fewer same hearing cause p =
-    turned_came plan h i f g calls mid now x y z tf tg before opened heard hears k j l new n asked at what second (halt_of then_) due told less clock did op number fewer same hearing p
-turned_on plan h i f g calls mid now x y z tf tg before opened heard hears k j l new n asked at what second (Err Wires) due told less clock did op number fewer same hearing cause p = record {
-  went = turned_came plan h i f g calls mid now x y z tf tg before opened heard hears k j l new n asked at what second (Some OnFailed) due told less clock did op number fewer same hearing p;
+pub turned_on : (plan : Plan) (h i : SinkState) (calls mid now : WiresState) (k j : ClockState)
+    (l new : Loop KEnd) (n : ℕ) (asked : List ℕ) (at : Option ℕ) (what : Happening) (second : ℕ) (r : Result Next LoopFault)
+    → at ≡ until kept_ends l.sessions → Grew calls.calls mid.calls (Turns at what ∷ []) → calls.faults ≤ mid.faults → Grew k.answers j.answers (second ∷ [])
+    → Did (seen h mid) (seen i now) new (happened kept_ends plan (record l { moment = max l.moment second }) what)
+    → now.opened ≡ opened_by_turn what calls.opened → ((conn : Conn) → what ≡ happening.Accepted conn → conn.0 ≡ calls.opened + 1) → calls.turn_faults ≤ now.turn_faults
+    → now.listening ≡ calls.listening → ((conn : Conn) → what ≡ happening.Accepted conn → calls.listening ≡ true)
+    → (what ≡ happening.Failed → Rose calls.turn_faults now.turn_faults) → HaltsSo r (halt_behind plan what new.sessions)
+    → Turned plan (around h calls k) (around i now j) (course_of l n asked) new (n + 1) r
+turned_on plan h i calls mid now k j l new n asked at what second (Ok then_) due told less clock did op number fewer same hearing cause p =
+    turned_came plan h i calls mid now k j l new n asked at what second (halt_of then_) due told less clock did op number fewer same hearing p
+turned_on plan h i calls mid now k j l new n asked at what second (Err Wires) due told less clock did op number fewer same hearing cause p = record {
+  went = turned_came plan h i calls mid now k j l new n asked at what second (Some OnFailed) due told less clock did op number fewer same hearing p;
   rose = cause (failed_only plan what new.sessions p);
 }
-turned_on plan h i f g calls mid now x y z tf tg before opened heard hears k j l new n asked at what second (Err Sink) due told less clock did op number fewer same hearing cause p = absurd p
-turned_on plan h i f g calls mid now x y z tf tg before opened heard hears k j l new n asked at what second (Err (NoMemory want)) due told less clock did op number fewer same hearing cause p = absurd p
+turned_on plan h i calls mid now k j l new n asked at what second (Err Sink) due told less clock did op number fewer same hearing cause p = absurd p
+turned_on plan h i calls mid now k j l new n asked at what second (Err (NoMemory want)) due told less clock did op number fewer same hearing cause p = absurd p
 
 -- the halt behind a happening, by its two parts
-pub halts_as : (plan : Plan) (what : Happening) (ss : List Session) (why : Option Halt) (r : Result Next LoopFault) → why ≡ halt_by plan ss → HaltsSo r (halt_after what why)
+pub halts_as : (plan : Plan) (what : Happening) (ss : List (Session KEnd)) (why : Option Halt) (r : Result Next LoopFault) → why ≡ halt_by plan ss → HaltsSo r (halt_after what why)
     → HaltsSo r (halt_behind plan what ss)
 halts_as plan (happening.Accepted conn) ss why r p q = subst (λ t. HaltsSo r t) p q
 halts_as plan (happening.Readable conn) ss why r p q = subst (λ t. HaltsSo r t) p q
@@ -252,56 +262,56 @@ halts_as plan happening.Failed ss why r p q = q
 
 -- ---- the same, by the facts as a function has them
 
-pub accept_does : {T : Type 0} (a b : Seen) (plan : Plan) (l new : Loop) (what : Happening) (conn : Conn) (r : Result T LoopFault)
-    → what ≡ happening.Accepted conn → Acts a b new (accepted plan l conn.0) r → Does a b new (happened plan l what) r
-accept_does a b plan l new what conn r is p = subst (λ w. Does a b new (happened plan l w) r) (sym is) (react_accept a b plan l new conn r p)
+pub accept_does : {T : Type 0} (a b : Seen) (plan : Plan) (l new : Loop KEnd) (what : Happening) (conn : Conn) (r : Result T LoopFault)
+    → what ≡ happening.Accepted conn → Acts a b new (accepted kept_ends plan l conn.0) r → Does a b new (happened kept_ends plan l what) r
+accept_does a b plan l new what conn r is p = subst (λ w. Does a b new (happened kept_ends plan l w) r) (sym is) (react_accept a b plan l new conn r p)
 
-pub read_does : {T : Type 0} (a b : Seen) (plan : Plan) (l new : Loop) (ss : List Session) (what : Happening) (conn : Conn) (r : Result T LoopFault)
-    → what ≡ happening.Readable conn → new ≡ with_sessions l ss → Does a b ss (visit_at (visited (rules_of plan) l.moment Read) conn.0 l.sessions) r
-    → Does a b new (happened plan l what) r
-read_does a b plan l new ss what conn r is same p = subst (λ w. Does a b new (happened plan l w) r) (sym is) (react_read a b plan l new ss conn r same p)
+pub read_does : {T : Type 0} (a b : Seen) (plan : Plan) (l new : Loop KEnd) (ss : List (Session KEnd)) (what : Happening) (conn : Conn) (r : Result T LoopFault)
+    → what ≡ happening.Readable conn → new ≡ with_sessions l ss → Does a b ss (visit_at (visited kept_ends (rules_of plan) l.moment Read) conn.0 l.sessions) r
+    → Does a b new (happened kept_ends plan l what) r
+read_does a b plan l new ss what conn r is same p = subst (λ w. Does a b new (happened kept_ends plan l w) r) (sym is) (react_read a b plan l new ss conn r same p)
 
-pub write_does : {T : Type 0} (a b : Seen) (plan : Plan) (l new : Loop) (ss : List Session) (what : Happening) (conn : Conn) (r : Result T LoopFault)
-    → what ≡ happening.Writable conn → new ≡ with_sessions l ss → Does a b ss (visit_at (visited (rules_of plan) l.moment Write) conn.0 l.sessions) r
-    → Does a b new (happened plan l what) r
-write_does a b plan l new ss what conn r is same p = subst (λ w. Does a b new (happened plan l w) r) (sym is) (react_write a b plan l new ss conn r same p)
+pub write_does : {T : Type 0} (a b : Seen) (plan : Plan) (l new : Loop KEnd) (ss : List (Session KEnd)) (what : Happening) (conn : Conn) (r : Result T LoopFault)
+    → what ≡ happening.Writable conn → new ≡ with_sessions l ss → Does a b ss (visit_at (visited kept_ends (rules_of plan) l.moment Write) conn.0 l.sessions) r
+    → Does a b new (happened kept_ends plan l what) r
+write_does a b plan l new ss what conn r is same p = subst (λ w. Does a b new (happened kept_ends plan l w) r) (sym is) (react_write a b plan l new ss conn r same p)
 
-pub quiet_did : (a : Seen) (plan : Plan) (l : Loop) (what : Happening) → what ≡ happening.Quiet → Did a a l (happened plan l what)
-quiet_did a plan l what is = subst (λ w. Did a a l (happened plan l w)) (sym is) (react_quiet a plan l)
+pub quiet_did : (a : Seen) (plan : Plan) (l : Loop KEnd) (what : Happening) → what ≡ happening.Quiet → Did a a l (happened kept_ends plan l what)
+quiet_did a plan l what is = subst (λ w. Did a a l (happened kept_ends plan l w)) (sym is) (react_quiet a plan l)
 
-pub ended_did : (a : Seen) (plan : Plan) (l : Loop) (what : Happening) → what ≡ happening.Ended → Did a a l (happened plan l what)
-ended_did a plan l what is = subst (λ w. Did a a l (happened plan l w)) (sym is) (react_ended a plan l)
+pub ended_did : (a : Seen) (plan : Plan) (l : Loop KEnd) (what : Happening) → what ≡ happening.Ended → Did a a l (happened kept_ends plan l what)
+ended_did a plan l what is = subst (λ w. Did a a l (happened kept_ends plan l w)) (sym is) (react_ended a plan l)
 
-pub failed_did : (a : Seen) (plan : Plan) (l : Loop) (what : Happening) → what ≡ happening.Failed → Did a a l (happened plan l what)
-failed_did a plan l what is = subst (λ w. Did a a l (happened plan l w)) (sym is) (react_failed a plan l)
+pub failed_did : (a : Seen) (plan : Plan) (l : Loop KEnd) (what : Happening) → what ≡ happening.Failed → Did a a l (happened kept_ends plan l what)
+failed_did a plan l what is = subst (λ w. Did a a l (happened kept_ends plan l w)) (sym is) (react_failed a plan l)
 
 -- whether the one connection of a dial was closed
-pub closed_is : (plan : Plan) (ss : List Session) (n : ℕ) (b : Bool) → b ≡ (plan.dials && (n == 0)) → length ss ≡ n
+pub closed_is : (plan : Plan) (ss : List (Session KEnd)) (n : ℕ) (b : Bool) → b ≡ (plan.dials && (n == 0)) → length ss ≡ n
     → halt_by plan ss ≡ (if b then Some OnClosed else None)
 closed_is plan ss n b p q =
     ap (λ (z : ℕ). if plan.dials && (z == 0) then Some OnClosed else None) q ∙ ap (λ (z : Bool). if z then Some OnClosed else None) (sym p)
 
-pub turn_goes : (plan : Plan) (h i : Option (List ℕ)) (f g : ℕ) (calls mid now : Option (List Call)) (x y z : ℕ) (tf tm tg : ℕ) (before between opened : ℕ) (heard hears : Bool) (k j : Option (List ℕ))
-    (l new : Loop) (n count m : ℕ) (asked : List ℕ) (at : Option ℕ) (what : Happening) (second : ℕ) (closed : Bool) (entries : ℕ) (r : Result Next LoopFault)
-    → at ≡ until l.sessions → Grew calls mid (Turns at what ∷ []) → x ≤ y → Grew k j (second ∷ []) → m ≡ max l.moment second
-    → Did (seen h f mid y) (seen i g now z) new (happened plan (record l { moment = m }) what)
-    → between ≡ opened_by_turn what before → opened ≡ between → ((conn : Conn) → what ≡ happening.Accepted conn → conn.0 ≡ before + 1)
-    → tf ≤ tm → tg ≡ tm → hears ≡ heard → ((conn : Conn) → what ≡ happening.Accepted conn → heard ≡ true) → (what ≡ happening.Failed → Rose tf tm) → count ≡ n + 1
+pub turn_goes : (plan : Plan) (h i : SinkState) (calls mid now : WiresState) (k j : ClockState)
+    (l new : Loop KEnd) (n count m : ℕ) (asked : List ℕ) (at : Option ℕ) (what : Happening) (second : ℕ) (closed : Bool) (entries : ℕ) (r : Result Next LoopFault)
+    → at ≡ until kept_ends l.sessions → Grew calls.calls mid.calls (Turns at what ∷ []) → calls.faults ≤ mid.faults → Grew k.answers j.answers (second ∷ []) → m ≡ max l.moment second
+    → Did (seen h mid) (seen i now) new (happened kept_ends plan (record l { moment = m }) what)
+    → mid.opened ≡ opened_by_turn what calls.opened → now.opened ≡ mid.opened → ((conn : Conn) → what ≡ happening.Accepted conn → conn.0 ≡ calls.opened + 1)
+    → calls.turn_faults ≤ mid.turn_faults → now.turn_faults ≡ mid.turn_faults → now.listening ≡ calls.listening → ((conn : Conn) → what ≡ happening.Accepted conn → calls.listening ≡ true) → (what ≡ happening.Failed → Rose calls.turn_faults mid.turn_faults) → count ≡ n + 1
     → closed ≡ (plan.dials && (entries == 0)) → length new.sessions ≡ entries
     → ((why : Option Halt) → why ≡ (if closed then Some OnClosed else None) → HaltsSo r (halt_after what why))
-    → Turned plan (around (seen h f calls x) tf before heard k) (around (seen i g now z) tg opened hears j) (course_of l n asked) new count r
-turn_goes plan h i f g calls mid now x y z tf tm tg before between opened heard hears k j l new n count m asked at what second closed entries r due told less clock moment did op same number fewer tops listens hearing cause counted is_closed len halts =
-    subst (λ t. Turned plan (around (seen h f calls x) tf before heard k) (around (seen i g now z) tg opened hears j) (course_of l n asked) new t r) (sym counted)
-    (turned_on plan h i f g calls mid now x y z tf tg before opened heard hears k j l new n asked at what second r due told less clock
-    (subst (λ t. Did (seen h f mid y) (seen i g now z) new (happened plan (record l { moment = t }) what)) moment did)
-    (same ∙ op) number (omega (arith, fewer, tops)) listens hearing (λ p. subst (λ t. Rose tf t) (sym tops) (cause p))
+    → Turned plan (around h calls k) (around i now j) (course_of l n asked) new count r
+turn_goes plan h i calls mid now k j l new n count m asked at what second closed entries r due told less clock moment did op same number fewer tops listens hearing cause counted is_closed len halts =
+    subst (λ t. Turned plan (around h calls k) (around i now j) (course_of l n asked) new t r) (sym counted)
+    (turned_on plan h i calls mid now k j l new n asked at what second r due told less clock
+    (subst (λ t. Did (seen h mid) (seen i now) new (happened kept_ends plan (record l { moment = t }) what)) moment did)
+    (same ∙ op) number (omega (arith, fewer, tops)) listens hearing (λ p. subst (λ t. Rose calls.turn_faults t) (sym tops) (cause p))
     (halts_as plan what new.sessions (halt_by plan new.sessions) r refl (halts (halt_by plan new.sessions) (closed_is plan new.sessions entries closed is_closed len))))
 
-pub turn_stops : (plan : Plan) (h i : Option (List ℕ)) (f g : ℕ) (calls mid now : Option (List Call)) (x y z : ℕ) (tf tg : ℕ) (before opened : ℕ) (heard hears : Bool) (k j : Option (List ℕ))
-    (l new : Loop) (n count m : ℕ) (asked : List ℕ) (at : Option ℕ) (what : Happening) (second : ℕ) (fault : LoopFault)
-    → at ≡ until l.sessions → Grew calls mid (Turns at what ∷ []) → x ≤ y → m ≡ max l.moment second
-    → Stopped (seen h f mid y) (seen i g now z) (happened plan (record l { moment = m }) what) fault
-    → Turned plan (around (seen h f calls x) tf before heard k) (around (seen i g now z) tg opened hears j) (course_of l n asked) new count (Err fault)
-turn_stops plan h i f g calls mid now x y z tf tg before opened heard hears k j l new n count m asked at what second fault due told less moment p =
-    turned_off plan h i f g calls mid now x y z tf tg before opened heard hears k j l new n count asked at what second fault due told less
-    (subst (λ t. Stopped (seen h f mid y) (seen i g now z) (happened plan (record l { moment = t }) what) fault) moment p)
+pub turn_stops : (plan : Plan) (h i : SinkState) (calls mid now : WiresState) (k j : ClockState)
+    (l new : Loop KEnd) (n count m : ℕ) (asked : List ℕ) (at : Option ℕ) (what : Happening) (second : ℕ) (fault : LoopFault)
+    → at ≡ until kept_ends l.sessions → Grew calls.calls mid.calls (Turns at what ∷ []) → calls.faults ≤ mid.faults → m ≡ max l.moment second
+    → Stopped (seen h mid) (seen i now) (happened kept_ends plan (record l { moment = m }) what) fault
+    → Turned plan (around h calls k) (around i now j) (course_of l n asked) new count (Err fault)
+turn_stops plan h i calls mid now k j l new n count m asked at what second fault due told less moment p =
+    turned_off plan h i calls mid now k j l new n count asked at what second fault due told less
+    (subst (λ t. Stopped (seen h mid) (seen i now) (happened kept_ends plan (record l { moment = t }) what) fault) moment p)

@@ -1,20 +1,25 @@
 -- What is claimed of a loop that serves and of one that dials: there is a journal, which the sink got behind the header; the calls made on the
 -- wires and the clock's answers are those of that journal; both are what the loop of `loop_model` does for some answers of the outside.
-use Rattle.std.specs.Prelude.{◌≡◌, ℕ, ◌+◌, ◌-◌, ◌^◌, ◌≤◌, min, Bool, true, false, List, [], ◌∷◌, length, Option, Some, None}
+use Rattle.std.specs.Prelude.{◌≡◌, ℕ, ◌+◌, ◌-◌, ◌^◌, ◌≤◌, min, Bool, true, false, List, [], ◌∷◌, ◌++◌, length, Option, Some, None}
 use Rattle.rand_core.specs.Stream.{Stream}
 use Rattle.des_block.specs.declared.triple_key.TripleKey.{TripleKey}
 use Rattle.safety_automaton.specs.Keys as keys
 use Rattle.er_users.specs.Users.{Mind}
-use Rattle.link_trait.specs.Outside.{Grew, GrewPart}
-use Rattle.link_trait.specs.Wires.{Listens, Dials}
+use Rattle.link_trait.specs.States.{SinkState, WiresState, ClockState}
+use Rattle.link_trait.specs.Outside.{Grew}
+use Rattle.link_trait.specs.Wires.{Call, Listens, Dials}
+use Rattle.loop_model.specs.Ends.{ModelEnd, model_ends}
 use Rattle.loop_model.specs.Grammar.{AreInGrammar}
+use Rattle.loop_model.specs.Journals.{header}
 use Rattle.loop_model.specs.Outs.{Out}
-use Rattle.loop_model.specs.Loops.{Plan, Halt, OnEnded, OnClosed, OnFailed, Course, Turn, beginning, serves, Caller, Dialled, dials, printed}
+use Rattle.loop_model.specs.Visits.{Met}
+use Rattle.loop_model.specs.Loops.{Plan, Halt, OnEnded, OnClosed, OnFailed, Course, Turn, beginning, serves, Caller, Dialled, dials, asks, opens, printed}
 use Rattle.loop_model.specs.Laws.{IsServing, IsDialling, IsIsolated, IsPrinted, AreAccounted, AreOnOpen, faults, HaltsBy, turns_of, greatest}
 use Rattle.loop_model.specs.Parts.{of, opened_in}
 use Rattle.loop_model.specs.Points.{AreHeard, user_of, IsSpoken}
 use Rattle.loop_model.specs.Recordings.{IsReplayed}
-use Rattle.loop_visit.specs.Acting.{Seen, Began, AreAnsweredSo}
+use Rattle.loop_visit.specs.Seeing.{Seen, seen, AreAnsweredSo, Counts}
+use Rattle.readiness_loop.specs.Cuts.{Cut, LiesIn, behind, with_turns, LiesInRun}
 use Rattle.readiness_loop.specs.declared.line_plan.LinePlan.{LinePlan}
 use Rattle.readiness_loop.specs.declared.line_plan.Stop.{Stop}
 use Rattle.readiness_loop.specs.declared.line_plan.Stop.TheVariants as stop
@@ -44,7 +49,7 @@ pub record Outside : Type 0 where
   pub clock : Option (List ℕ)
 
 -- all that a loop prints and calls was printed and called: behind the header, where that was printed; and the clock was asked so
-pub record IsDone (before now : Outside) (began : Bool) (plan : Plan) (o : Out Course) : Type 0 where
+pub record IsDone (before now : Outside) (began : Bool) (plan : Plan) (o : Out (Course ModelEnd)) : Type 0 where
   pub text : Grew before.seen.held now.seen.held (printed began plan o.entries)
   pub calls : Grew before.seen.calls now.seen.calls o.calls
   pub clock : Grew before.clock now.clock o.state.asked
@@ -55,14 +60,17 @@ pub record IsDone (before now : Outside) (began : Bool) (plan : Plan) (o : Out C
   -- each event line is in the grammar of traces
   pub in_grammar : AreInGrammar o.entries
 
--- a beginning of it was printed and called
-pub record IsBegun (before now : Outside) (plan : Plan) (o : Out Course) : Type 0 where
-  pub text : GrewPart before.seen.held now.seen.held (printed true plan o.entries)
-  pub calls : Began before.seen now.seen o.calls
+-- it broke off: this was printed and called, and nothing else
+pub record IsCutAt (before now : Outside) (printed : List ℕ) (called : List Call) : Type 0 where
+  pub text : Grew before.seen.held now.seen.held printed
+  pub calls : Grew before.seen.calls now.seen.calls called
+  pub answered : AreAnsweredSo called
+  -- each read and write that failed is one that the wires counted
+  pub counted : Counts before.seen.failed now.seen.failed called
 
 -- ---- what holds of its journal and its calls
 
-pub record IsLawful (plan : Plan) (o : Out Course) : Type 0 where
+pub record IsLawful (plan : Plan) (o : Out (Course ModelEnd)) : Type 0 where
   -- the outcomes of each connection are those of its own events
   pub isolated : IsIsolated plan o
   -- the text is the printed text of the events
@@ -77,11 +85,11 @@ pub record IsLawful (plan : Plan) (o : Out Course) : Type 0 where
   pub replayed : IsReplayed plan o
 
 -- the sends and the release of each connection are the replies that the relation of its user's kind gives to what the user hears
-abbrev pub AreSpoken : List Mind → Out Course → Type 0
+abbrev pub AreSpoken : List Mind → Out (Course ModelEnd) → Type 0
 AreSpoken minds o = (conn : ℕ) → IsSpoken (user_of conn o.entries minds) (of conn o.entries)
 
 -- its turns: none behind one that ended or failed, as many as it counts, and not more than planned; and its moment
-pub record HasTurns (plan : Plan) (o : Out Course) (count : ℕ) (why : Option Halt) : Type 0 where
+pub record HasTurns (plan : Plan) (o : Out (Course ModelEnd)) (count : ℕ) (why : Option Halt) : Type 0 where
   pub halts : HaltsBy why (turns_of o.calls)
   pub counted : count ≡ length (turns_of o.calls)
   pub most : count ≤ plan.turns
@@ -96,35 +104,42 @@ halt_for stop.Closed = Some OnClosed
 
 -- ---- the answers
 
-abbrev pub outside : Seen → Bool → Option (List ℕ) → Outside
-outside seen listening clock = record { seen = seen; listening = listening; clock = clock }
+abbrev pub outside : SinkState → WiresState → ClockState → Outside
+outside sink wires clock = record { seen = seen sink wires; listening = wires.listening; clock = clock.answers }
 
 -- a loop that serves, for some answers of the outside: what it printed and called, and how it stopped
 pub record HasServed (before now : Outside) (plan : Plan) (address : List ℕ) (minds : List Mind) (words : Stream) (count : ℕ) (why : Option Halt) : Type 0 where
   pub answers : List Turn
   -- what the laws of the loop ask for: it begins with no session, the numbers of accepted connections rise, the settings are in their ranges
   pub is_serving : IsServing plan (beginning minds words) answers
-  pub done : IsDone before now true plan (serves plan (beginning minds words) address true answers)
-  pub lawful : IsLawful plan (serves plan (beginning minds words) address true answers)
-  pub replies : AreSpoken minds (serves plan (beginning minds words) address true answers)
-  pub turns : HasTurns plan (serves plan (beginning minds words) address true answers) count why
-  pub halted : why ≡ (serves plan (beginning minds words) address true answers).state.halt
+  pub done : IsDone before now true plan (serves model_ends plan (beginning minds words) address true answers)
+  pub lawful : IsLawful plan (serves model_ends plan (beginning minds words) address true answers)
+  pub replies : AreSpoken minds (serves model_ends plan (beginning minds words) address true answers)
+  pub turns : HasTurns plan (serves model_ends plan (beginning minds words) address true answers) count why
+  pub halted : why ≡ (serves model_ends plan (beginning minds words) address true answers).state.halt
 
--- the wires never listened, and nothing was printed; or a turn failed
+-- the wires never listened; nothing was printed, and the clock wasn't asked
 pub record NeverListened (before now : Outside) (address : List ℕ) : Type 0 where
   pub text : Grew before.seen.held now.seen.held []
   pub calls : Grew before.seen.calls now.seen.calls (Listens address false ∷ [])
   pub clock : Grew before.clock now.clock []
 
-pub data FailsToServe (before now : Outside) (plan : Plan) (address : List ℕ) (minds : List Mind) (words : Stream) : Type 0 where
-  NotListening : NeverListened before now address → FailsToServe before now plan address minds words
+-- either that, and all random words are left; or a turn failed
+pub data FailsToServe (before now : Outside) (plan : Plan) (address : List ℕ) (minds : List Mind) (words left : Stream) : Type 0 where
+  NotListening : NeverListened before now address → left ≡ words → FailsToServe before now plan address minds words left
   TurnFailed : (count : ℕ) → HasServed before now plan address minds words count (Some OnFailed)
-      → FailsToServe before now plan address minds words
+      → FailsToServe before now plan address minds words left
 
--- a write failed or memory ran out: a beginning was printed and called
-pub record BreaksOffServing (before now : Outside) (plan : Plan) (address : List ℕ) (minds : List Mind) (words : Stream) : Type 0 where
-  pub answers : List Turn
-  pub begun : IsBegun before now plan (serves plan (beginning minds words) address true answers)
+-- a write of the sink failed or memory ran out: before the loop listened; while the header was printed; or in its turns, at one cut
+pub data BreaksOffServing (before now : Outside) (plan : Plan) (address : List ℕ) (minds : List Mind) (words : Stream) : Type 0 where
+  BeforeListening : IsCutAt before now [] [] → BreaksOffServing before now plan address minds words
+  InServingHeader : (part rest : List ℕ) → part ++ rest ≡ header plan.settings → IsCutAt before now part (Listens address true ∷ [])
+      → BreaksOffServing before now plan address minds words
+  -- the whole turns before the cut are lawful
+  InServing : (cut : Cut) (lies : LiesInRun model_ends plan (beginning minds words) cut)
+      → IsLawful (with_turns plan (length lies.turns)) (serves model_ends (with_turns plan (length lies.turns)) (beginning minds words) address true lies.turns)
+      → IsCutAt before now (header plan.settings ++ cut.printed) (Listens address true ∷ cut.calls)
+      → BreaksOffServing before now plan address minds words
 
 -- the same of a loop that dials
 pub record HasDialled (before now : Outside) (plan : Plan) (caller : Caller) (address : List ℕ) (minds : List Mind) (words : Stream) (count : ℕ) (why : Option Halt) : Type 0 where
@@ -133,24 +148,42 @@ pub record HasDialled (before now : Outside) (plan : Plan) (caller : Caller) (ad
   pub opened : answers.conn ≡ Some conn
   -- what the laws of the loop ask for: besides, the pair's KMAC holds at the moment of the call
   pub is_dialling : IsDialling plan caller (beginning minds words) address answers
-  pub done : IsDone before now true plan (dials plan caller (beginning minds words) address answers)
-  pub lawful : IsLawful plan (dials plan caller (beginning minds words) address answers)
-  pub replies : AreSpoken minds (dials plan caller (beginning minds words) address answers)
-  pub turns : HasTurns plan (dials plan caller (beginning minds words) address answers) count why
+  pub done : IsDone before now true plan (dials model_ends plan caller (beginning minds words) address answers)
+  pub lawful : IsLawful plan (dials model_ends plan caller (beginning minds words) address answers)
+  pub replies : AreSpoken minds (dials model_ends plan caller (beginning minds words) address answers)
+  pub turns : HasTurns plan (dials model_ends plan caller (beginning minds words) address answers) count why
+  pub halted : why ≡ (dials model_ends plan caller (beginning minds words) address answers).state.halt
   -- where the wires didn't listen before, no other connection was opened
-  pub alone : before.listening ≡ false → opened_in (dials plan caller (beginning minds words) address answers).calls ≡ conn ∷ []
+  pub alone : before.listening ≡ false → opened_in (dials model_ends plan caller (beginning minds words) address answers).calls ≡ conn ∷ []
 
 pub record NeverDialled (before now : Outside) (address : List ℕ) : Type 0 where
   pub text : Grew before.seen.held now.seen.held []
   pub calls : Grew before.seen.calls now.seen.calls (Dials address None ∷ [])
   pub clock : Grew before.clock now.clock []
 
-pub data FailsToDial (before now : Outside) (plan : Plan) (caller : Caller) (address : List ℕ) (minds : List Mind) (words : Stream) : Type 0 where
-  NotDialling : NeverDialled before now address → FailsToDial before now plan caller address minds words
+pub data FailsToDial (before now : Outside) (plan : Plan) (caller : Caller) (address : List ℕ) (minds : List Mind) (words left : Stream) : Type 0 where
+  NotDialling : NeverDialled before now address → left ≡ words → FailsToDial before now plan caller address minds words left
   LineFailed : (count : ℕ) → HasDialled before now plan caller address minds words count (Some OnFailed)
-      → FailsToDial before now plan caller address minds words
+      → FailsToDial before now plan caller address minds words left
 
--- the same
-pub record BreaksOffDialling (before now : Outside) (plan : Plan) (caller : Caller) (address : List ℕ) (minds : List Mind) (words : Stream) : Type 0 where
-  pub answers : Dialled
-  pub begun : IsBegun before now plan (dials plan caller (beginning minds words) address answers)
+-- the opening of the one connection that was dialled
+abbrev pub opening : Plan → Caller → List Mind → Stream → (conn first : ℕ) → Met → Out (Course ModelEnd)
+opening plan caller minds words conn first met = opens model_ends plan caller (asks first (beginning minds words)) conn met
+
+-- what a dial meets that opens a connection
+abbrev pub dialled : (conn first : ℕ) → Met → List Turn → Dialled
+dialled conn first met turns = record { conn = Some conn; first = first; met = met; turns = turns }
+
+-- the same, or in the opening
+pub data BreaksOffDialling (before now : Outside) (plan : Plan) (caller : Caller) (address : List ℕ) (minds : List Mind) (words : Stream) : Type 0 where
+  BeforeDialling : IsCutAt before now [] [] → BreaksOffDialling before now plan caller address minds words
+  InDiallingHeader : (conn : ℕ) (part rest : List ℕ) → part ++ rest ≡ header plan.settings → IsCutAt before now part (Dials address (Some conn) ∷ [])
+      → BreaksOffDialling before now plan caller address minds words
+  InOpening : (conn first : ℕ) (met : Met) (cut : Cut) → LiesIn (opening plan caller minds words conn first met) cut
+      → IsCutAt before now (header plan.settings ++ cut.printed) (Dials address (Some conn) ∷ cut.calls)
+      → BreaksOffDialling before now plan caller address minds words
+  InDialling : (conn first : ℕ) (met : Met) (rest cut : Cut) (lies : LiesInRun model_ends plan (opening plan caller minds words conn first met).state rest)
+      → IsLawful (with_turns plan (length lies.turns)) (dials model_ends (with_turns plan (length lies.turns)) caller (beginning minds words) address (dialled conn first met lies.turns))
+      → cut ≡ behind (opening plan caller minds words conn first met) rest
+      → IsCutAt before now (header plan.settings ++ cut.printed) (Dials address (Some conn) ∷ cut.calls)
+      → BreaksOffDialling before now plan caller address minds words

@@ -1,26 +1,30 @@
 -- Representation: how far the loop's code has come, as a course of the model; what is seen of the outside; how a turn and a run of turns end;
 -- no claim rests on it.
+use Rattle.loop_session.specs.Keeping.{kept_ends}
 use Rattle.std.specs.Prelude.{◌≡◌, ℕ, ◌≤◌, ◌<◌, ◌-◌, Bool, true, false, List, [], ◌++◌, Option, Some, None, Result, Ok, Err}
 use Rattle.rand_core.specs.Stream.{Stream, next_u64}
 use Rattle.er_settings.specs.declared.settings.Settings.{Settings}
 use Rattle.end_model.specs.Ends.{Answer as AnswersWith}
-use Rattle.er_end.specs.KeptEnds.{kept_opened}
+use Rattle.er_end.specs.KeptEnds.{KEnd, kept_opened}
 use Rattle.er_trace.specs.declared.event.Event.TheVariants as event
 use Rattle.loop_model.specs.Journals.{Entry}
 use Rattle.slab.specs.Slab.{Slab}
 use Rattle.std.specs.BTreeMap.{BTreeMap}
 use Rattle.safety_automaton.specs.Keys as keys
 use Rattle.er_users.specs.Users.{Mind}
+use Rattle.link_trait.specs.States.{SinkState, WiresState, ClockState}
 use Rattle.link_trait.specs.Outside.{Grew, Rose}
 use Rattle.loop_model.specs.Outs.{Out}
 use Rattle.loop_model.specs.Sessions.{Session}
 use Rattle.loop_model.specs.Visits.{Met}
 use Rattle.des_block.specs.declared.triple_key.TripleKey.{TripleKey}
-use Rattle.loop_model.specs.Loops.{Plan, Loop, Halt, OnEnded, OnClosed, OnFailed, Course, went, turned_unless, run, asks, opens, begun, Caller}
+use Rattle.loop_model.specs.Loops.{Plan, Loop, Halt, OnEnded, OnClosed, OnFailed, Course, Turn, turn, follows, went, turned_unless, run, asks, opens, begun, Caller}
 use Rattle.loop_model.specs.Parts.{opened_in, Rises, newest}
 use Rattle.loop_session.specs.declared.loop_fault.LoopFault.{LoopFault}
 use Rattle.loop_session.specs.declared.loop_fault.LoopFault.TheVariants.{Wires, Sink, NoMemory}
-use Rattle.loop_visit.specs.Acting.{Seen, Acted, BreaksAt}
+use Rattle.loop_session.specs.Parts.{FailedFor}
+use Rattle.loop_visit.specs.Acting.{Acted, BreaksAt}
+use Rattle.loop_visit.specs.Seeing.{Seen, seen, AreAnsweredSo, Counts}
 use Rattle.readiness_loop.specs.declared.loop_plan.LoopPlan.{LoopPlan}
 use Rattle.readiness_loop.specs.declared.line_plan.Served.{Served}
 use Rattle.readiness_loop.specs.declared.live_loop.Next.{Next}
@@ -28,6 +32,7 @@ use Rattle.readiness_loop.specs.declared.live_loop.Next.TheVariants as next
 use Rattle.link_trait.specs.declared.wires.Happening.{Happening}
 use Rattle.link_trait.specs.declared.wires.Happening.TheVariants as happening
 use Rattle.readiness_loop.specs.Books.{sessions, AreSeated}
+use Rattle.readiness_loop.specs.Cuts.{Cut, LiesIn, behind, LiesInTurn, first_turns, LiesInRun}
 use Rattle.readiness_loop.specs.Claims.{Outside, outside, halt_for, HasServed, FailsToServe, BreaksOffServing, HasDialled, FailsToDial, BreaksOffDialling}
 
 -- what the code goes by, as a plan
@@ -35,7 +40,7 @@ abbrev pub plan_of : List keys.Entry → LoopPlan → Plan
 plan_of entries plan = record { settings = plan.settings; keys = entries; rbc = plan.rbc; handed = plan.handed; turns = plan.turns; dials = plan.dials }
 
 -- what the code has, as a loop
-abbrev pub loop_of : Slab Session → BTreeMap ℕ ℕ → List Mind → ℕ → Stream → Loop
+abbrev pub loop_of : Slab (Session KEnd) → BTreeMap ℕ ℕ → List Mind → ℕ → Stream → Loop KEnd
 loop_of slots places users moment words = record { sessions = sessions slots places; users = users; moment = moment; words = words }
 
 -- what is seen of the outside: of the sink and the wires; how often a listen, dial or turn failed; the newest connection, and whether the
@@ -47,12 +52,17 @@ pub record Around : Type 0 where
   pub listening : Bool
   pub asked : Option (List ℕ)
 
-abbrev pub around : Seen → ℕ → ℕ → Bool → Option (List ℕ) → Around
-around s turns_failed newest listening asked =
-    record { seen = s; turns_failed = turns_failed; newest = newest; listening = listening; asked = asked }
+abbrev pub around : SinkState → WiresState → ClockState → Around
+around sink wires clock = record {
+  seen = seen sink wires;
+  turns_failed = wires.turn_faults;
+  newest = wires.opened;
+  listening = wires.listening;
+  asked = clock.answers;
+}
 
 -- so far the loop came from a course on, and this is what was printed, called and asked on the way
-pub record Came (a b : Around) (c : Course) (l : Loop) (n : ℕ) (h : Option Halt) (o : Out Course) : Type 0 where
+pub record Came (a b : Around) (c : Course KEnd) (l : Loop KEnd) (n : ℕ) (h : Option Halt) (o : Out (Course KEnd)) : Type 0 where
   pub loop : l ≡ o.state.loop
   pub turns : n ≡ o.state.turns
   pub halt : h ≡ o.state.halt
@@ -67,17 +77,33 @@ pub record Came (a b : Around) (c : Course) (l : Loop) (n : ℕ) (h : Option Hal
   pub alone : a.listening ≡ false → opened_in o.calls ≡ []
 
 -- there are answers for which the model of a part came so far
-pub record Went {A : Type 0} (model : A → Out Course) (a b : Around) (c : Course) (l : Loop) (n : ℕ) (h : Option Halt) : Type 0 where
+pub record Went {A : Type 0} (model : A → Out (Course KEnd)) (a b : Around) (c : Course KEnd) (l : Loop KEnd) (n : ℕ) (h : Option Halt) : Type 0 where
   pub answers : A
   pub is : Came a b c l n h (model answers)
 
--- it broke off, since the sink failed or memory ran out
-pub record WentOff {A : Type 0} (model : A → Out Course) (a b : Around) (fault : LoopFault) : Type 0 where
+-- it broke off, since the sink failed or memory ran out: up to a cut all was printed and called
+pub record Broke (a b : Seen) (cut : Cut) (fault : LoopFault) : Type 0 where
+  pub text : Grew a.held b.held cut.printed
+  pub calls : Grew a.calls b.calls cut.calls
+  pub answered : AreAnsweredSo cut.calls
+  pub counted : Counts a.failed b.failed cut.calls
+  pub failed : FailedFor fault a.sunk b.sunk
+
+-- for some answers the cut lies so
+pub record WentOff {A : Type 0} (Lies : A → Cut → Type 0) (a b : Around) (fault : LoopFault) : Type 0 where
   pub answers : A
-  pub breaks : BreaksAt a.seen b.seen (model answers) fault
+  pub cut : Cut
+  pub lies : Lies answers cut
+  pub broke : Broke a.seen b.seen cut fault
+
+-- it lies behind a turn, in what follows that
+pub record LiesBehind (plan : Plan) (c : Course KEnd) (x : Turn) (cut : Cut) : Type 0 where
+  pub rest : Cut
+  pub lies : LiesIn (follows kept_ends plan (turn kept_ends c x).state x) rest
+  pub is : cut ≡ behind (turn kept_ends c x) rest
 
 -- a turn failed, and the count of such faults rose
-pub record WentWrong {A : Type 0} (model : A → Out Course) (a b : Around) (c : Course) (l : Loop) (n : ℕ) : Type 0 where
+pub record WentWrong {A : Type 0} (model : A → Out (Course KEnd)) (a b : Around) (c : Course KEnd) (l : Loop KEnd) (n : ℕ) : Type 0 where
   pub went : Went model a b c l n (Some OnFailed)
   pub rose : Rose a.turns_failed b.turns_failed
 
@@ -86,35 +112,42 @@ halt_of next.GoesOn = None
 halt_of next.Ended = Some OnEnded
 halt_of next.Closed = Some OnClosed
 
-abbrev pub Goes : {A : Type 0} → (A → Out Course) → Around → Around → Course → Loop → ℕ → Result Next LoopFault → Type 0
-Goes model a b c l n (Ok next) = Went model a b c l n (halt_of next)
-Goes model a b c l n (Err Wires) = WentWrong model a b c l n
-Goes model a b c l n (Err Sink) = WentOff model a b Sink
-Goes model a b c l n (Err (NoMemory want)) = WentOff model a b (NoMemory want)
+abbrev pub Goes : {A : Type 0} → (A → Out (Course KEnd)) → (A → Cut → Type 0) → Around → Around → Course KEnd → Loop KEnd → ℕ → Result Next LoopFault → Type 0
+Goes model lies a b c l n (Ok next) = Went model a b c l n (halt_of next)
+Goes model lies a b c l n (Err Wires) = WentWrong model a b c l n
+Goes model lies a b c l n (Err Sink) = WentOff lies a b Sink
+Goes model lies a b c l n (Err (NoMemory want)) = WentOff lies a b (NoMemory want)
 
 -- a turn and what follows it; and with what comes before it
-abbrev pub Turned : Plan → Around → Around → Course → Loop → ℕ → Result Next LoopFault → Type 0
-Turned plan a b c l n r = Goes (turned_unless None plan c) a b c l n r
+abbrev pub Turned : Plan → Around → Around → Course KEnd → Loop KEnd → ℕ → Result Next LoopFault → Type 0
+Turned plan a b c l n r = Goes (turned_unless kept_ends None plan c) (LiesBehind plan c) a b c l n r
 
-abbrev pub Turns : Plan → Around → Around → Course → Loop → ℕ → Result Next LoopFault → Type 0
-Turns plan a b c l n r = Goes (went plan c) a b c l n r
+abbrev pub Turns : Plan → Around → Around → Course KEnd → Loop KEnd → ℕ → Result Next LoopFault → Type 0
+Turns plan a b c l n r = Goes (went kept_ends plan c) (LiesInTurn kept_ends plan c) a b c l n r
+
+-- a run of turns broke off
+pub record RanOff (plan : Plan) (a b : Around) (c : Course KEnd) (fault : LoopFault) : Type 0 where
+  pub cut : Cut
+  pub lies : LiesInRun kept_ends plan c cut
+  pub rises : Rises a.newest (opened_in (first_turns kept_ends plan c lies.turns).calls)
+  pub broke : Broke a.seen b.seen cut fault
 
 -- a run of turns
-abbrev pub Runs : Plan → Around → Around → Course → Loop → ℕ → Result Served LoopFault → Type 0
-Runs plan a b c l n (Ok served) = Went (run plan c) a b c l served.turns (halt_for served.why)
-Runs plan a b c l n (Err Wires) = WentWrong (run plan c) a b c l n
-Runs plan a b c l n (Err Sink) = WentOff (run plan c) a b Sink
-Runs plan a b c l n (Err (NoMemory want)) = WentOff (run plan c) a b (NoMemory want)
+abbrev pub Runs : Plan → Around → Around → Course KEnd → Loop KEnd → ℕ → Result Served LoopFault → Type 0
+Runs plan a b c l n (Ok served) = Went (run kept_ends plan c) a b c l served.turns (halt_for served.why)
+Runs plan a b c l n (Err Wires) = WentWrong (run kept_ends plan c) a b c l n
+Runs plan a b c l n (Err Sink) = RanOff plan a b c Sink
+Runs plan a b c l n (Err (NoMemory want)) = RanOff plan a b c (NoMemory want)
 
 -- a course that hasn't halted
-abbrev pub course_of : Loop → ℕ → List ℕ → Course
+abbrev pub course_of : Loop KEnd → ℕ → List ℕ → Course KEnd
 course_of l n asked = record { loop = l; turns = n; halt = None; asked = asked }
 
 -- the event that opens a session that answers, and that session
 abbrev pub answer_event : Stream → (rbc moment conn : ℕ) → Entry
 answer_event words rbc moment conn = record { moment = moment; conn = conn; event = event.Answer rbc (next_u64 words).0; outcomes = [] }
 
-abbrev pub answered : Stream → Settings → (rbc moment conn : ℕ) → Mind → Session
+abbrev pub answered : Stream → Settings → (rbc moment conn : ℕ) → Mind → Session KEnd
 answered words settings rbc moment conn mind = begun conn (kept_opened (AnswersWith settings rbc (next_u64 words).0 moment)) mind
 
 -- why the loop halts behind a happening, where it halts for this reason else
@@ -139,7 +172,7 @@ Acts a b new o (Ok done) = Acted a b new o
 Acts a b new o (Err fault) = BreaksAt a b o fault
 
 -- behind a turn: a connection that was accepted is the newest, and above those that have a session
-abbrev pub IsReadyFor : Happening → ℕ → Slab Session → List (ℕ × ℕ) → Type 0
+abbrev pub IsReadyFor : Happening → ℕ → Slab (Session KEnd) → List (ℕ × ℕ) → Type 0
 IsReadyFor (happening.Accepted conn) newest slots es = (conn.0 ≡ newest) × (0 < conn.0) × AreSeated (conn.0 - 1) slots es
 IsReadyFor (happening.Readable conn) newest slots es = AreSeated newest slots es
 IsReadyFor (happening.Writable conn) newest slots es = AreSeated newest slots es
@@ -150,45 +183,45 @@ IsReadyFor happening.Failed newest slots es = AreSeated newest slots es
 -- ---- the two calls
 
 abbrev pub outside_of : Around → Outside
-outside_of a = outside a.seen a.listening a.asked
+outside_of a = record { seen = a.seen; listening = a.listening; clock = a.asked }
 
 -- how a loop that serves ends
-abbrev pub Serves : Plan → Around → Around → List Mind → Stream → List ℕ → Result Served LoopFault → Type 0
-Serves plan a b minds words address (Ok served) = HasServed (outside_of a) (outside_of b) plan address minds words served.turns (halt_for served.why)
-Serves plan a b minds words address (Err Wires) = FailsToServe (outside_of a) (outside_of b) plan address minds words × Rose a.turns_failed b.turns_failed
-Serves plan a b minds words address (Err Sink) = BreaksOffServing (outside_of a) (outside_of b) plan address minds words × Rose a.seen.sunk b.seen.sunk
-Serves plan a b minds words address (Err (NoMemory want)) = BreaksOffServing (outside_of a) (outside_of b) plan address minds words × (a.seen.sunk ≤ b.seen.sunk)
+abbrev pub Serves : Plan → Around → Around → List Mind → (words left : Stream) → List ℕ → Result Served LoopFault → Type 0
+Serves plan a b minds words left address (Ok served) = HasServed (outside_of a) (outside_of b) plan address minds words served.turns (halt_for served.why)
+Serves plan a b minds words left address (Err Wires) = FailsToServe (outside_of a) (outside_of b) plan address minds words left × Rose a.turns_failed b.turns_failed
+Serves plan a b minds words left address (Err Sink) = BreaksOffServing (outside_of a) (outside_of b) plan address minds words × Rose a.seen.sunk b.seen.sunk
+Serves plan a b minds words left address (Err (NoMemory want)) = BreaksOffServing (outside_of a) (outside_of b) plan address minds words × (a.seen.sunk ≤ b.seen.sunk)
 
 -- the opening of a dial: the clock's answer before it, and what it meets
-abbrev pub opening : Plan → Caller → Course → ℕ → ℕ × Met → Out Course
-opening plan caller c conn x = opens plan caller (asks x.0 c) conn x.1
+abbrev pub opening : Plan → Caller → Course KEnd → ℕ → ℕ × Met → Out (Course KEnd)
+opening plan caller c conn x = opens kept_ends plan caller (asks x.0 c) conn x.1
 
 abbrev pub halt_if : Bool → Option Halt
 halt_if true = None
 halt_if false = Some OnClosed
 
 -- it was done, at a moment that clocks answer
-pub record Opened (plan : Plan) (caller : Caller) (a b : Around) (c : Course) (conn : ℕ) (l : Loop) (n : ℕ) (h : Option Halt) : Type 0 where
+pub record Opened (plan : Plan) (caller : Caller) (a b : Around) (c : Course KEnd) (conn : ℕ) (l : Loop KEnd) (n : ℕ) (h : Option Halt) : Type 0 where
   pub went : Went (opening plan caller c conn) a b c l n h
   pub early : went.answers.0 ≤ 1000000000000000
 
-abbrev pub Opens : Plan → Caller → Around → Around → Course → ℕ → Loop → ℕ → Result Bool LoopFault → Type 0
+abbrev pub Opens : Plan → Caller → Around → Around → Course KEnd → ℕ → Loop KEnd → ℕ → Result Bool LoopFault → Type 0
 Opens plan caller a b c conn l n (Ok stays) = Opened plan caller a b c conn l n (halt_if stays)
 Opens plan caller a b c conn l n (Err Wires) = ⊥
-Opens plan caller a b c conn l n (Err Sink) = WentOff (opening plan caller c conn) a b Sink
-Opens plan caller a b c conn l n (Err (NoMemory want)) = WentOff (opening plan caller c conn) a b (NoMemory want)
+Opens plan caller a b c conn l n (Err Sink) = WentOff (λ x cut. LiesIn (opening plan caller c conn x) cut) a b Sink
+Opens plan caller a b c conn l n (Err (NoMemory want)) = WentOff (λ x cut. LiesIn (opening plan caller c conn x) cut) a b (NoMemory want)
 
 -- the session that calls
 abbrev pub caller_of : (engine : ℕ) → TripleKey → Caller
 caller_of engine kmac = record { engine = engine; kmac = kmac }
 
 -- how a loop that dials ends
-abbrev pub Dials : Plan → Caller → Around → Around → List Mind → Stream → List ℕ → Result Served LoopFault → Type 0
-Dials plan caller a b minds words address (Ok served) =
+abbrev pub Dials : Plan → Caller → Around → Around → List Mind → (words left : Stream) → List ℕ → Result Served LoopFault → Type 0
+Dials plan caller a b minds words left address (Ok served) =
     HasDialled (outside_of a) (outside_of b) plan caller address minds words served.turns (halt_for served.why)
-Dials plan caller a b minds words address (Err Wires) =
-    FailsToDial (outside_of a) (outside_of b) plan caller address minds words × Rose a.turns_failed b.turns_failed
-Dials plan caller a b minds words address (Err Sink) =
+Dials plan caller a b minds words left address (Err Wires) =
+    FailsToDial (outside_of a) (outside_of b) plan caller address minds words left × Rose a.turns_failed b.turns_failed
+Dials plan caller a b minds words left address (Err Sink) =
     BreaksOffDialling (outside_of a) (outside_of b) plan caller address minds words × Rose a.seen.sunk b.seen.sunk
-Dials plan caller a b minds words address (Err (NoMemory want)) =
+Dials plan caller a b minds words left address (Err (NoMemory want)) =
     BreaksOffDialling (outside_of a) (outside_of b) plan caller address minds words × (a.seen.sunk ≤ b.seen.sunk)

@@ -1,4 +1,5 @@
 pub mod Books
+pub mod Cuts
 pub mod Claims
 pub mod Courses
 pub mod WakeTimes

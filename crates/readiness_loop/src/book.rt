@@ -3,8 +3,10 @@
 ghost use Rattle.std.specs.Prelude.{◌≡◌, ◌≤◌, ◌<◌, ◌+◌, ◌-◌, ◌++◌, ◌∷◌, [], ℕ, length, IfOk, OnOk};
 ghost use Rattle.loop_model.specs.Visits.{visited};
 ghost use Rattle.loop_model.specs.Loops.{visit_at, swept, numbers, until};
+ghost use Rattle.loop_session.specs.Keeping.{kept_ends};
 ghost use Rattle.loop_session.specs.Parts.{rules};
-ghost use Rattle.loop_visit.specs.Acting.{seen, Does};
+ghost use Rattle.loop_visit.specs.Acting.{Does};
+ghost use Rattle.loop_visit.specs.Seeing.{seen};
 ghost use Rattle.loop_visit.specs.Visiting.{visit_of};
 ghost use Rattle.readiness_loop.specs.Books.{AreSeated, AreAwaited, IsTimed, sessions};
 
@@ -54,7 +56,7 @@ impl<U: SafeUser> Book<U> {
     // The first moment at which one of them is to be visited.
     pub(crate) fn until(&self) -> Option<u64>
         requires awaited { AreAwaited self.now.slots self.now.places self.now.wake_times.pairs }
-        ensures { result ≡ until (sessions self.now.slots self.now.places) }
+        ensures { result ≡ until kept_ends (sessions self.now.slots self.now.places) }
     {
         self.wake_times.first()
     }
@@ -90,18 +92,18 @@ impl<U: SafeUser> Book<U> {
     ) -> Result<(), LoopFault>
         requires moment { when.moment ≤ 1000000000000000 }
         requires setup { when.setup ≤ 600000 }
-        requires seated { AreSeated (W.opened wires.old) self.old.slots self.old.places.entries }
+        requires seated { AreSeated (W.state wires.old).opened self.old.slots self.old.places.entries }
         requires awaited { AreAwaited self.old.slots self.old.places self.old.wake_times.pairs }
-        ensures does { Does (seen (S.held sink.old) (S.faults sink.old) (W.calls wires.old) (W.faults wires.old))
-            (seen (S.held sink.new) (S.faults sink.new) (W.calls wires.new) (W.faults wires.new))
+        ensures does { Does (seen (S.state sink.old) (W.state wires.old))
+            (seen (S.state sink.new) (W.state wires.new))
             (sessions self.new.slots self.new.places)
-            (visit_at (visited (rules (K.entries keys.now) when.setup) when.moment (visit_of reason)) number (sessions self.old.slots self.old.places)) result }
-        ensures seated { OnOk result (AreSeated (W.opened wires.new) self.new.slots self.new.places.entries) }
+            (visit_at (visited kept_ends (rules (K.entries keys.now) when.setup) when.moment (visit_of reason)) number (sessions self.old.slots self.old.places)) result }
+        ensures seated { OnOk result (AreSeated (W.state wires.new).opened self.new.slots self.new.places.entries) }
         ensures awaited { OnOk result (AreAwaited self.new.slots self.new.places self.new.wake_times.pairs) }
-        ensures opened { W.opened wires.new ≡ W.opened wires.old }
-        ensures listening { W.listening wires.new ≡ W.listening wires.old }
-        ensures turn_count { W.turn_faults wires.new ≡ W.turn_faults wires.old }
-        ensures sunk { S.faults sink.old ≤ S.faults sink.new }
+        ensures opened { (W.state wires.new).opened ≡ (W.state wires.old).opened }
+        ensures listening { (W.state wires.new).listening ≡ (W.state wires.old).listening }
+        ensures turn_count { (W.state wires.new).turn_faults ≡ (W.state wires.old).turn_faults }
+        ensures sunk { (S.state sink.old).faults ≤ (S.state sink.new).faults }
     {
         let Some(slot) = self.places.get(&number).copied() else {
             return Ok(());
@@ -145,18 +147,18 @@ impl<U: SafeUser> Book<U> {
         requires timed { IsTimed (visit_of reason) }
         requires moment { when.moment ≤ 1000000000000000 }
         requires setup { when.setup ≤ 600000 }
-        requires seated { AreSeated (W.opened wires.old) self.old.slots self.old.places.entries }
+        requires seated { AreSeated (W.state wires.old).opened self.old.slots self.old.places.entries }
         requires awaited { AreAwaited self.old.slots self.old.places self.old.wake_times.pairs }
-        ensures does { Does (seen (S.held sink.old) (S.faults sink.old) (W.calls wires.old) (W.faults wires.old))
-            (seen (S.held sink.new) (S.faults sink.new) (W.calls wires.new) (W.faults wires.new))
+        ensures does { Does (seen (S.state sink.old) (W.state wires.old))
+            (seen (S.state sink.new) (W.state wires.new))
             (sessions self.new.slots self.new.places)
-            (swept (visited (rules (K.entries keys.now) when.setup) when.moment (visit_of reason)) (numbers (sessions self.old.slots self.old.places)) (sessions self.old.slots self.old.places)) result }
-        ensures seated { OnOk result (AreSeated (W.opened wires.new) self.new.slots self.new.places.entries) }
+            (swept (visited kept_ends (rules (K.entries keys.now) when.setup) when.moment (visit_of reason)) (numbers (sessions self.old.slots self.old.places)) (sessions self.old.slots self.old.places)) result }
+        ensures seated { OnOk result (AreSeated (W.state wires.new).opened self.new.slots self.new.places.entries) }
         ensures awaited { OnOk result (AreAwaited self.new.slots self.new.places self.new.wake_times.pairs) }
-        ensures opened { W.opened wires.new ≡ W.opened wires.old }
-        ensures listening { W.listening wires.new ≡ W.listening wires.old }
-        ensures turn_count { W.turn_faults wires.new ≡ W.turn_faults wires.old }
-        ensures sunk { S.faults sink.old ≤ S.faults sink.new }
+        ensures opened { (W.state wires.new).opened ≡ (W.state wires.old).opened }
+        ensures listening { (W.state wires.new).listening ≡ (W.state wires.old).listening }
+        ensures turn_count { (W.state wires.new).turn_faults ≡ (W.state wires.old).turn_faults }
+        ensures sunk { (S.state sink.old).faults ≤ (S.state sink.new).faults }
     {
         match self.wake_times.due(when.moment, sequence) {
             Ok(()) => {}
@@ -186,18 +188,18 @@ impl<U: SafeUser> Book<U> {
     ) -> Result<(), LoopFault>
         requires moment { when.moment ≤ 1000000000000000 }
         requires setup { when.setup ≤ 600000 }
-        requires seated { AreSeated (W.opened wires.old) self.old.slots self.old.places.entries }
+        requires seated { AreSeated (W.state wires.old).opened self.old.slots self.old.places.entries }
         requires awaited { AreAwaited self.old.slots self.old.places self.old.wake_times.pairs }
-        ensures does { Does (seen (S.held sink.old) (S.faults sink.old) (W.calls wires.old) (W.faults wires.old))
-            (seen (S.held sink.new) (S.faults sink.new) (W.calls wires.new) (W.faults wires.new))
+        ensures does { Does (seen (S.state sink.old) (W.state wires.old))
+            (seen (S.state sink.new) (W.state wires.new))
             (sessions self.new.slots self.new.places)
-            (swept (visited (rules (K.entries keys.now) when.setup) when.moment (visit_of reason)) sequence.now (sessions self.old.slots self.old.places)) result }
-        ensures seated { OnOk result (AreSeated (W.opened wires.new) self.new.slots self.new.places.entries) }
+            (swept (visited kept_ends (rules (K.entries keys.now) when.setup) when.moment (visit_of reason)) sequence.now (sessions self.old.slots self.old.places)) result }
+        ensures seated { OnOk result (AreSeated (W.state wires.new).opened self.new.slots self.new.places.entries) }
         ensures awaited { OnOk result (AreAwaited self.new.slots self.new.places self.new.wake_times.pairs) }
-        ensures opened { W.opened wires.new ≡ W.opened wires.old }
-        ensures listening { W.listening wires.new ≡ W.listening wires.old }
-        ensures turn_count { W.turn_faults wires.new ≡ W.turn_faults wires.old }
-        ensures sunk { S.faults sink.old ≤ S.faults sink.new }
+        ensures opened { (W.state wires.new).opened ≡ (W.state wires.old).opened }
+        ensures listening { (W.state wires.new).listening ≡ (W.state wires.old).listening }
+        ensures turn_count { (W.state wires.new).turn_faults ≡ (W.state wires.old).turn_faults }
+        ensures sunk { (S.state sink.old).faults ≤ (S.state sink.new).faults }
     {
         for number in sequence {
             match self.visit(*number, reason, keys, when, scratch, wires, sink) {

@@ -5,7 +5,7 @@ ghost use Rattle.er_base.specs.declared.no_memory.NoMemory.{NoMemory as Want};
 ghost use Rattle.er_settings.specs.Ranges.{AllAllowed};
 ghost use Rattle.loop_session.specs.declared.loop_fault.LoopFault.TheVariants as fault;
 ghost use Rattle.link_trait.specs.Outside.{Rose};
-ghost use Rattle.loop_visit.specs.Acting.{seen};
+ghost use Rattle.loop_visit.specs.Seeing.{seen};
 ghost use Rattle.readiness_loop.specs.Claims.{outside, dialling, pair_of, halt_for, HasDialled, FailsToDial, BreaksOffDialling};
 ghost use Rattle.readiness_loop.specs.Courses.{plan_of, caller_of, around, Dials};
 
@@ -40,10 +40,10 @@ fn dial_users<U: SafeUser, W: Wires, C: Clock, R: Rng, S: Sink>(
     requires same { plan.now.rbc ≡ pair.now.rbc }
     requires dials { plan.now.dials ≡ true }
     ensures does { Dials (plan_of (pair_of pair.now.engine pair.now.rbc pair.now.kmac ∷ []) plan.now) (caller_of pair.now.engine pair.now.kmac)
-        (around (seen (S.held sink.old) (S.faults sink.old) (W.calls wires.old) (W.faults wires.old)) (W.turn_faults wires.old) (W.opened wires.old) (W.listening wires.old) (C.answers clock.old))
-        (around (seen (S.held sink.new) (S.faults sink.new) (W.calls wires.new) (W.faults wires.new)) (W.turn_faults wires.new) (W.opened wires.new) (W.listening wires.new) (C.answers clock.new))
-        (map U.mind users.items) (R.stream randoms.old) address.now result }
-    ensures sunk { S.faults sink.old ≤ S.faults sink.new }
+        (around (S.state sink.old) (W.state wires.old) (C.state clock.old))
+        (around (S.state sink.new) (W.state wires.new) (C.state clock.new))
+        (map U.mind users.items) (R.stream randoms.old) (R.stream randoms.new) address.now result }
+    ensures sunk { (S.state sink.old).faults ≤ (S.state sink.new).faults }
 {
     laws::journal();
     laws::octets();
@@ -53,6 +53,7 @@ fn dial_users<U: SafeUser, W: Wires, C: Clock, R: Rng, S: Sink>(
     laws::replies();
     laws::faults();
     laws::turns();
+    loop_session::laws::standing();
     let mut live = match LiveLoop::new(alloc, users) {
         Ok(live) => live,
         Err(want) => return Err(LoopFault::NoMemory(want)),
@@ -95,24 +96,24 @@ pub fn dial<W: Wires, C: Clock, R: Rng, S: Sink>(
     requires settings { AllAllowed plan.now.settings }
     requires engine { engine < 2 ^ 24 }
     requires rbc { rbc < 2 ^ 24 }
-    ensures served { IfOk result (λ served. HasDialled (outside (seen (S.held sink.old) (S.faults sink.old) (W.calls wires.old) (W.faults wires.old)) (W.listening wires.old) (C.answers clock.old))
-        (outside (seen (S.held sink.new) (S.faults sink.new) (W.calls wires.new) (W.faults wires.new)) (W.listening wires.new) (C.answers clock.new))
+    ensures served { IfOk result (λ served. HasDialled (outside (S.state sink.old) (W.state wires.old) (C.state clock.old))
+        (outside (S.state sink.new) (W.state wires.new) (C.state clock.new))
         (dialling kmac plan.now engine rbc (length users.items)) (record { engine = engine; kmac = kmac }) address.now (map mind users.items) (R.stream randoms.old) served.turns (halt_for served.why)) }
     ensures wires { result ≡ Err fault.Wires → FailsToDial
-        (outside (seen (S.held sink.old) (S.faults sink.old) (W.calls wires.old) (W.faults wires.old)) (W.listening wires.old) (C.answers clock.old))
-        (outside (seen (S.held sink.new) (S.faults sink.new) (W.calls wires.new) (W.faults wires.new)) (W.listening wires.new) (C.answers clock.new))
-        (dialling kmac plan.now engine rbc (length users.items)) (record { engine = engine; kmac = kmac }) address.now (map mind users.items) (R.stream randoms.old) }
-    ensures rose { result ≡ Err fault.Wires → Rose (W.turn_faults wires.old) (W.turn_faults wires.new) }
+        (outside (S.state sink.old) (W.state wires.old) (C.state clock.old))
+        (outside (S.state sink.new) (W.state wires.new) (C.state clock.new))
+        (dialling kmac plan.now engine rbc (length users.items)) (record { engine = engine; kmac = kmac }) address.now (map mind users.items) (R.stream randoms.old) (R.stream randoms.new) }
+    ensures rose { result ≡ Err fault.Wires → Rose (W.state wires.old).turn_faults (W.state wires.new).turn_faults }
     ensures sink { result ≡ Err fault.Sink → BreaksOffDialling
-        (outside (seen (S.held sink.old) (S.faults sink.old) (W.calls wires.old) (W.faults wires.old)) (W.listening wires.old) (C.answers clock.old))
-        (outside (seen (S.held sink.new) (S.faults sink.new) (W.calls wires.new) (W.faults wires.new)) (W.listening wires.new) (C.answers clock.new))
+        (outside (S.state sink.old) (W.state wires.old) (C.state clock.old))
+        (outside (S.state sink.new) (W.state wires.new) (C.state clock.new))
         (dialling kmac plan.now engine rbc (length users.items)) (record { engine = engine; kmac = kmac }) address.now (map mind users.items) (R.stream randoms.old) }
-    ensures sunk { result ≡ Err fault.Sink → Rose (S.faults sink.old) (S.faults sink.new) }
+    ensures sunk { result ≡ Err fault.Sink → Rose (S.state sink.old).faults (S.state sink.new).faults }
     ensures memory { (want : Want) → result ≡ Err (fault.NoMemory want) → BreaksOffDialling
-        (outside (seen (S.held sink.old) (S.faults sink.old) (W.calls wires.old) (W.faults wires.old)) (W.listening wires.old) (C.answers clock.old))
-        (outside (seen (S.held sink.new) (S.faults sink.new) (W.calls wires.new) (W.faults wires.new)) (W.listening wires.new) (C.answers clock.new))
+        (outside (S.state sink.old) (W.state wires.old) (C.state clock.old))
+        (outside (S.state sink.new) (W.state wires.new) (C.state clock.new))
         (dialling kmac plan.now engine rbc (length users.items)) (record { engine = engine; kmac = kmac }) address.now (map mind users.items) (R.stream randoms.old) }
-    ensures sink_count { S.faults sink.old ≤ S.faults sink.new }
+    ensures sink_count { (S.state sink.old).faults ≤ (S.state sink.new).faults }
 {
     let pair = OnePair { engine, rbc, kmac };
     let loop_plan = LoopPlan {

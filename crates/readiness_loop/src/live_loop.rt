@@ -10,8 +10,11 @@ ghost use Rattle.loop_model.specs.Grammar.{IsInGrammar};
 ghost use Rattle.loop_model.specs.Journals.{text};
 ghost use Rattle.loop_model.specs.Visits.{is_due};
 ghost use Rattle.loop_model.specs.Loops.{Loop, before, until, until as first, turned_away, accepted, happened, Halt, OnClosed};
+ghost use Rattle.er_end.specs.KeptEnds.{KEnd};
+ghost use Rattle.loop_session.specs.Keeping.{kept_ends};
 ghost use Rattle.loop_session.specs.Parts.{rules, Puts};
-ghost use Rattle.loop_visit.specs.Acting.{seen, Does};
+ghost use Rattle.loop_visit.specs.Acting.{Does};
+ghost use Rattle.loop_visit.specs.Seeing.{seen};
 ghost use Rattle.readiness_loop.specs.Books.{AreSeated, AreAwaited, sessions};
 ghost use Rattle.readiness_loop.specs.Courses.{plan_of, loop_of, course_of, answer_event, answered, around, Acts, IsReadyFor, halt_after, Turned, Turns, Runs, HaltsSo};
 
@@ -117,22 +120,22 @@ impl<U: SafeUser> LiveLoop<U> {
     ) -> Result<Option<u64>, LoopFault>
         requires allowed { AllAllowed plan.now.settings }
         requires moment { self.old.moment ≤ 1000000000000000 }
-        requires seated { AreSeated (W.opened wires.old) self.old.book.slots self.old.book.places.entries }
+        requires seated { AreSeated (W.state wires.old).opened self.old.book.slots self.old.book.places.entries }
         requires awaited { AreAwaited self.old.book.slots self.old.book.places self.old.book.wake_times.pairs }
-        ensures does { Does (seen (S.held sink.old) (S.faults sink.old) (W.calls wires.old) (W.faults wires.old))
-            (seen (S.held sink.new) (S.faults sink.new) (W.calls wires.new) (W.faults wires.new))
+        ensures does { Does (seen (S.state sink.old) (W.state wires.old))
+            (seen (S.state sink.new) (W.state wires.new))
             (sessions self.new.book.slots self.new.book.places)
-            (before (rules (K.entries keys.now) plan.now.settings.setup) self.old.moment (sessions self.old.book.slots self.old.book.places)) result }
-        ensures until { IfOk result (λ first. first ≡ until (sessions self.new.book.slots self.new.book.places)) }
-        ensures seated { OnOk result (AreSeated (W.opened wires.new) self.new.book.slots self.new.book.places.entries) }
+            (before kept_ends (rules (K.entries keys.now) plan.now.settings.setup) self.old.moment (sessions self.old.book.slots self.old.book.places)) result }
+        ensures until { IfOk result (λ first. first ≡ until kept_ends (sessions self.new.book.slots self.new.book.places)) }
+        ensures seated { OnOk result (AreSeated (W.state wires.new).opened self.new.book.slots self.new.book.places.entries) }
         ensures awaited { OnOk result (AreAwaited self.new.book.slots self.new.book.places self.new.book.wake_times.pairs) }
-        ensures opened { W.opened wires.new ≡ W.opened wires.old }
-        ensures listening { W.listening wires.new ≡ W.listening wires.old }
-        ensures turn_count { W.turn_faults wires.new ≡ W.turn_faults wires.old }
+        ensures opened { (W.state wires.new).opened ≡ (W.state wires.old).opened }
+        ensures listening { (W.state wires.new).listening ≡ (W.state wires.old).listening }
+        ensures turn_count { (W.state wires.new).turn_faults ≡ (W.state wires.old).turn_faults }
         ensures users { self.new.users ≡ self.old.users }
         ensures moment { self.new.moment ≡ self.old.moment }
         ensures turns { self.new.turns ≡ self.old.turns }
-        ensures sunk { S.faults sink.old ≤ S.faults sink.new }
+        ensures sunk { (S.state sink.old).faults ≤ (S.state sink.new).faults }
     {
         let first = self.book.until();
         if !has_come(first, self.moment) {
@@ -180,17 +183,17 @@ impl<U: SafeUser> LiveLoop<U> {
     ) -> Result<(), LoopFault>
         requires moment { self.old.moment ≤ 1000000000000000 }
         requires why { IsInRange why }
-        ensures does { (l : Loop) → l.moment ≡ self.old.moment → Acts (seen (S.held sink.old) (S.faults sink.old) (W.calls wires.old) (W.faults wires.old))
-            (seen (S.held sink.new) (S.faults sink.new) (W.calls wires.new) (W.faults wires.new))
+        ensures does { (l : Loop KEnd) → l.moment ≡ self.old.moment → Acts (seen (S.state sink.old) (W.state wires.old))
+            (seen (S.state sink.new) (W.state wires.new))
             l (turned_away l conn.0 why) result }
         ensures book { self.new.book ≡ self.old.book }
         ensures users { self.new.users ≡ self.old.users }
         ensures moment { self.new.moment ≡ self.old.moment }
         ensures turns { self.new.turns ≡ self.old.turns }
-        ensures opened { W.opened wires.new ≡ W.opened wires.old }
-        ensures listening { W.listening wires.new ≡ W.listening wires.old }
-        ensures turn_count { W.turn_faults wires.new ≡ W.turn_faults wires.old }
-        ensures sunk { S.faults sink.old ≤ S.faults sink.new }
+        ensures opened { (W.state wires.new).opened ≡ (W.state wires.old).opened }
+        ensures listening { (W.state wires.new).listening ≡ (W.state wires.old).listening }
+        ensures turn_count { (W.state wires.new).turn_faults ≡ (W.state wires.old).turn_faults }
+        ensures sunk { (S.state sink.old).faults ≤ (S.state sink.new).faults }
     {
         match write_event(self.moment, conn.0, why, &mut self.scratch, sink) {
             Ok(()) => {}
@@ -216,7 +219,7 @@ impl<U: SafeUser> LiveLoop<U> {
         requires seated { AreSeated (conn.0 - 1) self.old.book.slots self.old.book.places.entries }
         requires awaited { AreAwaited self.old.book.slots self.old.book.places self.old.book.wake_times.pairs }
         requires number { 0 < conn.0 }
-        ensures puts { Puts (S.held sink.old) (S.held sink.new) (S.faults sink.old) (S.faults sink.new)
+        ensures puts { Puts (S.state sink.old) (S.state sink.new)
             (text (answer_event (R.stream randoms.old) plan.now.rbc self.old.moment conn.0 ∷ [])) result }
         ensures grammar { OnOk result (IsInGrammar (answer_event (R.stream randoms.old) plan.now.rbc self.old.moment conn.0)) }
         ensures sessions { OnOk result (sessions self.new.book.slots self.new.book.places ≡ sessions self.old.book.slots self.old.book.places
@@ -227,7 +230,7 @@ impl<U: SafeUser> LiveLoop<U> {
         ensures users { self.new.users ≡ self.old.users }
         ensures moment { self.new.moment ≡ self.old.moment }
         ensures turns { self.new.turns ≡ self.old.turns }
-        ensures sunk { S.faults sink.old ≤ S.faults sink.new }
+        ensures sunk { (S.state sink.old).faults ≤ (S.state sink.new).faults }
     {
         let ra = randoms.next_u64();
         let end = End::answer(alloc, &plan.settings, plan.rbc, ra, self.moment)?;
@@ -256,18 +259,18 @@ impl<U: SafeUser> LiveLoop<U> {
         requires seated { AreSeated (conn.0 - 1) self.old.book.slots self.old.book.places.entries }
         requires awaited { AreAwaited self.old.book.slots self.old.book.places self.old.book.wake_times.pairs }
         requires number { 0 < conn.0 }
-        ensures does { (entries : List keys.Entry) → Acts (seen (S.held sink.old) (S.faults sink.old) (W.calls wires.old) (W.faults wires.old))
-            (seen (S.held sink.new) (S.faults sink.new) (W.calls wires.new) (W.faults wires.new))
+        ensures does { (entries : List keys.Entry) → Acts (seen (S.state sink.old) (W.state wires.old))
+            (seen (S.state sink.new) (W.state wires.new))
             (loop_of self.new.book.slots self.new.book.places (map U.mind self.new.users.items) self.new.moment (R.stream randoms.new))
-            (accepted (plan_of entries plan.now) (loop_of self.old.book.slots self.old.book.places (map U.mind self.old.users.items) self.old.moment (R.stream randoms.old)) conn.0) result }
+            (accepted kept_ends (plan_of entries plan.now) (loop_of self.old.book.slots self.old.book.places (map U.mind self.old.users.items) self.old.moment (R.stream randoms.old)) conn.0) result }
         ensures seated { OnOk result (AreSeated conn.0 self.new.book.slots self.new.book.places.entries) }
         ensures awaited { OnOk result (AreAwaited self.new.book.slots self.new.book.places self.new.book.wake_times.pairs) }
         ensures moment { self.new.moment ≡ self.old.moment }
         ensures turns { self.new.turns ≡ self.old.turns }
-        ensures opened { W.opened wires.new ≡ W.opened wires.old }
-        ensures listening { W.listening wires.new ≡ W.listening wires.old }
-        ensures turn_count { W.turn_faults wires.new ≡ W.turn_faults wires.old }
-        ensures sunk { S.faults sink.old ≤ S.faults sink.new }
+        ensures opened { (W.state wires.new).opened ≡ (W.state wires.old).opened }
+        ensures listening { (W.state wires.new).listening ≡ (W.state wires.old).listening }
+        ensures turn_count { (W.state wires.new).turn_faults ≡ (W.state wires.old).turn_faults }
+        ensures sunk { (S.state sink.old).faults ≤ (S.state sink.new).faults }
     {
         if self.book.len() >= MOST_LIVE {
             return self.turn_away(conn, Event::Full(MOST_LIVE as u64), wires, sink);
@@ -296,20 +299,20 @@ impl<U: SafeUser> LiveLoop<U> {
         requires allowed { AllAllowed plan.now.settings }
         requires rbc { plan.now.rbc < 2 ^ 24 }
         requires moment { self.old.moment ≤ 1000000000000000 }
-        requires ready { IsReadyFor happening (W.opened wires.old) self.old.book.slots self.old.book.places.entries }
+        requires ready { IsReadyFor happening (W.state wires.old).opened self.old.book.slots self.old.book.places.entries }
         requires awaited { AreAwaited self.old.book.slots self.old.book.places self.old.book.wake_times.pairs }
-        ensures does { Does (seen (S.held sink.old) (S.faults sink.old) (W.calls wires.old) (W.faults wires.old))
-            (seen (S.held sink.new) (S.faults sink.new) (W.calls wires.new) (W.faults wires.new))
+        ensures does { Does (seen (S.state sink.old) (W.state wires.old))
+            (seen (S.state sink.new) (W.state wires.new))
             (loop_of self.new.book.slots self.new.book.places (map U.mind self.new.users.items) self.new.moment (R.stream randoms.new))
-            (happened (plan_of (K.entries keys.now) plan.now) (loop_of self.old.book.slots self.old.book.places (map U.mind self.old.users.items) self.old.moment (R.stream randoms.old)) happening) result }
-        ensures seated { OnOk result (AreSeated (W.opened wires.new) self.new.book.slots self.new.book.places.entries) }
+            (happened kept_ends (plan_of (K.entries keys.now) plan.now) (loop_of self.old.book.slots self.old.book.places (map U.mind self.old.users.items) self.old.moment (R.stream randoms.old)) happening) result }
+        ensures seated { OnOk result (AreSeated (W.state wires.new).opened self.new.book.slots self.new.book.places.entries) }
         ensures awaited { OnOk result (AreAwaited self.new.book.slots self.new.book.places self.new.book.wake_times.pairs) }
         ensures moment { self.new.moment ≡ self.old.moment }
         ensures turns { self.new.turns ≡ self.old.turns }
-        ensures opened { W.opened wires.new ≡ W.opened wires.old }
-        ensures listening { W.listening wires.new ≡ W.listening wires.old }
-        ensures turn_count { W.turn_faults wires.new ≡ W.turn_faults wires.old }
-        ensures sunk { S.faults sink.old ≤ S.faults sink.new }
+        ensures opened { (W.state wires.new).opened ≡ (W.state wires.old).opened }
+        ensures listening { (W.state wires.new).listening ≡ (W.state wires.old).listening }
+        ensures turn_count { (W.state wires.new).turn_faults ≡ (W.state wires.old).turn_faults }
+        ensures sunk { (S.state sink.old).faults ≤ (S.state sink.new).faults }
     {
         let when = When {
             moment: self.moment,
@@ -370,18 +373,18 @@ impl<U: SafeUser> LiveLoop<U> {
         requires rbc { plan.now.rbc < 2 ^ 24 }
         requires moment { self.old.moment ≤ 1000000000000000 }
         requires turns { self.old.turns < 2 ^ 64 - 1 }
-        requires seated { AreSeated (W.opened wires.old) self.old.book.slots self.old.book.places.entries }
+        requires seated { AreSeated (W.state wires.old).opened self.old.book.slots self.old.book.places.entries }
         requires awaited { AreAwaited self.old.book.slots self.old.book.places self.old.book.wake_times.pairs }
-        requires until { until ≡ first (sessions self.old.book.slots self.old.book.places) }
-        ensures does { (asked : List ℕ) → Turned (plan_of (K.entries keys.now) plan.now) (around (seen (S.held sink.old) (S.faults sink.old) (W.calls wires.old) (W.faults wires.old)) (W.turn_faults wires.old) (W.opened wires.old) (W.listening wires.old) (C.answers clock.old))
-            (around (seen (S.held sink.new) (S.faults sink.new) (W.calls wires.new) (W.faults wires.new)) (W.turn_faults wires.new) (W.opened wires.new) (W.listening wires.new) (C.answers clock.new))
+        requires until { until ≡ first kept_ends (sessions self.old.book.slots self.old.book.places) }
+        ensures does { (asked : List ℕ) → Turned (plan_of (K.entries keys.now) plan.now) (around (S.state sink.old) (W.state wires.old) (C.state clock.old))
+            (around (S.state sink.new) (W.state wires.new) (C.state clock.new))
             (course_of (loop_of self.old.book.slots self.old.book.places (map U.mind self.old.users.items) self.old.moment (R.stream randoms.old)) self.old.turns asked)
             (loop_of self.new.book.slots self.new.book.places (map U.mind self.new.users.items) self.new.moment (R.stream randoms.new)) self.new.turns result }
-        ensures seated { OnOk result (AreSeated (W.opened wires.new) self.new.book.slots self.new.book.places.entries) }
+        ensures seated { OnOk result (AreSeated (W.state wires.new).opened self.new.book.slots self.new.book.places.entries) }
         ensures awaited { OnOk result (AreAwaited self.new.book.slots self.new.book.places self.new.book.wake_times.pairs) }
         ensures moment { OnOk result (self.new.moment ≤ 1000000000000000) }
         ensures turns { self.new.turns ≤ self.old.turns + 1 }
-        ensures sunk { S.faults sink.old ≤ S.faults sink.new }
+        ensures sunk { (S.state sink.old).faults ≤ (S.state sink.new).faults }
     {
         let happening = wires.turn(until);
         self.moment = self.moment.max(clock.now());
@@ -407,17 +410,17 @@ impl<U: SafeUser> LiveLoop<U> {
         requires rbc { plan.now.rbc < 2 ^ 24 }
         requires moment { self.old.moment ≤ 1000000000000000 }
         requires turns { self.old.turns < 2 ^ 64 - 1 }
-        requires seated { AreSeated (W.opened wires.old) self.old.book.slots self.old.book.places.entries }
+        requires seated { AreSeated (W.state wires.old).opened self.old.book.slots self.old.book.places.entries }
         requires awaited { AreAwaited self.old.book.slots self.old.book.places self.old.book.wake_times.pairs }
-        ensures does { (asked : List ℕ) → Turns (plan_of (K.entries keys.now) plan.now) (around (seen (S.held sink.old) (S.faults sink.old) (W.calls wires.old) (W.faults wires.old)) (W.turn_faults wires.old) (W.opened wires.old) (W.listening wires.old) (C.answers clock.old))
-            (around (seen (S.held sink.new) (S.faults sink.new) (W.calls wires.new) (W.faults wires.new)) (W.turn_faults wires.new) (W.opened wires.new) (W.listening wires.new) (C.answers clock.new))
+        ensures does { (asked : List ℕ) → Turns (plan_of (K.entries keys.now) plan.now) (around (S.state sink.old) (W.state wires.old) (C.state clock.old))
+            (around (S.state sink.new) (W.state wires.new) (C.state clock.new))
             (course_of (loop_of self.old.book.slots self.old.book.places (map U.mind self.old.users.items) self.old.moment (R.stream randoms.old)) self.old.turns asked)
             (loop_of self.new.book.slots self.new.book.places (map U.mind self.new.users.items) self.new.moment (R.stream randoms.new)) self.new.turns result }
-        ensures seated { OnOk result (AreSeated (W.opened wires.new) self.new.book.slots self.new.book.places.entries) }
+        ensures seated { OnOk result (AreSeated (W.state wires.new).opened self.new.book.slots self.new.book.places.entries) }
         ensures awaited { OnOk result (AreAwaited self.new.book.slots self.new.book.places self.new.book.wake_times.pairs) }
         ensures moment { OnOk result (self.new.moment ≤ 1000000000000000) }
         ensures turns { self.new.turns ≤ self.old.turns + 1 }
-        ensures sunk { S.faults sink.old ≤ S.faults sink.new }
+        ensures sunk { (S.state sink.old).faults ≤ (S.state sink.new).faults }
     {
         self.moment = self.moment.max(clock.now());
         match self.before(keys, plan, wires, sink) {
@@ -446,13 +449,13 @@ impl<U: SafeUser> LiveLoop<U> {
         requires rbc { plan.now.rbc < 2 ^ 24 }
         requires moment { self.old.moment ≤ 1000000000000000 }
         requires turns { self.old.turns ≡ 0 }
-        requires seated { AreSeated (W.opened wires.old) self.old.book.slots self.old.book.places.entries }
+        requires seated { AreSeated (W.state wires.old).opened self.old.book.slots self.old.book.places.entries }
         requires awaited { AreAwaited self.old.book.slots self.old.book.places self.old.book.wake_times.pairs }
-        ensures does { (asked : List ℕ) → Runs (plan_of (K.entries keys.now) plan.now) (around (seen (S.held sink.old) (S.faults sink.old) (W.calls wires.old) (W.faults wires.old)) (W.turn_faults wires.old) (W.opened wires.old) (W.listening wires.old) (C.answers clock.old))
-            (around (seen (S.held sink.new) (S.faults sink.new) (W.calls wires.new) (W.faults wires.new)) (W.turn_faults wires.new) (W.opened wires.new) (W.listening wires.new) (C.answers clock.new))
+        ensures does { (asked : List ℕ) → Runs (plan_of (K.entries keys.now) plan.now) (around (S.state sink.old) (W.state wires.old) (C.state clock.old))
+            (around (S.state sink.new) (W.state wires.new) (C.state clock.new))
             (course_of (loop_of self.old.book.slots self.old.book.places (map U.mind self.old.users.items) self.old.moment (R.stream randoms.old)) 0 asked)
             (loop_of self.new.book.slots self.new.book.places (map U.mind self.new.users.items) self.new.moment (R.stream randoms.new)) self.new.turns result }
-        ensures sunk { S.faults sink.old ≤ S.faults sink.new }
+        ensures sunk { (S.state sink.old).faults ≤ (S.state sink.new).faults }
     {
         for _ in 0..plan.turns {
             match self.go(alloc, keys, plan, wires, clock, randoms, sink) {

@@ -8,8 +8,10 @@ ghost use Rattle.er_settings.specs.Ranges.{AllAllowed};
 ghost use Rattle.loop_model.specs.Sessions.{Begins};
 ghost use Rattle.loop_model.specs.Visits.{served};
 ghost use Rattle.loop_model.specs.Loops.{begun};
+ghost use Rattle.loop_session.specs.Keeping.{kept_ends};
 ghost use Rattle.loop_session.specs.Parts.{rules};
-ghost use Rattle.loop_visit.specs.Acting.{seen, Does};
+ghost use Rattle.loop_visit.specs.Acting.{Does};
+ghost use Rattle.loop_visit.specs.Seeing.{seen};
 ghost use Rattle.readiness_loop.specs.Books.{AreSeated, AreAwaited, sessions};
 ghost use Rattle.readiness_loop.specs.Claims.{pair_of};
 ghost use Rattle.readiness_loop.specs.Courses.{plan_of, loop_of, course_of, around, caller_of, Opens};
@@ -46,24 +48,24 @@ impl<U: SafeUser> LiveLoop<U> {
         requires empty { self.old.book.places.entries ≡ [] }
         requires awaited { AreAwaited self.old.book.slots self.old.book.places self.old.book.wake_times.pairs }
         requires number { 0 < conn.0 }
-        requires newest { conn.0 ≡ W.opened wires.old }
-        ensures does { Does (seen (S.held sink.old) (S.faults sink.old) (W.calls wires.old) (W.faults wires.old))
-            (seen (S.held sink.new) (S.faults sink.new) (W.calls wires.new) (W.faults wires.new))
+        requires newest { conn.0 ≡ (W.state wires.old).opened }
+        ensures does { Does (seen (S.state sink.old) (W.state wires.old))
+            (seen (S.state sink.new) (W.state wires.new))
             (sessions self.new.book.slots self.new.book.places)
-            (served (rules (pair_of pair.now.engine pair.now.rbc pair.now.kmac ∷ []) plan.now.settings.setup) self.old.moment
+            (served kept_ends (rules (pair_of pair.now.engine pair.now.rbc pair.now.kmac ∷ []) plan.now.settings.setup) self.old.moment
             (begun conn.0 (kept_opened (CallsWith plan.now.settings pair.now.engine plan.now.rbc pair.now.kmac (next_u64 (R.stream randoms.old)).0 self.old.moment)) (U.mind user))
             (Begins pair.now.engine plan.now.rbc (next_u64 (R.stream randoms.old)).0)) result }
         ensures stays { IfOk result (λ stays. (length self.new.book.places.entries == 0) ≡ (if stays then false else true)) }
-        ensures seated { OnOk result (AreSeated (W.opened wires.new) self.new.book.slots self.new.book.places.entries) }
+        ensures seated { OnOk result (AreSeated (W.state wires.new).opened self.new.book.slots self.new.book.places.entries) }
         ensures awaited { OnOk result (AreAwaited self.new.book.slots self.new.book.places self.new.book.wake_times.pairs) }
         ensures stream { OnOk result (R.stream randoms.new ≡ (next_u64 (R.stream randoms.old)).1) }
         ensures users { self.new.users ≡ self.old.users }
         ensures moment { self.new.moment ≡ self.old.moment }
         ensures turns { self.new.turns ≡ self.old.turns }
-        ensures opened { W.opened wires.new ≡ W.opened wires.old }
-        ensures listening { W.listening wires.new ≡ W.listening wires.old }
-        ensures turn_count { W.turn_faults wires.new ≡ W.turn_faults wires.old }
-        ensures sunk { S.faults sink.old ≤ S.faults sink.new }
+        ensures opened { (W.state wires.new).opened ≡ (W.state wires.old).opened }
+        ensures listening { (W.state wires.new).listening ≡ (W.state wires.old).listening }
+        ensures turn_count { (W.state wires.new).turn_faults ≡ (W.state wires.old).turn_faults }
+        ensures sunk { (S.state sink.old).faults ≤ (S.state sink.new).faults }
     {
         let rb = randoms.next_u64();
         let (engine, rbc) = (pair.engine, plan.rbc);
@@ -121,17 +123,17 @@ impl<U: SafeUser> LiveLoop<U> {
         requires empty { self.old.book.places.entries ≡ [] }
         requires awaited { AreAwaited self.old.book.slots self.old.book.places self.old.book.wake_times.pairs }
         requires number { 0 < conn.0 }
-        requires newest { conn.0 ≡ W.opened wires.old }
+        requires newest { conn.0 ≡ (W.state wires.old).opened }
         ensures does { (asked : List ℕ) → Opens (plan_of (pair_of pair.now.engine pair.now.rbc pair.now.kmac ∷ []) plan.now) (caller_of pair.now.engine pair.now.kmac)
-            (around (seen (S.held sink.old) (S.faults sink.old) (W.calls wires.old) (W.faults wires.old)) (W.turn_faults wires.old) (W.opened wires.old) (W.listening wires.old) (C.answers clock.old))
-            (around (seen (S.held sink.new) (S.faults sink.new) (W.calls wires.new) (W.faults wires.new)) (W.turn_faults wires.new) (W.opened wires.new) (W.listening wires.new) (C.answers clock.new))
+            (around (S.state sink.old) (W.state wires.old) (C.state clock.old))
+            (around (S.state sink.new) (W.state wires.new) (C.state clock.new))
             (course_of (loop_of self.old.book.slots self.old.book.places (map U.mind self.old.users.items) self.old.moment (R.stream randoms.old)) self.old.turns asked) conn.0
             (loop_of self.new.book.slots self.new.book.places (map U.mind self.new.users.items) self.new.moment (R.stream randoms.new)) self.new.turns result }
-        ensures seated { OnOk result (AreSeated (W.opened wires.new) self.new.book.slots self.new.book.places.entries) }
+        ensures seated { OnOk result (AreSeated (W.state wires.new).opened self.new.book.slots self.new.book.places.entries) }
         ensures awaited { OnOk result (AreAwaited self.new.book.slots self.new.book.places self.new.book.wake_times.pairs) }
         ensures moment { self.new.moment ≤ 1000000000000000 }
         ensures turns { self.new.turns ≡ self.old.turns }
-        ensures sunk { S.faults sink.old ≤ S.faults sink.new }
+        ensures sunk { (S.state sink.old).faults ≤ (S.state sink.new).faults }
     {
         self.moment = self.moment.max(clock.now());
         match self.users.pop() {

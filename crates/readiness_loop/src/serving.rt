@@ -7,7 +7,7 @@ ghost use Rattle.loop_session.specs.declared.loop_fault.LoopFault.TheVariants as
 ghost use Rattle.loop_session.specs.Parts.{Puts};
 ghost use Rattle.loop_model.specs.Journals.{header};
 ghost use Rattle.link_trait.specs.Outside.{Rose};
-ghost use Rattle.loop_visit.specs.Acting.{seen};
+ghost use Rattle.loop_visit.specs.Seeing.{seen};
 ghost use Rattle.readiness_loop.specs.Claims.{outside, serving, halt_for, HasServed, FailsToServe, BreaksOffServing};
 ghost use Rattle.readiness_loop.specs.Courses.{plan_of, around, Serves};
 
@@ -32,8 +32,8 @@ pub(crate) fn write_header<S: Sink>(
     sink: &mut S,
 ) -> Result<(), LoopFault>
     requires settings { AllAllowed settings.now }
-    ensures puts { Puts (S.held sink.old) (S.held sink.new) (S.faults sink.old) (S.faults sink.new) (header settings.now) result }
-    ensures sunk { S.faults sink.old ≤ S.faults sink.new }
+    ensures puts { Puts (S.state sink.old) (S.state sink.new) (header settings.now) result }
+    ensures sunk { (S.state sink.old).faults ≤ (S.state sink.new).faults }
 {
     let mut line = Vec::new(alloc);
     match print_header(settings, &mut line) {
@@ -58,10 +58,10 @@ fn serve_users<U: SafeUser, K: KeyFinder, W: Wires, C: Clock, R: Rng, S: Sink>(
     requires allowed { AllAllowed plan.now.settings }
     requires rbc { plan.now.rbc < 2 ^ 24 }
     ensures does { Serves (plan_of (K.entries keys.now) plan.now)
-        (around (seen (S.held sink.old) (S.faults sink.old) (W.calls wires.old) (W.faults wires.old)) (W.turn_faults wires.old) (W.opened wires.old) (W.listening wires.old) (C.answers clock.old))
-        (around (seen (S.held sink.new) (S.faults sink.new) (W.calls wires.new) (W.faults wires.new)) (W.turn_faults wires.new) (W.opened wires.new) (W.listening wires.new) (C.answers clock.new))
-        (map U.mind users.items) (R.stream randoms.old) address.now result }
-    ensures sunk { S.faults sink.old ≤ S.faults sink.new }
+        (around (S.state sink.old) (W.state wires.old) (C.state clock.old))
+        (around (S.state sink.new) (W.state wires.new) (C.state clock.new))
+        (map U.mind users.items) (R.stream randoms.old) (R.stream randoms.new) address.now result }
+    ensures sunk { (S.state sink.old).faults ≤ (S.state sink.new).faults }
 {
     laws::journal();
     laws::octets();
@@ -71,6 +71,7 @@ fn serve_users<U: SafeUser, K: KeyFinder, W: Wires, C: Clock, R: Rng, S: Sink>(
     laws::replies();
     laws::faults();
     laws::turns();
+    loop_session::laws::standing();
     let mut live = match LiveLoop::new(alloc, users) {
         Ok(live) => live,
         Err(want) => return Err(LoopFault::NoMemory(want)),
@@ -102,24 +103,24 @@ pub fn serve<W: Wires, C: Clock, R: Rng, S: Sink>(
 ) -> Result<Served, LoopFault>
     requires settings { AllAllowed plan.now.settings }
     requires rbc { rbc < 2 ^ 24 }
-    ensures served { IfOk result (λ served. HasServed (outside (seen (S.held sink.old) (S.faults sink.old) (W.calls wires.old) (W.faults wires.old)) (W.listening wires.old) (C.answers clock.old))
-        (outside (seen (S.held sink.new) (S.faults sink.new) (W.calls wires.new) (W.faults wires.new)) (W.listening wires.new) (C.answers clock.new))
+    ensures served { IfOk result (λ served. HasServed (outside (S.state sink.old) (W.state wires.old) (C.state clock.old))
+        (outside (S.state sink.new) (W.state wires.new) (C.state clock.new))
         (serving (keys.now) plan.now rbc (length users.items)) address.now (map mind users.items) (R.stream randoms.old) served.turns (halt_for served.why)) }
     ensures wires { result ≡ Err fault.Wires → FailsToServe
-        (outside (seen (S.held sink.old) (S.faults sink.old) (W.calls wires.old) (W.faults wires.old)) (W.listening wires.old) (C.answers clock.old))
-        (outside (seen (S.held sink.new) (S.faults sink.new) (W.calls wires.new) (W.faults wires.new)) (W.listening wires.new) (C.answers clock.new))
-        (serving (keys.now) plan.now rbc (length users.items)) address.now (map mind users.items) (R.stream randoms.old) }
-    ensures rose { result ≡ Err fault.Wires → Rose (W.turn_faults wires.old) (W.turn_faults wires.new) }
+        (outside (S.state sink.old) (W.state wires.old) (C.state clock.old))
+        (outside (S.state sink.new) (W.state wires.new) (C.state clock.new))
+        (serving (keys.now) plan.now rbc (length users.items)) address.now (map mind users.items) (R.stream randoms.old) (R.stream randoms.new) }
+    ensures rose { result ≡ Err fault.Wires → Rose (W.state wires.old).turn_faults (W.state wires.new).turn_faults }
     ensures sink { result ≡ Err fault.Sink → BreaksOffServing
-        (outside (seen (S.held sink.old) (S.faults sink.old) (W.calls wires.old) (W.faults wires.old)) (W.listening wires.old) (C.answers clock.old))
-        (outside (seen (S.held sink.new) (S.faults sink.new) (W.calls wires.new) (W.faults wires.new)) (W.listening wires.new) (C.answers clock.new))
+        (outside (S.state sink.old) (W.state wires.old) (C.state clock.old))
+        (outside (S.state sink.new) (W.state wires.new) (C.state clock.new))
         (serving (keys.now) plan.now rbc (length users.items)) address.now (map mind users.items) (R.stream randoms.old) }
-    ensures sunk { result ≡ Err fault.Sink → Rose (S.faults sink.old) (S.faults sink.new) }
+    ensures sunk { result ≡ Err fault.Sink → Rose (S.state sink.old).faults (S.state sink.new).faults }
     ensures memory { (want : Want) → result ≡ Err (fault.NoMemory want) → BreaksOffServing
-        (outside (seen (S.held sink.old) (S.faults sink.old) (W.calls wires.old) (W.faults wires.old)) (W.listening wires.old) (C.answers clock.old))
-        (outside (seen (S.held sink.new) (S.faults sink.new) (W.calls wires.new) (W.faults wires.new)) (W.listening wires.new) (C.answers clock.new))
+        (outside (S.state sink.old) (W.state wires.old) (C.state clock.old))
+        (outside (S.state sink.new) (W.state wires.new) (C.state clock.new))
         (serving (keys.now) plan.now rbc (length users.items)) address.now (map mind users.items) (R.stream randoms.old) }
-    ensures sink_count { S.faults sink.old ≤ S.faults sink.new }
+    ensures sink_count { (S.state sink.old).faults ≤ (S.state sink.new).faults }
 {
     let loop_plan = LoopPlan {
         settings: plan.settings,

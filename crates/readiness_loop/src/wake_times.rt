@@ -61,6 +61,10 @@ impl WakeTimes {
         requires { (m : ℕ) → has self.old.pairs m number ≡ is_moment m before }
         ensures { OnOk result ((m n : ℕ) → has self.new.pairs m n ≡ (if n == number then is_moment m now else has self.old.pairs m n)) }
     {
+        // A moment that stays costs nothing.
+        if before == now {
+            return Ok(());
+        }
         self.forget(number, before);
         self.keep(number, now)
     }

@@ -1,8 +1,9 @@
+use Rattle.loop_model.proofs.EndKeepings.{steps_alike, made_stands}
 use Rattle.loop_model.proofs.laws.journal.Goals as goal
 use Rattle.loop_model.proofs.Printings.{all_isolated, all_printed}
 
 pub returns : goal.returns
 returns c = record {
-  isolated = all_isolated c.standing.ensures.steps c.standing.ensures.made;
-  printed = all_printed c.standing.ensures.steps c.standing.ensures.made;
+  isolated = all_isolated steps_alike made_stands;
+  printed = all_printed steps_alike made_stands;
 }

@@ -1,7 +1,8 @@
+use Rattle.loop_model.proofs.EndKeepings.{steps_alike, made_stands, shows_alike, waits_move, octets_bring, release_stays, breaks_release}
 use Rattle.loop_model.proofs.laws.recordings.Goals as goal
 use Rattle.loop_model.proofs.Replaying.{recordings_replay}
 
 pub returns : goal.returns
 returns c =
-    recordings_replay c.standing.ensures.steps c.standing.ensures.made c.standing.ensures.shows c.keeping.ensures.waits c.keeping.ensures.bring c.keeping.ensures.stays
-    c.keeping.ensures.breaks
+    recordings_replay steps_alike made_stands shows_alike waits_move octets_bring release_stays
+    breaks_release

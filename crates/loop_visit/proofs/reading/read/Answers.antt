@@ -2,29 +2,29 @@ use Rattle.std.proofs.Common.{rules as base, ap}
 use Rattle.link_trait.specs.Wires.{reading_of}
 use Rattle.loop_model.specs.Visits.{most_read}
 use Rattle.loop_session.specs.Parts.{rules}
-use Rattle.loop_visit.specs.Acting.{seen}
+use Rattle.loop_visit.specs.Seeing.{seen}
 use Rattle.loop_visit.proofs.Rests.{reads_broke, reads_stays, reads_rests, read_so, read_counts, some_read, told_as, so_as}
 use Rattle.loop_visit.proofs.reading.read.Goals as goal
 
 pub returns-in-Err-clause-does : goal.returns-in-Err-clause-does
 returns-in-Err-clause-does g c =
-    reads_broke (g.S.Sink.held c.args.sink.now) (g.S.Sink.held c.take_in.new.sink) (g.S.Sink.faults c.args.sink.now) (g.S.Sink.faults c.take_in.new.sink) (g.W.Wires.calls c.args.wires.now) (g.W.Wires.calls c.read-answer.new.self) (g.W.Wires.faults c.args.wires.now) (g.W.Wires.faults c.read-answer.new.self) (rules (g.K.KeyFinder.entries c.args.keys.now) c.args.when.setup) c.args.when.moment c.args.session.now c.number.result _ (reading_of c.read-answer.result c.read-answer.new.into) c.in-Err.fault c.number.ensures
+    reads_broke (g.S.Sink.state c.args.sink.now) (g.S.Sink.state c.take_in.new.sink) (g.W.Wires.state c.args.wires.now) (g.W.Wires.state c.read-answer.new.self) (rules (g.K.KeyFinder.entries c.args.keys.now) c.args.when.setup) c.args.when.moment c.args.session.now c.number.result _ (reading_of c.read-answer.result c.read-answer.new.into) c.in-Err.fault c.number.ensures
     (told_as _ _ _ _ _ _ c.read-answer.ensures.told (search base))
-    (so_as _ _ _ (read_so (g.W.Wires.lines c.args.wires.now) c.number.result _ c.read-answer.result c.read-answer.new.into c.read-answer.ensures.fits c.read-answer.ensures.not_now c.read-answer.ensures.end c.read-answer.ensures.length) (search base))
-    (read_counts (g.W.Wires.faults c.args.wires.now) (g.W.Wires.faults c.read-answer.new.self) c.number.result most_read _ c.read-answer.result c.read-answer.new.into c.read-answer.ensures.count c.read-answer.ensures.cause) c.in-Err.ensures.chooses
+    (so_as _ _ _ (read_so (g.W.Wires.state c.args.wires.now).lines c.number.result _ c.read-answer.result c.read-answer.new.into c.read-answer.ensures.fits c.read-answer.ensures.not_now c.read-answer.ensures.end c.read-answer.ensures.length) (search base))
+    (read_counts (g.W.Wires.state c.args.wires.now).faults (g.W.Wires.state c.read-answer.new.self).faults c.number.result most_read _ c.read-answer.result c.read-answer.new.into c.read-answer.ensures.count c.read-answer.ensures.cause) c.in-Err.ensures.chooses
 
 pub returns-then-gave_nothing-clause-does : goal.returns-then-gave_nothing-clause-does
 returns-then-gave_nothing-clause-does g c =
-    reads_stays (g.S.Sink.held c.args.sink.now) (g.S.Sink.held c.take_in.new.sink) (g.S.Sink.faults c.args.sink.now) (g.S.Sink.faults c.take_in.new.sink) (g.W.Wires.calls c.args.wires.now) (g.W.Wires.calls c.read-answer.new.self) (g.W.Wires.faults c.args.wires.now) (g.W.Wires.faults c.read-answer.new.self) (rules (g.K.KeyFinder.entries c.args.keys.now) c.args.when.setup) c.args.when.moment c.args.session.now c.take_in.new.session c.number.result _ (reading_of c.read-answer.result c.read-answer.new.into) c.number.ensures
+    reads_stays (g.S.Sink.state c.args.sink.now) (g.S.Sink.state c.take_in.new.sink) (g.W.Wires.state c.args.wires.now) (g.W.Wires.state c.read-answer.new.self) (rules (g.K.KeyFinder.entries c.args.keys.now) c.args.when.setup) c.args.when.moment c.args.session.now c.take_in.new.session c.number.result _ (reading_of c.read-answer.result c.read-answer.new.into) c.number.ensures
     (ap (λ z. reading_of z c.read-answer.new.into) (c.gave_nothing.ensures.yes c.if-gave_nothing.true))
     (told_as _ _ _ _ _ _ c.read-answer.ensures.told (search base))
-    (so_as _ _ _ (read_so (g.W.Wires.lines c.args.wires.now) c.number.result _ c.read-answer.result c.read-answer.new.into c.read-answer.ensures.fits c.read-answer.ensures.not_now c.read-answer.ensures.end c.read-answer.ensures.length) (search base))
-    (read_counts (g.W.Wires.faults c.args.wires.now) (g.W.Wires.faults c.read-answer.new.self) c.number.result most_read _ c.read-answer.result c.read-answer.new.into c.read-answer.ensures.count c.read-answer.ensures.cause) c.in-Ok.ensures.chooses
+    (so_as _ _ _ (read_so (g.W.Wires.state c.args.wires.now).lines c.number.result _ c.read-answer.result c.read-answer.new.into c.read-answer.ensures.fits c.read-answer.ensures.not_now c.read-answer.ensures.end c.read-answer.ensures.length) (search base))
+    (read_counts (g.W.Wires.state c.args.wires.now).faults (g.W.Wires.state c.read-answer.new.self).faults c.number.result most_read _ c.read-answer.result c.read-answer.new.into c.read-answer.ensures.count c.read-answer.ensures.cause) c.in-Ok.ensures.chooses
 
 pub returns-clause-does : goal.returns-clause-does
 returns-clause-does g c =
-    reads_rests (g.S.Sink.held c.args.sink.now) (g.S.Sink.held c.take_in.new.sink) (g.S.Sink.faults c.args.sink.now) (g.S.Sink.faults c.take_in.new.sink) (g.W.Wires.calls c.args.wires.now) (g.W.Wires.calls c.read-answer.new.self) (g.W.Wires.faults c.args.wires.now) (g.W.Wires.faults c.read-answer.new.self) (seen (g.S.Sink.held c.rest.new.sink) (g.S.Sink.faults c.rest.new.sink) (g.W.Wires.calls c.rest.new.wires) (g.W.Wires.faults c.rest.new.wires)) (rules (g.K.KeyFinder.entries c.args.keys.now) c.args.when.setup) c.args.when.moment c.args.session.now c.take_in.new.session c.rest.new.session
+    reads_rests (g.S.Sink.state c.args.sink.now) (g.S.Sink.state c.take_in.new.sink) (g.W.Wires.state c.args.wires.now) (g.W.Wires.state c.read-answer.new.self) (seen (g.S.Sink.state c.rest.new.sink) (g.W.Wires.state c.rest.new.wires)) (rules (g.K.KeyFinder.entries c.args.keys.now) c.args.when.setup) c.args.when.moment c.args.session.now c.take_in.new.session c.rest.new.session
     c.number.result _ (reading_of c.read-answer.result c.read-answer.new.into) c.rest.result c.number.ensures (some_read c.read-answer.result c.read-answer.new.into (c.gave_nothing.ensures.no c.if-gave_nothing.false))
     (told_as _ _ _ _ _ _ c.read-answer.ensures.told (search base))
-    (so_as _ _ _ (read_so (g.W.Wires.lines c.args.wires.now) c.number.result _ c.read-answer.result c.read-answer.new.into c.read-answer.ensures.fits c.read-answer.ensures.not_now c.read-answer.ensures.end c.read-answer.ensures.length) (search base))
-    (read_counts (g.W.Wires.faults c.args.wires.now) (g.W.Wires.faults c.read-answer.new.self) c.number.result most_read _ c.read-answer.result c.read-answer.new.into c.read-answer.ensures.count c.read-answer.ensures.cause) c.in-Ok.ensures.chooses (c.rest.ensures.does (g.K.KeyFinder.entries c.args.keys.now))
+    (so_as _ _ _ (read_so (g.W.Wires.state c.args.wires.now).lines c.number.result _ c.read-answer.result c.read-answer.new.into c.read-answer.ensures.fits c.read-answer.ensures.not_now c.read-answer.ensures.end c.read-answer.ensures.length) (search base))
+    (read_counts (g.W.Wires.state c.args.wires.now).faults (g.W.Wires.state c.read-answer.new.self).faults c.number.result most_read _ c.read-answer.result c.read-answer.new.into c.read-answer.ensures.count c.read-answer.ensures.cause) c.in-Ok.ensures.chooses (c.rest.ensures.does (g.K.KeyFinder.entries c.args.keys.now))

@@ -5,9 +5,9 @@ use Rattle.loop_visit.proofs.visit.expire.Goals as goal
 
 pub returns-clause-expires : goal.returns-clause-expires
 returns-clause-expires g c =
-    expires_not (g.W.Wires.calls c.args.wires.now) (g.W.Wires.faults c.args.wires.now) c.args.when.moment c.args.session.now (ap (λ z. is_due c.args.when.moment z) (sym c.closing.ensures) ∙ sym c.is_due.ensures ∙ c.if-is_due.false)
+    expires_not (g.W.Wires.state c.args.wires.now) c.args.when.moment c.args.session.now (ap (λ z. is_due c.args.when.moment z) (sym c.closing.ensures) ∙ sym c.is_due.ensures ∙ c.if-is_due.false)
 
 pub returns-then-is_due-clause-expires : goal.returns-then-is_due-clause-expires
 returns-then-is_due-clause-expires g c =
-    expires_closed (g.W.Wires.calls c.args.wires.now) (g.W.Wires.calls c.close.new.self) (g.W.Wires.faults c.args.wires.now) (g.W.Wires.faults c.close.new.self) c.args.when.moment c.args.session.now c.number.result
+    expires_closed (g.W.Wires.state c.args.wires.now) (g.W.Wires.state c.close.new.self) c.args.when.moment c.args.session.now c.number.result
     (ap (λ z. is_due c.args.when.moment z) (sym c.closing.ensures) ∙ sym c.is_due.ensures ∙ c.if-is_due.true) c.number.ensures c.close.ensures.told c.close.ensures.count

@@ -2,20 +2,20 @@ use Rattle.std.proofs.Common.{sym, ap, ◌∙◌}
 use Rattle.loop_model.specs.Sessions.{Ticks}
 use Rattle.loop_model.specs.Visits.{is_due}
 use Rattle.loop_session.specs.Parts.{rules}
-use Rattle.loop_visit.specs.Acting.{seen}
+use Rattle.loop_visit.specs.Seeing.{seen}
 use Rattle.loop_visit.proofs.Rests.{tick_not, tick_serves, tick_broke, serves, serves_broke}
 use Rattle.loop_visit.proofs.visit.tick.Goals as goal
 
 pub returns-clause-does : goal.returns-clause-does
-returns-clause-does g c = λ entries. tick_not (seen (g.S.Sink.held c.args.sink.now) (g.S.Sink.faults c.args.sink.now) (g.W.Wires.calls c.args.wires.now) (g.W.Wires.faults c.args.wires.now)) (rules entries c.args.when.setup) c.args.when.moment c.args.session.now (ap (λ z. is_due c.args.when.moment z) (sym c.deadline.ensures) ∙ sym c.is_due.ensures ∙ c.if-is_due.false)
+returns-clause-does g c = λ entries. tick_not (seen (g.S.Sink.state c.args.sink.now) (g.W.Wires.state c.args.wires.now)) (rules entries c.args.when.setup) c.args.when.moment c.args.session.now (ap (λ z. is_due c.args.when.moment z) (sym c.deadline.ensures) ∙ sym c.is_due.ensures ∙ c.if-is_due.false)
 
 pub returns-in-Err-clause-does : goal.returns-in-Err-clause-does
 returns-in-Err-clause-does g c = λ entries.
-    tick_broke (seen (g.S.Sink.held c.args.sink.now) (g.S.Sink.faults c.args.sink.now) (g.W.Wires.calls c.args.wires.now) (g.W.Wires.faults c.args.wires.now)) (seen (g.S.Sink.held c.tick.new.sink) (g.S.Sink.faults c.tick.new.sink) (g.W.Wires.calls c.args.wires.now) (g.W.Wires.faults c.args.wires.now)) (rules entries c.args.when.setup) c.args.when.moment c.args.session.now c.in-Err.fault (ap (λ z. is_due c.args.when.moment z) (sym c.deadline.ensures) ∙ sym c.is_due.ensures ∙ c.if-is_due.true)
-    (serves_broke (g.S.Sink.held c.args.sink.now) (g.S.Sink.held c.tick.new.sink) (g.S.Sink.faults c.args.sink.now) (g.S.Sink.faults c.tick.new.sink) (g.W.Wires.calls c.args.wires.now) (g.W.Wires.faults c.args.wires.now) (rules entries c.args.when.setup) c.args.when.moment c.args.session.now Ticks c.in-Err.fault (c.in-Err.ensures.chooses entries))
+    tick_broke (seen (g.S.Sink.state c.args.sink.now) (g.W.Wires.state c.args.wires.now)) (seen (g.S.Sink.state c.tick.new.sink) (g.W.Wires.state c.args.wires.now)) (rules entries c.args.when.setup) c.args.when.moment c.args.session.now c.in-Err.fault (ap (λ z. is_due c.args.when.moment z) (sym c.deadline.ensures) ∙ sym c.is_due.ensures ∙ c.if-is_due.true)
+    (serves_broke (g.S.Sink.state c.args.sink.now) (g.S.Sink.state c.tick.new.sink) (g.W.Wires.state c.args.wires.now) (rules entries c.args.when.setup) c.args.when.moment c.args.session.now Ticks c.in-Err.fault (c.in-Err.ensures.chooses entries))
 
 pub returns-then-is_due-clause-does : goal.returns-then-is_due-clause-does
 returns-then-is_due-clause-does g c = λ entries.
-    tick_serves (seen (g.S.Sink.held c.args.sink.now) (g.S.Sink.faults c.args.sink.now) (g.W.Wires.calls c.args.wires.now) (g.W.Wires.faults c.args.wires.now)) (seen (g.S.Sink.held c.rest.new.sink) (g.S.Sink.faults c.rest.new.sink) (g.W.Wires.calls c.rest.new.wires) (g.W.Wires.faults c.rest.new.wires)) (rules entries c.args.when.setup) c.args.when.moment c.args.session.now c.rest.new.session c.rest.result (ap (λ z. is_due c.args.when.moment z) (sym c.deadline.ensures) ∙ sym c.is_due.ensures ∙ c.if-is_due.true)
-    (serves (g.S.Sink.held c.args.sink.now) (g.S.Sink.held c.tick.new.sink) (g.S.Sink.faults c.args.sink.now) (g.S.Sink.faults c.tick.new.sink) (g.W.Wires.calls c.args.wires.now) (g.W.Wires.faults c.args.wires.now) (seen (g.S.Sink.held c.rest.new.sink) (g.S.Sink.faults c.rest.new.sink) (g.W.Wires.calls c.rest.new.wires) (g.W.Wires.faults c.rest.new.wires)) (rules entries c.args.when.setup) c.args.when.moment c.args.session.now c.tick.new.self c.rest.new.session Ticks c.rest.result
+    tick_serves (seen (g.S.Sink.state c.args.sink.now) (g.W.Wires.state c.args.wires.now)) (seen (g.S.Sink.state c.rest.new.sink) (g.W.Wires.state c.rest.new.wires)) (rules entries c.args.when.setup) c.args.when.moment c.args.session.now c.rest.new.session c.rest.result (ap (λ z. is_due c.args.when.moment z) (sym c.deadline.ensures) ∙ sym c.is_due.ensures ∙ c.if-is_due.true)
+    (serves (g.S.Sink.state c.args.sink.now) (g.S.Sink.state c.tick.new.sink) (g.W.Wires.state c.args.wires.now) (seen (g.S.Sink.state c.rest.new.sink) (g.W.Wires.state c.rest.new.wires)) (rules entries c.args.when.setup) c.args.when.moment c.args.session.now c.tick.new.self c.rest.new.session Ticks c.rest.result
     (c.in-Ok.ensures.chooses entries) (c.rest.ensures.does entries))

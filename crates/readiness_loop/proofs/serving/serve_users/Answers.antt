@@ -1,5 +1,5 @@
 use Rattle.std.proofs.Common.{map, [], refl, ap}
-use Rattle.loop_visit.specs.Acting.{seen}
+use Rattle.loop_visit.specs.Seeing.{seen}
 use Rattle.readiness_loop.specs.Courses.{plan_of, loop_of, around}
 use Rattle.readiness_loop.proofs.Acceptings.{no_seats}
 use Rattle.readiness_loop.proofs.Listening.{header_stops, serve_wanted, start_is, serve_ran_from}
@@ -8,18 +8,18 @@ use Rattle.readiness_loop.proofs.serving.serve_users.Goals as goal
 pub returns-in-Err-clause-does : goal.returns-in-Err-clause-does
 returns-in-Err-clause-does g c =
     serve_wanted (plan_of (g.K.KeyFinder.entries c.args.keys.now) c.args.plan.now)
-    (around (seen (g.S.Sink.held c.args.sink.now) (g.S.Sink.faults c.args.sink.now) (g.W.Wires.calls c.args.wires.now) (g.W.Wires.faults c.args.wires.now)) (g.W.Wires.turn_faults c.args.wires.now) (g.W.Wires.opened c.args.wires.now) (g.W.Wires.listening c.args.wires.now) (g.C.Clock.answers c.args.clock.now))
-    (map g.U.SafeUser.mind c.args.users.items) (g.R.Rng.stream c.args.randoms.now) c.args.address.now c.in-Err.want
+    (around (g.S.Sink.state c.args.sink.now) (g.W.Wires.state c.args.wires.now) (g.C.Clock.state c.args.clock.now))
+    (map g.U.SafeUser.mind c.args.users.items) (g.R.Rng.stream c.args.randoms.now) (g.R.Rng.stream c.args.randoms.now) c.args.address.now c.in-Err.want
 
 pub returns-in-Err-write_header-clause-does : goal.returns-in-Err-write_header-clause-does
 returns-in-Err-write_header-clause-does g c =
     header_stops (plan_of (g.K.KeyFinder.entries c.args.keys.now) c.args.plan.now)
-    (around (seen (g.S.Sink.held c.args.sink.now) (g.S.Sink.faults c.args.sink.now) (g.W.Wires.calls c.args.wires.now) (g.W.Wires.faults c.args.wires.now)) (g.W.Wires.turn_faults c.args.wires.now) (g.W.Wires.opened c.args.wires.now) (g.W.Wires.listening c.args.wires.now) (g.C.Clock.answers c.args.clock.now))
-    (around (seen (g.S.Sink.held c.write_header.new.sink) (g.S.Sink.faults c.write_header.new.sink) (g.W.Wires.calls c.listen.new.self) (g.W.Wires.faults c.listen.new.self)) (g.W.Wires.turn_faults c.listen.new.self) (g.W.Wires.opened c.listen.new.self) (g.W.Wires.listening c.listen.new.self) (g.C.Clock.answers c.args.clock.now))
-    (map g.U.SafeUser.mind c.args.users.items) (g.R.Rng.stream c.args.randoms.now) c.args.address.now c.in-Err-write_header.fault c.in-Ok-listen.ensures.told c.listen.ensures.count c.in-Err-write_header.ensures.puts
+    (around (g.S.Sink.state c.args.sink.now) (g.W.Wires.state c.args.wires.now) (g.C.Clock.state c.args.clock.now))
+    (around (g.S.Sink.state c.write_header.new.sink) (g.W.Wires.state c.listen.new.self) (g.C.Clock.state c.args.clock.now))
+    (map g.U.SafeUser.mind c.args.users.items) (g.R.Rng.stream c.args.randoms.now) (g.R.Rng.stream c.args.randoms.now) c.args.address.now c.in-Err-write_header.fault c.in-Ok-listen.ensures.told c.listen.ensures.count c.in-Err-write_header.ensures.puts.begun c.in-Err-write_header.ensures.puts.failed
 
 pub run-requires-clause-seated : goal.run-requires-clause-seated
-run-requires-clause-seated g c = no_seats (g.W.Wires.opened c.listen.new.self) c.in-Ok.live.book.slots c.in-Ok.live.book.places.entries c.in-Ok.ensures.empty
+run-requires-clause-seated g c = no_seats (g.W.Wires.state c.listen.new.self).opened c.in-Ok.live.book.slots c.in-Ok.live.book.places.entries c.in-Ok.ensures.empty
 
 pub returns-clause-does : goal.returns-clause-does
 returns-clause-does g c =
@@ -34,12 +34,14 @@ returns-clause-does g c =
       replies = c.replies.ensures;
       faults = c.faults.ensures;
       turns = c.turns.ensures;
+      runs = c.standing.ensures.runs;
+      dials = c.standing.ensures.dials;
     })
     (plan_of (g.K.KeyFinder.entries c.args.keys.now) c.args.plan.now)
-    (around (seen (g.S.Sink.held c.args.sink.now) (g.S.Sink.faults c.args.sink.now) (g.W.Wires.calls c.args.wires.now) (g.W.Wires.faults c.args.wires.now)) (g.W.Wires.turn_faults c.args.wires.now) (g.W.Wires.opened c.args.wires.now) (g.W.Wires.listening c.args.wires.now) (g.C.Clock.answers c.args.clock.now))
-    (around (seen (g.S.Sink.held c.write_header.new.sink) (g.S.Sink.faults c.write_header.new.sink) (g.W.Wires.calls c.listen.new.self) (g.W.Wires.faults c.listen.new.self)) (g.W.Wires.turn_faults c.listen.new.self) (g.W.Wires.opened c.listen.new.self) (g.W.Wires.listening c.listen.new.self) (g.C.Clock.answers c.args.clock.now))
-    (around (seen (g.S.Sink.held c.run.new.sink) (g.S.Sink.faults c.run.new.sink) (g.W.Wires.calls c.run.new.wires) (g.W.Wires.faults c.run.new.wires)) (g.W.Wires.turn_faults c.run.new.wires) (g.W.Wires.opened c.run.new.wires) (g.W.Wires.listening c.run.new.wires) (g.C.Clock.answers c.run.new.clock))
-    (map g.U.SafeUser.mind c.args.users.items) (g.R.Rng.stream c.args.randoms.now) c.args.address.now
+    (around (g.S.Sink.state c.args.sink.now) (g.W.Wires.state c.args.wires.now) (g.C.Clock.state c.args.clock.now))
+    (around (g.S.Sink.state c.write_header.new.sink) (g.W.Wires.state c.listen.new.self) (g.C.Clock.state c.args.clock.now))
+    (around (g.S.Sink.state c.run.new.sink) (g.W.Wires.state c.run.new.wires) (g.C.Clock.state c.run.new.clock))
+    (map g.U.SafeUser.mind c.args.users.items) (g.R.Rng.stream c.args.randoms.now) (g.R.Rng.stream c.run.new.randoms) c.args.address.now
     (loop_of c.in-Ok.live.book.slots c.in-Ok.live.book.places (map g.U.SafeUser.mind c.in-Ok.live.users.items) c.in-Ok.live.moment (g.R.Rng.stream c.args.randoms.now))
     (loop_of c.run.new.self.book.slots c.run.new.self.book.places (map g.U.SafeUser.mind c.run.new.self.users.items) c.run.new.self.moment (g.R.Rng.stream c.run.new.randoms)) c.run.new.self.turns c.run.result c.requires.allowed
     (record {

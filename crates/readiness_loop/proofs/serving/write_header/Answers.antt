@@ -5,9 +5,9 @@ use Rattle.readiness_loop.proofs.serving.write_header.Goals as goal
 
 pub returns-clause-puts : goal.returns-clause-puts
 returns-clause-puts g c =
-    header_put (g.S.Sink.held c.args.sink.now) (g.S.Sink.held c.write_lines.new.sink) (g.S.Sink.faults c.args.sink.now) (g.S.Sink.faults c.write_lines.new.sink)
+    header_put (g.S.Sink.state c.args.sink.now) (g.S.Sink.state c.write_lines.new.sink)
     c.args.settings.now c.new-line.result.items c.print_header.new.out.items c.as_slice.result.now c.write_lines.result
     c.new-line.ensures.items c.in-Ok.ensures.ok c.as_slice.ensures.value c.write_lines.ensures.puts
 
 pub returns-in-Err-clause-puts : goal.returns-in-Err-clause-puts
-returns-in-Err-clause-puts g c = line_wanted (g.S.Sink.held c.args.sink.now) (g.S.Sink.faults c.args.sink.now) (header c.args.settings.now) c.in-Err.want
+returns-in-Err-clause-puts g c = line_wanted (g.S.Sink.state c.args.sink.now) (header c.args.settings.now) c.in-Err.want

@@ -1,4 +1,5 @@
 use Rattle.std.proofs.Common.{◌∙◌, sym, ap}
+use Rattle.er_end.specs.KeptEnds.{KEnd}
 use Rattle.loop_model.specs.Sessions.{Session}
 use Rattle.loop_session.specs.Parts.{rules}
 use Rattle.loop_session.proofs.Written.{gave_mind, heard_so}
@@ -8,27 +9,27 @@ use Rattle.loop_session.proofs.session.Session.follow.Goals as goal
 pub returns-in-Err-clause-chooses : goal.returns-in-Err-clause-chooses
 returns-in-Err-clause-chooses g c = λ entries s e gave same told.
     let r = rules entries c.args.when.setup in
-    handled_first (g.S.Sink.held c.args.sink.now) (g.S.Sink.held c.answer.new.sink) (g.S.Sink.faults c.args.sink.now) (g.S.Sink.faults c.answer.new.sink) r c.args.when.moment s e c.in-Err.fault
+    handled_first (g.S.Sink.state c.args.sink.now) (g.S.Sink.state c.answer.new.sink) r c.args.when.moment s e c.in-Err.fault
     (c.in-Err.ensures.chooses r s e
     (gave_mind r c.args.when.moment s c.args.self.now _ e _ _ _ (sym c.self.view_is) gave)
-    (heard_so _ s.mind _ _ _ _ (ap (λ (z : Session). z.mind) c.self.view_is ∙ same) told c.hear_connected.ensures))
+    (heard_so _ s.mind _ _ _ _ (ap (λ (z : Session KEnd). z.mind) c.self.view_is ∙ same) told c.hear_connected.ensures))
 
 pub returns-in-Err-take_all-clause-chooses : goal.returns-in-Err-take_all-clause-chooses
 returns-in-Err-take_all-clause-chooses g c = λ entries s e gave same told.
     let r = rules entries c.args.when.setup in
-    handled_then (g.S.Sink.held c.args.sink.now) (g.S.Sink.held c.answer.new.sink) (g.S.Sink.held c.take_all.new.sink) (g.S.Sink.faults c.args.sink.now) (g.S.Sink.faults c.answer.new.sink) (g.S.Sink.faults c.take_all.new.sink)
+    handled_then (g.S.Sink.state c.args.sink.now) (g.S.Sink.state c.answer.new.sink) (g.S.Sink.state c.take_all.new.sink)
     r c.args.when.moment s c.answer.new.self e c.in-Err-take_all.fault
     (c.in-Ok.ensures.chooses r s e
     (gave_mind r c.args.when.moment s c.args.self.now _ e _ _ _ (sym c.self.view_is) gave)
-    (heard_so _ s.mind _ _ _ _ (ap (λ (z : Session). z.mind) c.self.view_is ∙ same) told c.hear_connected.ensures))
+    (heard_so _ s.mind _ _ _ _ (ap (λ (z : Session KEnd). z.mind) c.self.view_is ∙ same) told c.hear_connected.ensures))
     (c.in-Err-take_all.ensures.chooses r)
 
 pub returns-clause-chooses : goal.returns-clause-chooses
 returns-clause-chooses g c = λ entries s e gave same told.
     let r = rules entries c.args.when.setup in
-    handled_done (g.S.Sink.held c.args.sink.now) (g.S.Sink.held c.answer.new.sink) (g.S.Sink.held c.take_all.new.sink) (g.S.Sink.faults c.args.sink.now) (g.S.Sink.faults c.answer.new.sink) (g.S.Sink.faults c.take_all.new.sink)
+    handled_done (g.S.Sink.state c.args.sink.now) (g.S.Sink.state c.answer.new.sink) (g.S.Sink.state c.take_all.new.sink)
     r c.args.when.moment s c.answer.new.self c.take_all.new.self c.part.new.self e
     (c.in-Ok.ensures.chooses r s e
     (gave_mind r c.args.when.moment s c.args.self.now _ e _ _ _ (sym c.self.view_is) gave)
-    (heard_so _ s.mind _ _ _ _ (ap (λ (z : Session). z.mind) c.self.view_is ∙ same) told c.hear_connected.ensures))
+    (heard_so _ s.mind _ _ _ _ (ap (λ (z : Session KEnd). z.mind) c.self.view_is ∙ same) told c.hear_connected.ensures))
     (c.in-Ok-take_all.ensures.chooses r) (c.part.ensures.parts entries)

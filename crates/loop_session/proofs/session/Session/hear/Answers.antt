@@ -1,4 +1,6 @@
 use Rattle.std.proofs.Common.{◌≤◌, ◌<◌, ℕ, length, subst, sym, refl, ap}
+use Rattle.er_end.specs.KeptEnds.{KEnd}
+use Rattle.loop_session.specs.Keeping.{kept_ends}
 use Rattle.std.proofs.lemmas.Result.{err_from_is_err_and}
 use Rattle.loop_model.specs.Sessions.{Session, Hears, nothing_said, handled}
 use Rattle.loop_session.specs.Parts.{rules}
@@ -9,7 +11,7 @@ use Rattle.loop_session.proofs.session.Session.hear.Goals as goal
 pub returns-in_err-given-clause-chooses : goal.returns-in_err-given-clause-chooses
 returns-in_err-given-clause-chooses g c =
     let p = err_from_is_err_and c.from_residual.result c.from_residual.ensures.1 in
-    wanted (g.S.Sink.held c.args.sink.now) (g.S.Sink.faults c.args.sink.now) _ nothing_said (handled (rules (g.K.KeyFinder.entries c.args.keys.now) c.args.when.setup) c.args.when.moment c.args.self.now (Hears c.args.octets.now)) c.from_residual.result p.0 _ p.1 p.2
+    wanted (g.S.Sink.state c.args.sink.now) _ nothing_said (handled kept_ends (rules (g.K.KeyFinder.entries c.args.keys.now) c.args.when.setup) c.args.when.moment c.args.self.now (Hears c.args.octets.now)) c.from_residual.result p.0 _ p.1 p.2
 
 pub returns-in-Ok-clause-chooses : goal.returns-in-Ok-clause-chooses
 returns-in-Ok-clause-chooses g c =
@@ -17,7 +19,7 @@ returns-in-Ok-clause-chooses g c =
     c.in-Ok.ensures.chooses entries c.args.self.now (Hears c.args.octets.now)
     (gave_of (rules entries c.args.when.setup) c.args.when.moment c.args.self.now _ (Hears c.args.octets.now) _ _ c.clear.new.self.items c.in_ok-given.given.1.fits
     (sym c.self.view_is) refl refl c.in_ok-given.ensures.end c.clear.ensures.items c.in_ok-given.ensures.text c.in_ok-given.ensures.joins c.in_ok-given.ensures.grammar)
-    (ap (λ (z : Session). z.mind) c.self.view_is)
+    (ap (λ (z : Session KEnd). z.mind) c.self.view_is)
     (told_as (rules entries c.args.when.setup) c.args.when.moment c.args.self.now _ (Hears c.args.octets.now) _ (sym c.self.view_is) c.in_ok-given.ensures.heard)
 
 pub returns-in-Err-clause-chooses : goal.returns-in-Err-clause-chooses
@@ -26,7 +28,7 @@ returns-in-Err-clause-chooses g c =
     c.in-Err.ensures.chooses entries c.args.self.now (Hears c.args.octets.now)
     (gave_of (rules entries c.args.when.setup) c.args.when.moment c.args.self.now _ (Hears c.args.octets.now) _ _ c.clear.new.self.items c.in_ok-given.given.1.fits
     (sym c.self.view_is) refl refl c.in_ok-given.ensures.end c.clear.ensures.items c.in_ok-given.ensures.text c.in_ok-given.ensures.joins c.in_ok-given.ensures.grammar)
-    (ap (λ (z : Session). z.mind) c.self.view_is)
+    (ap (λ (z : Session KEnd). z.mind) c.self.view_is)
     (told_as (rules entries c.args.when.setup) c.args.when.moment c.args.self.now _ (Hears c.args.octets.now) _ (sym c.self.view_is) c.in_ok-given.ensures.heard)
 
 pub returns-in-Ok-clause-within : goal.returns-in-Ok-clause-within

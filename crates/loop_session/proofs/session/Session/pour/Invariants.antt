@@ -5,10 +5,10 @@ use Rattle.loop_session.proofs.session.Session.pour.Given as goal
 abbrev pub invariant-loop-at : goal.invariant-loop-at
 invariant-loop-at g l = record {
   pours : Pouring (rules (g.K.KeyFinder.entries l.fn.keys) l.fn.when.setup) l.fn.when.moment l.octets l.at
-      (g.S.Sink.held l.fn.sink) (g.S.Sink.held l.sink) (g.S.Sink.faults l.fn.sink) (g.S.Sink.faults l.sink) l.fn.self l.self;
+      (g.S.Sink.state l.fn.sink) (g.S.Sink.state l.sink) l.fn.self l.self;
   most : l.at ≤ length l.octets;
   number : l.self.number ≡ l.fn.self.number;
-  later : g.S.Sink.faults l.fn.sink ≤ g.S.Sink.faults l.sink;
+  later : (g.S.Sink.state l.fn.sink).faults ≤ (g.S.Sink.state l.sink).faults;
 }
 
 abbrev pub decreases-loop-at : goal.decreases-loop-at

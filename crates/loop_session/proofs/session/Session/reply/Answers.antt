@@ -5,7 +5,7 @@ use Rattle.loop_session.proofs.session.Session.reply.Goals as goal
 
 pub loop-k-init : goal.loop-k-init
 loop-k-init g c = record {
-  prints = λ r. reply_none (g.S.Sink.held c.args.sink.now) (g.S.Sink.faults c.args.sink.now) r c.args.moment c.args.self.now c.args.scratch.now.replies.texts;
+  prints = λ r. reply_none (g.S.Sink.state c.args.sink.now) r c.args.moment c.args.self.now c.args.scratch.now.replies.texts;
   same = refl;
   number = refl;
   later = omega arith;
@@ -14,8 +14,7 @@ loop-k-init g c = record {
 pub returns-in-Err-clause-prints : goal.returns-in-Err-clause-prints
 returns-in-Err-clause-prints g c = λ r.
     let few : c.loop-k.k < length c.args.scratch.now.replies.texts = omega (arith, c.loop-k-test.true, c.len-k-end.ensures.len) in
-    reply_broke (g.S.Sink.held c.args.sink.now) (g.S.Sink.held c.loop-k.sink) (g.S.Sink.held c.send.new.sink)
-    (g.S.Sink.faults c.args.sink.now) (g.S.Sink.faults c.loop-k.sink) (g.S.Sink.faults c.send.new.sink)
+    reply_broke (g.S.Sink.state c.args.sink.now) (g.S.Sink.state c.loop-k.sink) (g.S.Sink.state c.send.new.sink)
     r c.args.moment c.args.self.now c.loop-k.self c.loop-k.k c.args.scratch.now.replies c.text.result.now c.text.result.now c.in-Err.fault few
     (c.text.ensures.text ∙ ap (λ (z : Spoken). slice_index_or z.texts c.loop-k.k c.text.result.now) c.loop-k.invariant.same)
     (c.loop-k.invariant.prints r) (c.in-Err.ensures.prints r)
@@ -25,8 +24,7 @@ loop-k-preserved g c =
     let few : c.loop-k.k < length c.args.scratch.now.replies.texts = omega (arith, c.loop-k-test.true, c.len-k-end.ensures.len) in
     record {
       prints = λ r.
-          reply_more (g.S.Sink.held c.args.sink.now) (g.S.Sink.held c.loop-k.sink) (g.S.Sink.held c.send.new.sink)
-          (g.S.Sink.faults c.args.sink.now) (g.S.Sink.faults c.loop-k.sink) (g.S.Sink.faults c.send.new.sink)
+          reply_more (g.S.Sink.state c.args.sink.now) (g.S.Sink.state c.loop-k.sink) (g.S.Sink.state c.send.new.sink)
           r c.args.moment c.args.self.now c.loop-k.self c.send.new.self c.loop-k.k c.args.scratch.now.replies.texts c.text.result.now c.text.result.now few
           (c.text.ensures.text ∙ ap (λ (z : Spoken). slice_index_or z.texts c.loop-k.k c.text.result.now) c.loop-k.invariant.same)
           (c.loop-k.invariant.prints r) (c.in-Ok.ensures.prints r);
@@ -38,8 +36,7 @@ loop-k-preserved g c =
 pub returns-in-Some-clause-prints : goal.returns-in-Some-clause-prints
 returns-in-Some-clause-prints g c = λ r.
     let all : c.loop-k.k ≡ length c.args.scratch.now.replies.texts = omega (arith, c.loop-k-test.false, c.loop-k.auto.k-end, c.len-k-end.ensures.len) in
-    reply_leaves (g.S.Sink.held c.args.sink.now) (g.S.Sink.held c.loop-k.sink) (g.S.Sink.held c.leave.new.sink)
-    (g.S.Sink.faults c.args.sink.now) (g.S.Sink.faults c.loop-k.sink) (g.S.Sink.faults c.leave.new.sink)
+    reply_leaves (g.S.Sink.state c.args.sink.now) (g.S.Sink.state c.loop-k.sink) (g.S.Sink.state c.leave.new.sink)
     r c.args.moment c.args.self.now c.loop-k.self c.leave.new.self c.loop-k.k c.args.scratch.now.replies c.in-Some.sub c.leave.result all
     (ap (λ (z : Spoken). z.leave) (sym c.loop-k.invariant.same) ∙ sym c.in-Some.ensures)
     (c.loop-k.invariant.prints r) (c.leave.ensures.prints r)

@@ -1,31 +1,32 @@
 use Rattle.std.proofs.Common.{◌≡◌, ◌<◌, length, refl, ap, ◌∙◌, arith}
-use Rattle.er_end.specs.KeptEnds.{waiting_in}
+use Rattle.loop_session.specs.Keeping.{kept_ends}
+use Rattle.er_end.specs.KeptEnds.{KEnd, waiting_in}
 use Rattle.loop_model.specs.Sessions.{Session, Takes, waiting, dealt}
 use Rattle.loop_session.proofs.Deals.{went_none, went_more, takes_done, takes_broke}
 use Rattle.loop_session.proofs.session.Session.take_all.Goals as goal
 
 pub loop-init : goal.loop-init
-loop-init g c = record { went = λ r. went_none (g.S.Sink.held c.args.sink.now) (g.S.Sink.faults c.args.sink.now) (λ t free. dealt r c.args.moment t Takes free) c.args.self.now; number = refl; later = omega arith }
+loop-init g c = record { went = λ r. went_none (g.S.Sink.state c.args.sink.now) (λ t free. dealt kept_ends r c.args.moment t Takes free) c.args.self.now; number = refl; later = omega arith }
 
 pub returns-in-Err-clause-chooses : goal.returns-in-Err-clause-chooses
 returns-in-Err-clause-chooses g c = λ r.
-    let same : length (waiting_in c.self.inside.end) ≡ waiting c.args.self.now = ap (λ (z : Session). waiting z) c.self.view_is in
-    let few : c.loop.counter < waiting c.args.self.now = omega (arith, c.loop-test.true, c.waiting-end.ensures.value, same) in
-    takes_broke (g.S.Sink.held c.args.sink.now) (g.S.Sink.held c.loop.sink) (g.S.Sink.held c.take.new.sink) (g.S.Sink.faults c.args.sink.now) (g.S.Sink.faults c.loop.sink) (g.S.Sink.faults c.take.new.sink)
+    let same : length (waiting_in c.self.inside.end) ≡ waiting kept_ends c.args.self.now = ap (λ (z : Session KEnd). waiting kept_ends z) c.self.view_is in
+    let few : c.loop.counter < waiting kept_ends c.args.self.now = omega (arith, c.loop-test.true, c.waiting-end.ensures.value, same) in
+    takes_broke (g.S.Sink.state c.args.sink.now) (g.S.Sink.state c.loop.sink) (g.S.Sink.state c.take.new.sink)
     r c.args.moment c.args.self.now c.loop.self c.loop.counter c.in-Err.fault few
     (c.loop.invariant.went r) (c.in-Err.ensures.chooses r)
 
 pub loop-preserved : goal.loop-preserved
 loop-preserved g c = record {
   went = λ r.
-      went_more c.loop.counter (g.S.Sink.held c.args.sink.now) (g.S.Sink.held c.loop.sink) (g.S.Sink.held c.take.new.sink) (g.S.Sink.faults c.args.sink.now) (g.S.Sink.faults c.loop.sink) (g.S.Sink.faults c.take.new.sink)
-      (λ t free. dealt r c.args.moment t Takes free) c.args.self.now c.loop.self c.take.new.self (c.loop.invariant.went r) (c.in-Ok.ensures.chooses r);
+      went_more c.loop.counter (g.S.Sink.state c.args.sink.now) (g.S.Sink.state c.loop.sink) (g.S.Sink.state c.take.new.sink)
+      (λ t free. dealt kept_ends r c.args.moment t Takes free) c.args.self.now c.loop.self c.take.new.self (c.loop.invariant.went r) (c.in-Ok.ensures.chooses r);
   number = c.in-Ok.ensures.number ∙ c.loop.invariant.number;
   later = omega (arith, c.in-Ok.ensures.later, c.loop.invariant.later);
 }
 
 pub returns-clause-chooses : goal.returns-clause-chooses
 returns-clause-chooses g c = λ r.
-    let same : length (waiting_in c.self.inside.end) ≡ waiting c.args.self.now = ap (λ (z : Session). waiting z) c.self.view_is in
-    let all : c.loop.counter ≡ waiting c.args.self.now = omega (arith, c.loop-test.false, c.loop.auto.counter-end, c.waiting-end.ensures.value, same) in
-    takes_done (g.S.Sink.held c.args.sink.now) (g.S.Sink.held c.loop.sink) (g.S.Sink.faults c.args.sink.now) (g.S.Sink.faults c.loop.sink) r c.args.moment c.args.self.now c.loop.self c.loop.counter all (c.loop.invariant.went r)
+    let same : length (waiting_in c.self.inside.end) ≡ waiting kept_ends c.args.self.now = ap (λ (z : Session KEnd). waiting kept_ends z) c.self.view_is in
+    let all : c.loop.counter ≡ waiting kept_ends c.args.self.now = omega (arith, c.loop-test.false, c.loop.auto.counter-end, c.waiting-end.ensures.value, same) in
+    takes_done (g.S.Sink.state c.args.sink.now) (g.S.Sink.state c.loop.sink) r c.args.moment c.args.self.now c.loop.self c.loop.counter all (c.loop.invariant.went r)

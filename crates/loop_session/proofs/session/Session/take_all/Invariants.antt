@@ -1,12 +1,13 @@
 use Rattle.std.proofs.Common.{◌≡◌, ◌≤◌}
+use Rattle.loop_session.specs.Keeping.{kept_ends}
 use Rattle.loop_model.specs.Sessions.{Rules, Takes, dealt}
 use Rattle.loop_session.specs.Parts.{WentSome}
 use Rattle.loop_session.proofs.session.Session.take_all.Given as goal
 
 abbrev pub invariant-loop : goal.invariant-loop
 invariant-loop g l = record {
-  went : (r : Rules) → WentSome l.counter (g.S.Sink.held l.fn.sink) (g.S.Sink.held l.sink) (g.S.Sink.faults l.fn.sink) (g.S.Sink.faults l.sink)
-      (λ t free. dealt r l.fn.moment t Takes free) l.fn.self l.self;
+  went : (r : Rules) → WentSome l.counter (g.S.Sink.state l.fn.sink) (g.S.Sink.state l.sink)
+      (λ t free. dealt kept_ends r l.fn.moment t Takes free) l.fn.self l.self;
   number : l.self.number ≡ l.fn.self.number;
-  later : g.S.Sink.faults l.fn.sink ≤ g.S.Sink.faults l.sink;
+  later : (g.S.Sink.state l.fn.sink).faults ≤ (g.S.Sink.state l.sink).faults;
 }

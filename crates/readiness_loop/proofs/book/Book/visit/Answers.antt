@@ -5,54 +5,54 @@ use Rattle.readiness_loop.proofs.book.Book.visit.Goals as goal
 
 pub returns-in_default-clause-does : goal.returns-in_default-clause-does
 returns-in_default-clause-does g c =
-    nobody_did _ _ (g.W.Wires.opened c.args.wires.now) c.args.number c.args.self.now.slots c.args.self.now.places c.requires.seated
+    nobody_did _ _ (g.W.Wires.state c.args.wires.now).opened c.args.number c.args.self.now.slots c.args.self.now.places c.requires.seated
     (sym c.get.ensures.value ∙ sym c.in_default.ensures)
 
 pub returns-in_default-get_mut-clause-does : goal.returns-in_default-get_mut-clause-does
 returns-in_default-get_mut-clause-does g c =
-    empty_did _ _ (g.W.Wires.opened c.args.wires.now) c.args.number c.in-Some.slot c.args.self.now.slots c.args.self.now.places c.requires.seated
+    empty_did _ _ (g.W.Wires.state c.args.wires.now).opened c.args.number c.in-Some.slot c.args.self.now.slots c.args.self.now.places c.requires.seated
     (sym c.get.ensures.value ∙ sym c.in-Some.ensures) (sym c.in_default-get_mut.ensures.value)
 
 pub returns-in-Ok-clause-does : goal.returns-in-Ok-clause-does
 returns-in-Ok-clause-does g c =
-    stays_did _ _ _ (g.W.Wires.opened c.args.wires.now) c.args.number c.in-Some.slot c.args.self.now.slots c.args.self.now.places
+    stays_did _ _ _ (g.W.Wires.state c.args.wires.now).opened c.args.number c.in-Some.slot c.args.self.now.slots c.args.self.now.places
     c.in-Some-get_mut.session.now c.visit_session.new.session c.in-Ok-true.field-0 c.requires.seated
     (sym c.get.ensures.value ∙ sym c.in-Some.ensures) (sym c.in-Some-get_mut.ensures.value) c.in-Ok-true.field-0-test c.in-Ok-true.ensures.does
 
 pub returns-in-Ok-clause-seated : goal.returns-in-Ok-clause-seated
 returns-in-Ok-clause-seated g c =
-    stays_seated (g.W.Wires.opened c.args.wires.now) (g.W.Wires.opened c.visit_session.new.wires) c.args.number c.in-Some.slot c.args.self.now.slots c.args.self.now.places
+    stays_seated (g.W.Wires.state c.args.wires.now).opened (g.W.Wires.state c.visit_session.new.wires).opened c.args.number c.in-Some.slot c.args.self.now.slots c.args.self.now.places
     c.in-Some-get_mut.session.now c.visit_session.new.session c.visit_session.ensures.opened c.requires.seated
     (sym c.get.ensures.value ∙ sym c.in-Some.ensures) (sym c.in-Some-get_mut.ensures.value) c.visit_session.ensures.number
 
 pub returns-in-Ok-change-clause-does : goal.returns-in-Ok-change-clause-does
 returns-in-Ok-change-clause-does g c =
-    closes_did _ _ _ (g.W.Wires.opened c.args.wires.now) c.args.number c.in-Some.slot c.args.self.now.slots c.try_remove.new.self c.args.self.now.places c.remove.new.self
+    closes_did _ _ _ (g.W.Wires.state c.args.wires.now).opened c.args.number c.in-Some.slot c.args.self.now.slots c.try_remove.new.self c.args.self.now.places c.remove.new.self
     c.in-Some-get_mut.session.now c.visit_session.new.session c.in-Ok-false.field-0 c.requires.seated
     (sym c.get.ensures.value ∙ sym c.in-Some.ensures) (sym c.in-Some-get_mut.ensures.value) c.in-Ok-false.field-0-test c.in-Ok-false.ensures.does
     c.remove.ensures.entries c.try_remove.ensures.updates
 
 pub returns-in-Ok-change-clause-seated : goal.returns-in-Ok-change-clause-seated
 returns-in-Ok-change-clause-seated g c =
-    closes_seated (g.W.Wires.opened c.args.wires.now) (g.W.Wires.opened c.visit_session.new.wires) c.args.number c.in-Some.slot c.args.self.now.slots c.try_remove.new.self c.args.self.now.places c.remove.new.self
+    closes_seated (g.W.Wires.state c.args.wires.now).opened (g.W.Wires.state c.visit_session.new.wires).opened c.args.number c.in-Some.slot c.args.self.now.slots c.try_remove.new.self c.args.self.now.places c.remove.new.self
     c.in-Some-get_mut.session.now c.visit_session.new.session c.visit_session.ensures.opened c.requires.seated
     (sym c.get.ensures.value ∙ sym c.in-Some.ensures) (sym c.in-Some-get_mut.ensures.value) c.remove.ensures.entries c.try_remove.ensures.updates
 
 pub returns-in-Err-clause-does : goal.returns-in-Err-clause-does
 returns-in-Err-clause-does g c =
-    stopped_visit _ _ _ (g.W.Wires.opened c.args.wires.now) c.args.number c.in-Some.slot c.args.self.now.slots c.args.self.now.places
+    stopped_visit _ _ _ (g.W.Wires.state c.args.wires.now).opened c.args.number c.in-Some.slot c.args.self.now.slots c.args.self.now.places
     c.in-Some-get_mut.session.now c.in-Err.fault c.requires.seated
     (sym c.get.ensures.value ∙ sym c.in-Some.ensures) (sym c.in-Some-get_mut.ensures.value) c.in-Err.ensures.does
 
 pub returns-in-Err-change-clause-does : goal.returns-in-Err-change-clause-does
 returns-in-Err-change-clause-does g c =
-    wanted_visit _ _ _ (g.W.Wires.opened c.args.wires.now) c.args.number c.in-Some.slot c.args.self.now.slots c.args.self.now.places
+    wanted_visit _ _ _ (g.W.Wires.state c.args.wires.now).opened c.args.number c.in-Some.slot c.args.self.now.slots c.args.self.now.places
     c.in-Some-get_mut.session.now c.visit_session.new.session c.in-Ok-true.field-0 c.in-Err-change.want c.requires.seated
     (sym c.get.ensures.value ∙ sym c.in-Some.ensures) (sym c.in-Some-get_mut.ensures.value) c.in-Ok-true.ensures.does
 
 pub returns-in-Err-change-2-clause-does : goal.returns-in-Err-change-2-clause-does
 returns-in-Err-change-2-clause-does g c =
-    wanted_visit _ _ _ (g.W.Wires.opened c.args.wires.now) c.args.number c.in-Some.slot c.args.self.now.slots c.args.self.now.places
+    wanted_visit _ _ _ (g.W.Wires.state c.args.wires.now).opened c.args.number c.in-Some.slot c.args.self.now.slots c.args.self.now.places
     c.in-Some-get_mut.session.now c.visit_session.new.session c.in-Ok-false.field-0 c.in-Err-change-2.want c.requires.seated
     (sym c.get.ensures.value ∙ sym c.in-Some.ensures) (sym c.in-Some-get_mut.ensures.value) c.in-Ok-false.ensures.does
 
@@ -70,12 +70,12 @@ change-requires-in-Ok-false g c =
 
 pub returns-in-Ok-clause-awaited : goal.returns-in-Ok-clause-awaited
 returns-in-Ok-clause-awaited g c =
-    awaited_stays (g.W.Wires.opened c.args.wires.now) c.args.number c.in-Some.slot c.args.self.now.slots c.args.self.now.places c.args.self.now.wake_times.pairs c.change.new.self.pairs
+    awaited_stays (g.W.Wires.state c.args.wires.now).opened c.args.number c.in-Some.slot c.args.self.now.slots c.args.self.now.places c.args.self.now.wake_times.pairs c.change.new.self.pairs
     c.in-Some-get_mut.session.now c.visit_session.new.session c.wakes-now.result c.requires.seated c.requires.awaited
     (sym c.get.ensures.value ∙ sym c.in-Some.ensures) (sym c.in-Some-get_mut.ensures.value) c.wakes-now.ensures c.in-Ok.ensures
 
 pub returns-in-Ok-change-clause-awaited : goal.returns-in-Ok-change-clause-awaited
 returns-in-Ok-change-clause-awaited g c =
-    awaited_closes (g.W.Wires.opened c.args.wires.now) c.args.number c.in-Some.slot c.args.self.now.slots c.try_remove.new.self c.args.self.now.places c.remove.new.self
+    awaited_closes (g.W.Wires.state c.args.wires.now).opened c.args.number c.in-Some.slot c.args.self.now.slots c.try_remove.new.self c.args.self.now.places c.remove.new.self
     c.args.self.now.wake_times.pairs c.change-in-Ok-false.new.self.pairs c.in-Some-get_mut.session.now c.visit_session.new.session c.requires.seated c.requires.awaited
     (sym c.get.ensures.value ∙ sym c.in-Some.ensures) (sym c.in-Some-get_mut.ensures.value) c.try_remove.ensures.updates c.remove.ensures.updates c.remove.ensures.ordered c.in-Ok-change.ensures

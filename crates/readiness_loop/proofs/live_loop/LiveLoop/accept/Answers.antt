@@ -1,14 +1,14 @@
 use Rattle.std.proofs.Common.{◌≡◌, map, length, vec_len, [], ◌∷◌, refl, sym, ◌∙◌, ap, append-nil, rules}
 use Rattle.std.proofs.lemmas.List.{map-append}
-use Rattle.loop_visit.specs.Acting.{seen}
+use Rattle.loop_visit.specs.Seeing.{seen}
 use Rattle.readiness_loop.specs.Courses.{plan_of, loop_of}
 use Rattle.readiness_loop.proofs.Acceptings.{accept_full, accept_unserved, accept_answered, same_loop, away_seated, answered_state, few_sessions, many_sessions, empty_list}
 use Rattle.readiness_loop.proofs.live_loop.LiveLoop.accept.Goals as goal
 
 pub returns-then-len-ge-MOST_LIVE-clause-does : goal.returns-then-len-ge-MOST_LIVE-clause-does
 returns-then-len-ge-MOST_LIVE-clause-does g c = λ entries.
-    accept_full (seen (g.S.Sink.held c.args.sink.now) (g.S.Sink.faults c.args.sink.now) (g.W.Wires.calls c.args.wires.now) (g.W.Wires.faults c.args.wires.now))
-    (seen (g.S.Sink.held c.turn_away.new.sink) (g.S.Sink.faults c.turn_away.new.sink) (g.W.Wires.calls c.turn_away.new.wires) (g.W.Wires.faults c.turn_away.new.wires))
+    accept_full (seen (g.S.Sink.state c.args.sink.now) (g.W.Wires.state c.args.wires.now))
+    (seen (g.S.Sink.state c.turn_away.new.sink) (g.W.Wires.state c.turn_away.new.wires))
     (plan_of entries c.args.plan.now) (loop_of c.args.self.now.book.slots c.args.self.now.book.places (map g.U.SafeUser.mind c.args.self.now.users.items) c.args.self.now.moment (g.R.Rng.stream c.args.randoms.now)) _ c.args.conn.0 c.turn_away.result
     (many_sessions _ c.len.result c.args.self.now.book.slots c.args.self.now.book.places.entries c.requires.seated c.len.ensures c.if-len-ge-MOST_LIVE.true)
     (same_loop c.args.self.now.book.slots c.turn_away.new.self.book.slots c.args.self.now.book.places c.turn_away.new.self.book.places _ _ c.args.self.now.moment c.turn_away.new.self.moment _
@@ -22,8 +22,8 @@ returns-then-len-ge-MOST_LIVE-clause-seated g c =
 
 pub returns-in-Some-clause-does : goal.returns-in-Some-clause-does
 returns-in-Some-clause-does g c = λ entries.
-    accept_answered (g.S.Sink.held c.args.sink.now) (g.S.Sink.held c.answer.new.sink) (g.S.Sink.faults c.args.sink.now) (g.S.Sink.faults c.answer.new.sink)
-    (g.W.Wires.calls c.args.wires.now) (g.W.Wires.faults c.args.wires.now)
+    accept_answered (g.S.Sink.state c.args.sink.now) (g.S.Sink.state c.answer.new.sink)
+    (g.W.Wires.state c.args.wires.now)
     (plan_of entries c.args.plan.now) (loop_of c.args.self.now.book.slots c.args.self.now.book.places (map g.U.SafeUser.mind c.args.self.now.users.items) c.args.self.now.moment (g.R.Rng.stream c.args.randoms.now)) _ (map g.U.SafeUser.mind c.pop.new.self.items) (g.U.SafeUser.mind c.in-Some.user) c.args.conn.0 c.answer.result
     (few_sessions _ c.len.result c.args.self.now.book.slots c.args.self.now.book.places.entries c.requires.seated c.len.ensures c.if-len-ge-MOST_LIVE.false)
     (ap (map g.U.SafeUser.mind) c.in-Some.ensures.items ∙ map-append g.U.SafeUser.mind c.pop.new.self.items (c.in-Some.user ∷ []))
@@ -37,8 +37,8 @@ returns-in-None-clause-does g c = λ entries.
     let length_is : length c.args.self.now.users.items ≡ vec_len c.args.self.now.users = search rules in
     let none : c.args.self.now.users.items ≡ [] = empty_list c.args.self.now.users.items (length_is ∙ c.in-None.ensures.cases.0) in
     let same : c.pop.new.self.items ≡ c.args.self.now.users.items = sym (append-nil c.pop.new.self.items) ∙ sym c.in-None.ensures.items in
-    accept_unserved (seen (g.S.Sink.held c.args.sink.now) (g.S.Sink.faults c.args.sink.now) (g.W.Wires.calls c.args.wires.now) (g.W.Wires.faults c.args.wires.now))
-    (seen (g.S.Sink.held c.turn_away-in-None.new.sink) (g.S.Sink.faults c.turn_away-in-None.new.sink) (g.W.Wires.calls c.turn_away-in-None.new.wires) (g.W.Wires.faults c.turn_away-in-None.new.wires))
+    accept_unserved (seen (g.S.Sink.state c.args.sink.now) (g.W.Wires.state c.args.wires.now))
+    (seen (g.S.Sink.state c.turn_away-in-None.new.sink) (g.W.Wires.state c.turn_away-in-None.new.wires))
     (plan_of entries c.args.plan.now) (loop_of c.args.self.now.book.slots c.args.self.now.book.places (map g.U.SafeUser.mind c.args.self.now.users.items) c.args.self.now.moment (g.R.Rng.stream c.args.randoms.now)) _ c.args.conn.0 c.turn_away-in-None.result
     (few_sessions _ c.len.result c.args.self.now.book.slots c.args.self.now.book.places.entries c.requires.seated c.len.ensures c.if-len-ge-MOST_LIVE.false)
     (ap (map g.U.SafeUser.mind) none)

@@ -1,5 +1,5 @@
 use Rattle.std.proofs.Common.{map, [], ◌∷◌, ◌++◌, refl, ap}
-use Rattle.loop_visit.specs.Acting.{seen}
+use Rattle.loop_visit.specs.Seeing.{seen}
 use Rattle.readiness_loop.specs.Books.{sessions}
 use Rattle.readiness_loop.specs.Courses.{plan_of, loop_of, around}
 use Rattle.readiness_loop.proofs.Acceptings.{length_sessions, same_loop}
@@ -9,8 +9,8 @@ use Rattle.readiness_loop.proofs.live_loop.LiveLoop.go.Goals as goal
 pub returns-then-has_closed-clause-does : goal.returns-then-has_closed-clause-does
 returns-then-has_closed-clause-does g c = λ asked.
     go_closed_from (plan_of (g.K.KeyFinder.entries c.args.keys.now) c.args.plan.now)
-    (around (seen (g.S.Sink.held c.args.sink.now) (g.S.Sink.faults c.args.sink.now) (g.W.Wires.calls c.args.wires.now) (g.W.Wires.faults c.args.wires.now)) (g.W.Wires.turn_faults c.args.wires.now) (g.W.Wires.opened c.args.wires.now) (g.W.Wires.listening c.args.wires.now) (g.C.Clock.answers c.args.clock.now))
-    (around (seen (g.S.Sink.held c.before-2.new.sink) (g.S.Sink.faults c.before-2.new.sink) (g.W.Wires.calls c.before-2.new.wires) (g.W.Wires.faults c.before-2.new.wires)) (g.W.Wires.turn_faults c.before-2.new.wires) (g.W.Wires.opened c.before-2.new.wires) (g.W.Wires.listening c.before-2.new.wires) (g.C.Clock.answers c.now.new.self))
+    (around (g.S.Sink.state c.args.sink.now) (g.W.Wires.state c.args.wires.now) (g.C.Clock.state c.args.clock.now))
+    (around (g.S.Sink.state c.before-2.new.sink) (g.W.Wires.state c.before-2.new.wires) (g.C.Clock.state c.now.new.self))
     (loop_of c.args.self.now.book.slots c.args.self.now.book.places (map g.U.SafeUser.mind c.args.self.now.users.items) c.args.self.now.moment (g.R.Rng.stream c.args.randoms.now))
     (loop_of c.before-2.new.self.book.slots c.before-2.new.self.book.places (map g.U.SafeUser.mind c.before-2.new.self.users.items) c.before-2.new.self.moment (g.R.Rng.stream c.args.randoms.now)) (sessions c.before-2.new.self.book.slots c.before-2.new.self.book.places) c.args.self.now.turns c.before-2.new.self.turns c.now.result c.max-self.result asked
     c.max-self.ensures c.now.ensures.told c.in-Ok.ensures.does c.before-2.ensures.opened c.before-2.ensures.turn_count c.before-2.ensures.listening
@@ -20,9 +20,9 @@ returns-then-has_closed-clause-does g c = λ asked.
 pub returns-else-has_closed-clause-does : goal.returns-else-has_closed-clause-does
 returns-else-has_closed-clause-does g c = λ asked.
     go_on_from (plan_of (g.K.KeyFinder.entries c.args.keys.now) c.args.plan.now)
-    (around (seen (g.S.Sink.held c.args.sink.now) (g.S.Sink.faults c.args.sink.now) (g.W.Wires.calls c.args.wires.now) (g.W.Wires.faults c.args.wires.now)) (g.W.Wires.turn_faults c.args.wires.now) (g.W.Wires.opened c.args.wires.now) (g.W.Wires.listening c.args.wires.now) (g.C.Clock.answers c.args.clock.now))
-    (around (seen (g.S.Sink.held c.before-2.new.sink) (g.S.Sink.faults c.before-2.new.sink) (g.W.Wires.calls c.before-2.new.wires) (g.W.Wires.faults c.before-2.new.wires)) (g.W.Wires.turn_faults c.before-2.new.wires) (g.W.Wires.opened c.before-2.new.wires) (g.W.Wires.listening c.before-2.new.wires) (g.C.Clock.answers c.now.new.self))
-    (around (seen (g.S.Sink.held c.turn.new.sink) (g.S.Sink.faults c.turn.new.sink) (g.W.Wires.calls c.turn.new.wires) (g.W.Wires.faults c.turn.new.wires)) (g.W.Wires.turn_faults c.turn.new.wires) (g.W.Wires.opened c.turn.new.wires) (g.W.Wires.listening c.turn.new.wires) (g.C.Clock.answers c.turn.new.clock))
+    (around (g.S.Sink.state c.args.sink.now) (g.W.Wires.state c.args.wires.now) (g.C.Clock.state c.args.clock.now))
+    (around (g.S.Sink.state c.before-2.new.sink) (g.W.Wires.state c.before-2.new.wires) (g.C.Clock.state c.now.new.self))
+    (around (g.S.Sink.state c.turn.new.sink) (g.W.Wires.state c.turn.new.wires) (g.C.Clock.state c.turn.new.clock))
     (loop_of c.args.self.now.book.slots c.args.self.now.book.places (map g.U.SafeUser.mind c.args.self.now.users.items) c.args.self.now.moment (g.R.Rng.stream c.args.randoms.now))
     (loop_of c.before-2.new.self.book.slots c.before-2.new.self.book.places (map g.U.SafeUser.mind c.before-2.new.self.users.items) c.before-2.new.self.moment (g.R.Rng.stream c.args.randoms.now)) _ (sessions c.before-2.new.self.book.slots c.before-2.new.self.book.places) c.args.self.now.turns c.before-2.new.self.turns c.turn.new.self.turns c.now.result c.max-self.result asked c.turn.result
     c.max-self.ensures c.now.ensures.told c.in-Ok.ensures.does c.before-2.ensures.opened c.before-2.ensures.turn_count c.before-2.ensures.listening
@@ -32,6 +32,6 @@ returns-else-has_closed-clause-does g c = λ asked.
 pub returns-in-Err-clause-does : goal.returns-in-Err-clause-does
 returns-in-Err-clause-does g c = λ asked.
     go_stops (plan_of (g.K.KeyFinder.entries c.args.keys.now) c.args.plan.now)
-    (around (seen (g.S.Sink.held c.args.sink.now) (g.S.Sink.faults c.args.sink.now) (g.W.Wires.calls c.args.wires.now) (g.W.Wires.faults c.args.wires.now)) (g.W.Wires.turn_faults c.args.wires.now) (g.W.Wires.opened c.args.wires.now) (g.W.Wires.listening c.args.wires.now) (g.C.Clock.answers c.args.clock.now))
-    (around (seen (g.S.Sink.held c.before-2.new.sink) (g.S.Sink.faults c.before-2.new.sink) (g.W.Wires.calls c.before-2.new.wires) (g.W.Wires.faults c.before-2.new.wires)) (g.W.Wires.turn_faults c.before-2.new.wires) (g.W.Wires.opened c.before-2.new.wires) (g.W.Wires.listening c.before-2.new.wires) (g.C.Clock.answers c.now.new.self))
+    (around (g.S.Sink.state c.args.sink.now) (g.W.Wires.state c.args.wires.now) (g.C.Clock.state c.args.clock.now))
+    (around (g.S.Sink.state c.before-2.new.sink) (g.W.Wires.state c.before-2.new.wires) (g.C.Clock.state c.now.new.self))
     (loop_of c.args.self.now.book.slots c.args.self.now.book.places (map g.U.SafeUser.mind c.args.self.now.users.items) c.args.self.now.moment (g.R.Rng.stream c.args.randoms.now)) _ c.args.self.now.turns c.before-2.new.self.turns c.now.result c.max-self.result asked c.in-Err.fault c.max-self.ensures c.in-Err.ensures.does

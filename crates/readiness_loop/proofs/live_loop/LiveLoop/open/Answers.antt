@@ -1,6 +1,6 @@
 use Rattle.std.proofs.Common.{rules, ◌≡◌, map, length, vec_len, [], ◌∷◌, Ok, Err, false, refl, sym, ◌∙◌, ap, append-nil}
 use Rattle.std.proofs.lemmas.List.{map-append}
-use Rattle.loop_visit.specs.Acting.{seen}
+use Rattle.loop_visit.specs.Seeing.{seen}
 use Rattle.readiness_loop.specs.Books.{sessions}
 use Rattle.readiness_loop.specs.Claims.{pair_of}
 use Rattle.readiness_loop.specs.Courses.{plan_of, caller_of, loop_of, around}
@@ -11,13 +11,13 @@ use Rattle.readiness_loop.proofs.live_loop.LiveLoop.open.Goals as goal
 pub returns-in-Some-clause-does : goal.returns-in-Some-clause-does
 returns-in-Some-clause-does g c = λ asked.
     opened_from (plan_of (pair_of c.args.pair.now.engine c.args.pair.now.rbc c.args.pair.now.kmac ∷ []) c.args.plan.now) (caller_of c.args.pair.now.engine c.args.pair.now.kmac)
-    (around (seen (g.S.Sink.held c.args.sink.now) (g.S.Sink.faults c.args.sink.now) (g.W.Wires.calls c.args.wires.now) (g.W.Wires.faults c.args.wires.now)) (g.W.Wires.turn_faults c.args.wires.now) (g.W.Wires.opened c.args.wires.now) (g.W.Wires.listening c.args.wires.now) (g.C.Clock.answers c.args.clock.now))
-    (around (seen (g.S.Sink.held c.call.new.sink) (g.S.Sink.faults c.call.new.sink) (g.W.Wires.calls c.call.new.wires) (g.W.Wires.faults c.call.new.wires)) (g.W.Wires.turn_faults c.call.new.wires) (g.W.Wires.opened c.call.new.wires) (g.W.Wires.listening c.call.new.wires) (g.C.Clock.answers c.now.new.self))
+    (around (g.S.Sink.state c.args.sink.now) (g.W.Wires.state c.args.wires.now) (g.C.Clock.state c.args.clock.now))
+    (around (g.S.Sink.state c.call.new.sink) (g.W.Wires.state c.call.new.wires) (g.C.Clock.state c.now.new.self))
     (loop_of c.args.self.now.book.slots c.args.self.now.book.places (map g.U.SafeUser.mind c.args.self.now.users.items) c.args.self.now.moment (g.R.Rng.stream c.args.randoms.now))
     (loop_of c.call.new.self.book.slots c.call.new.self.book.places (map g.U.SafeUser.mind c.call.new.self.users.items) c.call.new.self.moment (g.R.Rng.stream c.call.new.randoms)) c.args.self.now.turns c.call.new.self.turns c.max-self.result c.now.result c.args.conn.0 asked c.call.result
     c.call.ensures.turns c.max-self.ensures c.now.ensures.most c.now.ensures.told
-    (open_called (seen (g.S.Sink.held c.args.sink.now) (g.S.Sink.faults c.args.sink.now) (g.W.Wires.calls c.args.wires.now) (g.W.Wires.faults c.args.wires.now))
-    (seen (g.S.Sink.held c.call.new.sink) (g.S.Sink.faults c.call.new.sink) (g.W.Wires.calls c.call.new.wires) (g.W.Wires.faults c.call.new.wires))
+    (open_called (seen (g.S.Sink.state c.args.sink.now) (g.W.Wires.state c.args.wires.now))
+    (seen (g.S.Sink.state c.call.new.sink) (g.W.Wires.state c.call.new.wires))
     (plan_of (pair_of c.args.pair.now.engine c.args.pair.now.rbc c.args.pair.now.kmac ∷ []) c.args.plan.now) (caller_of c.args.pair.now.engine c.args.pair.now.kmac)
     (loop_of c.args.self.now.book.slots c.args.self.now.book.places (map g.U.SafeUser.mind c.args.self.now.users.items) c.max-self.result (g.R.Rng.stream c.args.randoms.now))
     (loop_of c.call.new.self.book.slots c.call.new.self.book.places (map g.U.SafeUser.mind c.call.new.self.users.items) c.call.new.self.moment (g.R.Rng.stream c.call.new.randoms)) (sessions c.call.new.self.book.slots c.call.new.self.book.places) (map g.U.SafeUser.mind c.pop.new.self.items) (g.U.SafeUser.mind c.in-Some.user) c.args.conn.0 c.call.result
@@ -26,7 +26,7 @@ returns-in-Some-clause-does g c = λ asked.
     c.call.ensures.stream (ap (λ v. map g.U.SafeUser.mind v.items) c.call.ensures.users) c.call.ensures.moment)
     c.call.ensures.does)
     c.call.ensures.opened c.call.ensures.turn_count c.call.ensures.listening
-    (halts_so (plan_of (pair_of c.args.pair.now.engine c.args.pair.now.rbc c.args.pair.now.kmac ∷ []) c.args.plan.now) (g.W.Wires.opened c.call.new.wires) c.call.new.self.book.slots c.call.new.self.book.places c.call.result c.requires.dials c.call.ensures.seated c.call.ensures.stays)
+    (halts_so (plan_of (pair_of c.args.pair.now.engine c.args.pair.now.rbc c.args.pair.now.kmac ∷ []) c.args.plan.now) (g.W.Wires.state c.call.new.wires).opened c.call.new.self.book.slots c.call.new.self.book.places c.call.result c.requires.dials c.call.ensures.seated c.call.ensures.stays)
 
 pub returns-in-Ok-clause-does : goal.returns-in-Ok-clause-does
 returns-in-Ok-clause-does g c = λ asked.
@@ -34,13 +34,13 @@ returns-in-Ok-clause-does g c = λ asked.
     let none : c.args.self.now.users.items ≡ [] = empty_list c.args.self.now.users.items (length_is ∙ c.in-None.ensures.cases.0) in
     let same : c.pop.new.self.items ≡ c.args.self.now.users.items = sym (append-nil c.pop.new.self.items) ∙ sym c.in-None.ensures.items in
     opened_from (plan_of (pair_of c.args.pair.now.engine c.args.pair.now.rbc c.args.pair.now.kmac ∷ []) c.args.plan.now) (caller_of c.args.pair.now.engine c.args.pair.now.kmac)
-    (around (seen (g.S.Sink.held c.args.sink.now) (g.S.Sink.faults c.args.sink.now) (g.W.Wires.calls c.args.wires.now) (g.W.Wires.faults c.args.wires.now)) (g.W.Wires.turn_faults c.args.wires.now) (g.W.Wires.opened c.args.wires.now) (g.W.Wires.listening c.args.wires.now) (g.C.Clock.answers c.args.clock.now))
-    (around (seen (g.S.Sink.held c.turn_away.new.sink) (g.S.Sink.faults c.turn_away.new.sink) (g.W.Wires.calls c.turn_away.new.wires) (g.W.Wires.faults c.turn_away.new.wires)) (g.W.Wires.turn_faults c.turn_away.new.wires) (g.W.Wires.opened c.turn_away.new.wires) (g.W.Wires.listening c.turn_away.new.wires) (g.C.Clock.answers c.now.new.self))
+    (around (g.S.Sink.state c.args.sink.now) (g.W.Wires.state c.args.wires.now) (g.C.Clock.state c.args.clock.now))
+    (around (g.S.Sink.state c.turn_away.new.sink) (g.W.Wires.state c.turn_away.new.wires) (g.C.Clock.state c.now.new.self))
     (loop_of c.args.self.now.book.slots c.args.self.now.book.places (map g.U.SafeUser.mind c.args.self.now.users.items) c.args.self.now.moment (g.R.Rng.stream c.args.randoms.now))
     (loop_of c.turn_away.new.self.book.slots c.turn_away.new.self.book.places (map g.U.SafeUser.mind c.turn_away.new.self.users.items) c.turn_away.new.self.moment (g.R.Rng.stream c.args.randoms.now)) c.args.self.now.turns c.turn_away.new.self.turns c.max-self.result c.now.result c.args.conn.0 asked (Ok false)
     c.turn_away.ensures.turns c.max-self.ensures c.now.ensures.most c.now.ensures.told
-    (unserved_did (seen (g.S.Sink.held c.args.sink.now) (g.S.Sink.faults c.args.sink.now) (g.W.Wires.calls c.args.wires.now) (g.W.Wires.faults c.args.wires.now))
-    (seen (g.S.Sink.held c.turn_away.new.sink) (g.S.Sink.faults c.turn_away.new.sink) (g.W.Wires.calls c.turn_away.new.wires) (g.W.Wires.faults c.turn_away.new.wires))
+    (unserved_did (seen (g.S.Sink.state c.args.sink.now) (g.W.Wires.state c.args.wires.now))
+    (seen (g.S.Sink.state c.turn_away.new.sink) (g.W.Wires.state c.turn_away.new.wires))
     (plan_of (pair_of c.args.pair.now.engine c.args.pair.now.rbc c.args.pair.now.kmac ∷ []) c.args.plan.now) (caller_of c.args.pair.now.engine c.args.pair.now.kmac)
     (loop_of c.args.self.now.book.slots c.args.self.now.book.places (map g.U.SafeUser.mind c.args.self.now.users.items) c.max-self.result (g.R.Rng.stream c.args.randoms.now))
     (loop_of c.turn_away.new.self.book.slots c.turn_away.new.self.book.places (map g.U.SafeUser.mind c.turn_away.new.self.users.items) c.turn_away.new.self.moment (g.R.Rng.stream c.args.randoms.now)) c.args.conn.0 (ap (map g.U.SafeUser.mind) none)
@@ -52,7 +52,7 @@ returns-in-Ok-clause-does g c = λ asked.
 
 pub returns-in-Ok-clause-seated : goal.returns-in-Ok-clause-seated
 returns-in-Ok-clause-seated g c =
-    no_seats (g.W.Wires.opened c.turn_away.new.wires) c.turn_away.new.self.book.slots c.turn_away.new.self.book.places.entries
+    no_seats (g.W.Wires.state c.turn_away.new.wires).opened c.turn_away.new.self.book.slots c.turn_away.new.self.book.places.entries
     (ap (λ b. b.places.entries) c.turn_away.ensures.book ∙ c.requires.empty)
 
 pub returns-in-Err-clause-does : goal.returns-in-Err-clause-does
@@ -60,13 +60,13 @@ returns-in-Err-clause-does g c = λ asked.
     let length_is : length c.args.self.now.users.items ≡ vec_len c.args.self.now.users = search rules in
     let none : c.args.self.now.users.items ≡ [] = empty_list c.args.self.now.users.items (length_is ∙ c.in-None.ensures.cases.0) in
     opened_from (plan_of (pair_of c.args.pair.now.engine c.args.pair.now.rbc c.args.pair.now.kmac ∷ []) c.args.plan.now) (caller_of c.args.pair.now.engine c.args.pair.now.kmac)
-    (around (seen (g.S.Sink.held c.args.sink.now) (g.S.Sink.faults c.args.sink.now) (g.W.Wires.calls c.args.wires.now) (g.W.Wires.faults c.args.wires.now)) (g.W.Wires.turn_faults c.args.wires.now) (g.W.Wires.opened c.args.wires.now) (g.W.Wires.listening c.args.wires.now) (g.C.Clock.answers c.args.clock.now))
-    (around (seen (g.S.Sink.held c.turn_away.new.sink) (g.S.Sink.faults c.turn_away.new.sink) (g.W.Wires.calls c.turn_away.new.wires) (g.W.Wires.faults c.turn_away.new.wires)) (g.W.Wires.turn_faults c.turn_away.new.wires) (g.W.Wires.opened c.turn_away.new.wires) (g.W.Wires.listening c.turn_away.new.wires) (g.C.Clock.answers c.now.new.self))
+    (around (g.S.Sink.state c.args.sink.now) (g.W.Wires.state c.args.wires.now) (g.C.Clock.state c.args.clock.now))
+    (around (g.S.Sink.state c.turn_away.new.sink) (g.W.Wires.state c.turn_away.new.wires) (g.C.Clock.state c.now.new.self))
     (loop_of c.args.self.now.book.slots c.args.self.now.book.places (map g.U.SafeUser.mind c.args.self.now.users.items) c.args.self.now.moment (g.R.Rng.stream c.args.randoms.now))
     (loop_of c.turn_away.new.self.book.slots c.turn_away.new.self.book.places (map g.U.SafeUser.mind c.turn_away.new.self.users.items) c.turn_away.new.self.moment (g.R.Rng.stream c.args.randoms.now)) c.args.self.now.turns c.turn_away.new.self.turns c.max-self.result c.now.result c.args.conn.0 asked (Err c.in-Err.fault)
     c.turn_away.ensures.turns c.max-self.ensures c.now.ensures.most c.now.ensures.told
-    (unserved_breaks (seen (g.S.Sink.held c.args.sink.now) (g.S.Sink.faults c.args.sink.now) (g.W.Wires.calls c.args.wires.now) (g.W.Wires.faults c.args.wires.now))
-    (seen (g.S.Sink.held c.turn_away.new.sink) (g.S.Sink.faults c.turn_away.new.sink) (g.W.Wires.calls c.turn_away.new.wires) (g.W.Wires.faults c.turn_away.new.wires))
+    (unserved_breaks (seen (g.S.Sink.state c.args.sink.now) (g.W.Wires.state c.args.wires.now))
+    (seen (g.S.Sink.state c.turn_away.new.sink) (g.W.Wires.state c.turn_away.new.wires))
     (plan_of (pair_of c.args.pair.now.engine c.args.pair.now.rbc c.args.pair.now.kmac ∷ []) c.args.plan.now) (caller_of c.args.pair.now.engine c.args.pair.now.kmac)
     (loop_of c.args.self.now.book.slots c.args.self.now.book.places (map g.U.SafeUser.mind c.args.self.now.users.items) c.max-self.result (g.R.Rng.stream c.args.randoms.now))
     c.args.conn.0 c.in-Err.fault (ap (map g.U.SafeUser.mind) none)

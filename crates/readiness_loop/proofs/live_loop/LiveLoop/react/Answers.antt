@@ -1,5 +1,5 @@
 use Rattle.std.proofs.Common.{map, refl}
-use Rattle.loop_visit.specs.Acting.{seen}
+use Rattle.loop_visit.specs.Seeing.{seen}
 use Rattle.readiness_loop.specs.Courses.{plan_of, loop_of}
 use Rattle.readiness_loop.specs.Books.{sessions}
 use Rattle.readiness_loop.proofs.Turning.{accept_does, read_does, write_does, quiet_did, ended_did, failed_did}
@@ -7,21 +7,21 @@ use Rattle.readiness_loop.proofs.live_loop.LiveLoop.react.Goals as goal
 
 pub returns-in-Accepted-clause-does : goal.returns-in-Accepted-clause-does
 returns-in-Accepted-clause-does g c =
-    accept_does (seen (g.S.Sink.held c.args.sink.now) (g.S.Sink.faults c.args.sink.now) (g.W.Wires.calls c.args.wires.now) (g.W.Wires.faults c.args.wires.now))
-    (seen (g.S.Sink.held c.accept.new.sink) (g.S.Sink.faults c.accept.new.sink) (g.W.Wires.calls c.accept.new.wires) (g.W.Wires.faults c.accept.new.wires))
+    accept_does (seen (g.S.Sink.state c.args.sink.now) (g.W.Wires.state c.args.wires.now))
+    (seen (g.S.Sink.state c.accept.new.sink) (g.W.Wires.state c.accept.new.wires))
     (plan_of (g.K.KeyFinder.entries c.args.keys.now) c.args.plan.now) (loop_of c.args.self.now.book.slots c.args.self.now.book.places (map g.U.SafeUser.mind c.args.self.now.users.items) c.args.self.now.moment (g.R.Rng.stream c.args.randoms.now)) _ c.args.happening c.in-Accepted.conn c.accept.result c.in-Accepted.is
     (c.accept.ensures.does (g.K.KeyFinder.entries c.args.keys.now))
 
 pub returns-in-Readable-clause-does : goal.returns-in-Readable-clause-does
 returns-in-Readable-clause-does g c =
-    read_does (seen (g.S.Sink.held c.args.sink.now) (g.S.Sink.faults c.args.sink.now) (g.W.Wires.calls c.args.wires.now) (g.W.Wires.faults c.args.wires.now))
-    (seen (g.S.Sink.held c.visit.new.sink) (g.S.Sink.faults c.visit.new.sink) (g.W.Wires.calls c.visit.new.wires) (g.W.Wires.faults c.visit.new.wires))
+    read_does (seen (g.S.Sink.state c.args.sink.now) (g.W.Wires.state c.args.wires.now))
+    (seen (g.S.Sink.state c.visit.new.sink) (g.W.Wires.state c.visit.new.wires))
     (plan_of (g.K.KeyFinder.entries c.args.keys.now) c.args.plan.now) (loop_of c.args.self.now.book.slots c.args.self.now.book.places (map g.U.SafeUser.mind c.args.self.now.users.items) c.args.self.now.moment (g.R.Rng.stream c.args.randoms.now)) _ (sessions c.visit.new.self.slots c.visit.new.self.places) c.args.happening c.in-Readable.conn c.visit.result c.in-Readable.is refl c.visit.ensures.does
 
 pub returns-in-Writable-clause-does : goal.returns-in-Writable-clause-does
 returns-in-Writable-clause-does g c =
-    write_does (seen (g.S.Sink.held c.args.sink.now) (g.S.Sink.faults c.args.sink.now) (g.W.Wires.calls c.args.wires.now) (g.W.Wires.faults c.args.wires.now))
-    (seen (g.S.Sink.held c.visit-in-Writable.new.sink) (g.S.Sink.faults c.visit-in-Writable.new.sink) (g.W.Wires.calls c.visit-in-Writable.new.wires) (g.W.Wires.faults c.visit-in-Writable.new.wires))
+    write_does (seen (g.S.Sink.state c.args.sink.now) (g.W.Wires.state c.args.wires.now))
+    (seen (g.S.Sink.state c.visit-in-Writable.new.sink) (g.W.Wires.state c.visit-in-Writable.new.wires))
     (plan_of (g.K.KeyFinder.entries c.args.keys.now) c.args.plan.now) (loop_of c.args.self.now.book.slots c.args.self.now.book.places (map g.U.SafeUser.mind c.args.self.now.users.items) c.args.self.now.moment (g.R.Rng.stream c.args.randoms.now)) _ (sessions c.visit-in-Writable.new.self.slots c.visit-in-Writable.new.self.places) c.args.happening c.in-Writable.conn c.visit-in-Writable.result c.in-Writable.is refl c.visit-in-Writable.ensures.does
 
 pub returns-in-Quiet-clause-does : goal.returns-in-Quiet-clause-does

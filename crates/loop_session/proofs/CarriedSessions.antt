@@ -1,0 +1,114 @@
+-- What a loop does at a session without calls, carried to ends of another kind.
+use Rattle.std.proofs.Common.{◌≡◌, ◌∙◌, ℕ, ◌+◌, true, ◌||◌, List, [], ◌∷◌, ◌++◌, length, take, drop, Option, Some, None, refl, ap, ap₂}
+use Rattle.std.specs.Prelude.{◌==◌, nat_lt}
+use Rattle.er_base.specs.declared.release.Release.{Release}
+use Rattle.er_settings.specs.declared.settings.Settings.{Settings}
+use Rattle.end_model.specs.Outcomes.{Outcome}
+use Rattle.er_trace.specs.declared.event.Event.{Event}
+use Rattle.er_trace.specs.declared.event.Event.TheVariants as event
+use Rattle.er_users.specs.Users.{Mind, Said}
+use Rattle.loop_model.specs.Ends.{EndOps}
+use Rattle.loop_model.specs.Journals.{Entry}
+use Rattle.loop_model.specs.Outs.{runs, exactly}
+use Rattle.loop_model.specs.Sessions.{Rules, Session, most_output, Given, Begins, Hears, Sends, Takes, Leaves, Ticks, Ends, Faults, Stalls, event_of, breaks, octets_in, heard_in, hears, silence, parts, Says, nothing_said, written, end_after, outcomes_of, entry_of, stalled, joined, fed, dealt, waiting, takes_all, parted, handled, poured, pours}
+use Rattle.loop_session.specs.Giving.{happened}
+use Rattle.loop_session.proofs.Carrying.{Carries, carried, read_carried, first_carried, if_carried, runs_carried}
+
+module _ {E F : Type 0} (settings : Settings) (o : EndOps E) (p : EndOps F) (h : E → F) (c : Carries settings o p h) where
+  -- ---- one event
+
+  end_same : (r : Rules) (m : ℕ) (k : E) (g : Given) → end_after p r m (h k) g ≡ h (end_after o r m k g)
+  unfolding end_after
+  end_same r m k g = c.happens m (event_of r g) k
+
+  told_same : (r : Rules) (m : ℕ) (k : E) (g : Given) → outcomes_of p r m (h k) g ≡ outcomes_of o r m k g
+  unfolding outcomes_of
+  told_same r m k g = c.tells m (event_of r g) k
+
+  line_same : (k : E) (g : Given) → written p (h k) g ≡ written o k g
+  line_same k (Begins engine rbc rb) = refl
+  line_same k (Hears octets) = ap (λ (n : ℕ). event.Octets (take n octets)) (c.used k octets)
+  line_same k (Sends text) = refl
+  line_same k Takes = refl
+  line_same k (Leaves sub) = refl
+  line_same k Ticks = refl
+  line_same k Ends = refl
+  line_same k Faults = refl
+  line_same k Stalls = refl
+
+  entry_same : (r : Rules) (m : ℕ) (s : Session E) (g : Given) → entry_of p r m (carried h s) g ≡ entry_of o r m s g
+  entry_same r m s g = ap₂ (λ (e : Event) (os : List Outcome). happened m s.number e os) (line_same s.end g) (told_same r m s.end g)
+
+  stalled_same : (r : Rules) (m : ℕ) (s : Session E) → stalled p r m (carried h s) ≡ first_carried (carried h) (stalled o r m s)
+  stalled_same r m s = ap₂ (λ (k : F) (x : Entry). (record (carried h s) { end = k; broken = true }, x ∷ [])) (end_same r m s.end Stalls) (entry_same r m s Stalls)
+
+  joined_same : (r : Rules) (m : ℕ) (s : Session E) (octets : List ℕ) → joined p r m (carried h s) octets ≡ first_carried (carried h) (joined o r m s octets)
+  unfolding joined
+  joined_same r m s octets =
+      let b = nat_lt most_output (length s.output + length octets) in
+      if_carried (first_carried (carried h)) b b (stalled o r m s) (record s { output = s.output ++ octets }, [])
+      (stalled p r m (carried h s)) (record (carried h s) { output = s.output ++ octets }, []) refl (stalled_same r m s) refl
+
+  fed_same : (r : Rules) (m : ℕ) (s : Session E) (g : Given) → fed p r m (carried h s) g ≡ first_carried (carried h) (fed o r m s g)
+  unfolding fed
+  fed_same r m s g =
+      let t : Session E = record s { end = end_after o r m s.end g; broken = s.broken || breaks g } in
+      let feeds : F → List Outcome → Entry → Session F × List Entry = λ k os x.
+      let b = joined p r m (record (carried h s) { end = k; broken = s.broken || breaks g }) (octets_in os) in (b.0, x ∷ b.1) in
+      ap (λ (k : F). feeds k (outcomes_of p r m (h s.end) g) (entry_of p r m (carried h s) g)) (end_same r m s.end g)
+      ∙ ap (λ (os : List Outcome). feeds (h t.end) os (entry_of p r m (carried h s) g)) (told_same r m s.end g)
+      ∙ ap (λ (x : Entry). feeds (h t.end) (outcomes_of o r m s.end g) x) (entry_same r m s g)
+      ∙ ap (λ (b : Session F × List Entry). (b.0, entry_of o r m s g ∷ b.1)) (joined_same r m t (octets_in (outcomes_of o r m s.end g)))
+
+  -- ---- events with what follows them
+
+  dealt_same : (r : Rules) (m : ℕ) (s : Session E) (g : Given) (free : Said) → dealt p r m (carried h s) g free ≡ first_carried (carried h) (dealt o r m s g free)
+  unfolding dealt
+  dealt_same r m s g free =
+      let deals : Session F × List Entry → List Outcome → Session F × List Entry = λ a os.
+      let b = hears s.mind (heard_in os) free in let q = runs (fed p r m) (record a.0 { mind = b.0 }) b.1 in (q.0, a.1 ++ q.1) in
+      let a = fed o r m s g in
+      let b = hears s.mind (heard_in (outcomes_of o r m s.end g)) free in
+      ap₂ deals (fed_same r m s g) (told_same r m s.end g)
+      ∙ ap (λ (q : Session F × List Entry). (q.0, a.1 ++ q.1)) (runs_carried (carried h) (fed o r m) (fed p r m) (fed_same r m) (record a.0 { mind = b.0 }) b.1)
+
+  takes_all_same : (r : Rules) (m : ℕ) (s : Session E) (frees : List Said) → takes_all p r m (carried h s) frees ≡ first_carried (carried h) (takes_all o r m s frees)
+  unfolding takes_all
+  takes_all_same r m s frees =
+      ap (λ (n : ℕ). runs (λ (t : Session F) (free : Said). dealt p r m t Takes free) (carried h s) (exactly n silence frees)) (c.waiting s.end)
+      ∙ runs_carried (carried h) (λ (t : Session E) (free : Said). dealt o r m t Takes free) (λ (t : Session F) (free : Said). dealt p r m t Takes free)
+      (λ t free. dealt_same r m t Takes free) s (exactly (waiting o s) silence frees)
+
+  parts_same : (why : Option Release) (mind : Option Mind) (at : ℕ) (s : Session E) → parts why mind at (carried h s) ≡ carried h (parts why mind at s)
+  parts_same None mind at s = refl
+  parts_same (Some release) None at s = refl
+  parts_same (Some release) (Some mind) at s = refl
+
+  parted_same : (r : Rules) (m : ℕ) (s : Session E) → parted p r m (carried h s) ≡ carried h (parted o r m s)
+  parted_same r m s =
+      ap (λ (why : Option Release). parts why s.mind (m + r.setup) (carried h s)) (c.released s.end) ∙ parts_same (o.released s.end) s.mind (m + r.setup) s
+
+  pub handled_same : (r : Rules) (m : ℕ) (s : Session E) (g : Given) (says : Says) → handled p r m (carried h s) g says ≡ first_carried (carried h) (handled o r m s g says)
+  unfolding handled
+  handled_same r m s g says =
+      let a = dealt o r m s g says.first in
+      let b = takes_all o r m a.0 says.rest in
+      ap (λ (z : Session F × List Entry). let d = takes_all p r m z.0 says.rest in (parted p r m d.0, z.1 ++ d.1)) (dealt_same r m s g says.first)
+      ∙ ap (λ (d : Session F × List Entry). (parted p r m d.0, a.1 ++ d.1)) (takes_all_same r m a.0 says.rest)
+      ∙ ap (λ (t : Session F). (t, a.1 ++ b.1)) (parted_same r m b.0)
+
+  -- ---- octets of a read
+
+  poured_same : (r : Rules) (m : ℕ) (x : Session E × List ℕ) (says : Says) → poured p r m (read_carried h x) says ≡ first_carried (read_carried h) (poured o r m x says)
+  unfolding poured
+  poured_same r m x says =
+      let b = (length x.1 == 0) || x.0.broken in
+      if_carried (first_carried (read_carried h)) b b (x, []) (let a = handled o r m x.0 (Hears x.1) says in ((a.0, drop (o.used x.0.end x.1) x.1), a.1))
+      (read_carried h x, []) (let a = handled p r m (carried h x.0) (Hears x.1) says in ((a.0, drop (p.used (h x.0.end) x.1) x.1), a.1)) refl refl
+      (ap₂ (λ (a : Session F × List Entry) (n : ℕ). ((a.0, drop n x.1), a.1)) (handled_same r m x.0 (Hears x.1) says) (c.used x.0.end x.1))
+
+  pub pours_same : (r : Rules) (m : ℕ) (s : Session E) (octets : List ℕ) (says : List Says) → pours p r m (carried h s) octets says ≡ first_carried (carried h) (pours o r m s octets says)
+  unfolding pours
+  pours_same r m s octets says =
+      ap (λ (a : (Session F × List ℕ) × List Entry). (a.0.0, a.1))
+      (runs_carried (read_carried h) (poured o r m) (poured p r m) (poured_same r m) (s, octets) (exactly (length octets) nothing_said says))
