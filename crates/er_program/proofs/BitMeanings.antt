@@ -7,13 +7,13 @@ use Rattle.er_program.specs.Commands.{Bits}
 use Rattle.er_program.specs.LastLines.{fault_line}
 use Rattle.er_program.specs.Answers.{Answer, Files, HasFetched, IsFetchedBits, bits_answer}
 use Rattle.er_program.specs.BitTexts.{most_line_octets, bits_text}
-use Rattle.er_program.specs.Runs.{Means}
+use Rattle.er_program.specs.FileMeans.{FileMeans}
 
 abbrev Names : Type 0
 Names = Option (List (List ℕ))
 
 means_read : (name file : List ℕ) (files : Files) (p q : Names) (c d f g : ℕ) (before now : Option (List ℕ)) (status : ℕ)
-    → HasFile files name file → length file ≤ most_line_octets → status ≡ (bits_answer file).status → status ≡ 0 → Grew before now (bits_text file) → Means (Bits name) files p q c d f g before now status
+    → HasFile files name file → length file ≤ most_line_octets → status ≡ (bits_answer file).status → status ≡ 0 → Grew before now (bits_text file) → FileMeans (Bits name) files p q c d f g before now status
 means_read name file files p q c d f g before now status stands short has is printed = record {
   known = inl is;
   done = λ h. record { file = file; stands = stands; short = short; printed = printed };
@@ -28,7 +28,7 @@ means_read name file files p q c d f g before now status stands short has is pri
 }
 
 means_long : (name file : List ℕ) (files : Files) (p q : Names) (c d f g : ℕ) (before now : Option (List ℕ)) (status : ℕ)
-    → HasFile files name file → most_line_octets < length file → status ≡ (bits_answer file).status → status ≡ 3 → Grew before now (fault_line 0 (codes "long")) → Means (Bits name) files p q c d f g before now status
+    → HasFile files name file → most_line_octets < length file → status ≡ (bits_answer file).status → status ≡ 3 → Grew before now (fault_line 0 (codes "long")) → FileMeans (Bits name) files p q c d f g before now status
 means_long name file files p q c d f g before now status stands long has is printed = record {
   known = inr (inr (inr (inl is)));
   done = λ h. absurd (omega arith);
@@ -43,7 +43,7 @@ means_long name file files p q c d f g before now status stands long has is prin
 }
 
 means_file : (name file : List ℕ) (files : Files) (p q : Names) (c d f g : ℕ) (before now : Option (List ℕ)) (status : ℕ)
-    → HasFile files name file → status ≡ (bits_answer file).status → Grew before now (bits_answer file).text → Means (Bits name) files p q c d f g before now status
+    → HasFile files name file → status ≡ (bits_answer file).status → Grew before now (bits_answer file).text → FileMeans (Bits name) files p q c d f g before now status
 means_file name file files p q c d f g before now status stands has printed =
     elim (cases_lt 16777216 (length file)) [
       | inl long ↦
@@ -58,7 +58,7 @@ means_file name file files p q c d f g before now status stands has printed =
 -- the name was fetched or not
 pub means_bits : (name : List ℕ) (fetched : Option (List ℕ)) (a : Answer) (files : Files) (p q : Names) (c d f g : ℕ) (before now : Option (List ℕ)) (status : ℕ)
     → Grew p q (name ∷ []) → HasFetched name fetched files c d → IsFetchedBits name fetched a
-    → status ≡ a.status → Grew before now a.text → Means (Bits name) files p q c d f g before now status
+    → status ≡ a.status → Grew before now a.text → FileMeans (Bits name) files p q c d f g before now status
 means_bits name None a files p q c d f g before now status asked rose answers stated printed =
     let is : status ≡ 2 = stated ∙ ap (λ (x : Answer). x.status) answers in
     record {

@@ -8,7 +8,8 @@ use Rattle.er_program.specs.Commands.{Bulk}
 use Rattle.er_program.specs.LastLines.{overfull_line}
 use Rattle.er_program.specs.BulkTexts.{bulk_plan, steps_of_bulk, totals_of_bulk, totals_line, AllDone, FirstOverfull}
 use Rattle.er_program.specs.Answers.{Answer, Files, IsBulkAnswer, AllAreCounted, TooManyWait}
-use Rattle.er_program.specs.Runs.{HoldsInBulk, HasBulkStatus, Means}
+use Rattle.er_program.specs.Runs.{HoldsInBulk, HasBulkStatus}
+use Rattle.er_program.specs.FileMeans.{FileMeans}
 
 -- what is claimed of a world holds at every moment of the steps of a bulk run that are done
 abbrev pub BulkHolds : Type 0
@@ -23,7 +24,7 @@ zero_where_done seed count a (TooManyWait f is) all =
 
 means_counted : BulkHolds → (seed count : ℕ) (files : Files) (p q : Names) (c d f g : ℕ) (before now : Option (List ℕ)) (status : ℕ)
     → AllDone bulk_plan (steps_of_bulk seed count) (length (steps_of_bulk seed count)) → HasBulkStatus seed count status → status ≡ 0
-    → Grew before now (totals_line seed count (totals_of_bulk seed count)) → Means (Bulk seed count) files p q c d f g before now status
+    → Grew before now (totals_line seed count (totals_of_bulk seed count)) → FileMeans (Bulk seed count) files p q c d f g before now status
 means_counted law seed count files p q c d f g before now status done has is printed = record {
   known = inl is;
   done = λ h. record { are_done = done; written = printed; holds = law seed count (length (steps_of_bulk seed count)) done };
@@ -39,7 +40,7 @@ means_counted law seed count files p q c d f g before now status done has is pri
 
 means_overfull : BulkHolds → (seed count : ℕ) (files : Files) (p q : Names) (c d f g : ℕ) (before now : Option (List ℕ)) (status : ℕ)
     → (first : FirstOverfull bulk_plan (steps_of_bulk seed count)) → HasBulkStatus seed count status → status ≡ 8
-    → Grew before now (overfull_line first.link first.side first.most) → Means (Bulk seed count) files p q c d f g before now status
+    → Grew before now (overfull_line first.link first.side first.most) → FileMeans (Bulk seed count) files p q c d f g before now status
 means_overfull law seed count files p q c d f g before now status first has is printed = record {
   known = inr (inr (inr (inr (inr (inr (inr is))))));
   done = λ h. absurd (omega arith);
@@ -62,7 +63,7 @@ has_status seed count a status answers stated = record {
 }
 
 pub means_bulk : BulkHolds → (seed count : ℕ) (a : Answer) (files : Files) (p q : Names) (c d f g : ℕ) (before now : Option (List ℕ)) (status : ℕ)
-    → IsBulkAnswer seed count a → status ≡ a.status → Grew before now a.text → Means (Bulk seed count) files p q c d f g before now status
+    → IsBulkAnswer seed count a → status ≡ a.status → Grew before now a.text → FileMeans (Bulk seed count) files p q c d f g before now status
 means_bulk law seed count a files p q c d f g before now status (AllAreCounted done is) stated printed =
     means_counted law seed count files p q c d f g before now status done (has_status seed count a status (AllAreCounted done is) stated)
     (stated ∙ ap (λ (x : Answer). x.status) is) (subst (λ (x : Answer). Grew before now x.text) is printed)

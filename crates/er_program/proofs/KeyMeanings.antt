@@ -9,7 +9,8 @@ use Rattle.er_program.specs.Commands.{Migrate}
 use Rattle.er_program.specs.KeyLines.{keys_line}
 use Rattle.er_program.specs.LastLines.{memory_line}
 use Rattle.er_program.specs.Answers.{Answer, Files, HasFetched, IsKeyText, IsKeysAnswer, IsFetchedKeys, keys_answer}
-use Rattle.er_program.specs.Runs.{Means, HasKeysStatus}
+use Rattle.er_program.specs.Runs.{HasKeysStatus}
+use Rattle.er_program.specs.FileMeans.{FileMeans}
 
 abbrev Names : Type 0
 Names = Option (List (List ℕ))
@@ -17,7 +18,7 @@ Names = Option (List (List ℕ))
 -- its entries were printed
 means_migrated : (name file : List ℕ) (entries : List Entry) (a : Answer) (files : Files) (p q : Names) (c d f g : ℕ) (before now : Option (List ℕ)) (status : ℕ)
     → HasFile files name file → keys_of file ≡ Ok entries → IsKeyText entries a → HasKeysStatus file status → status ≡ 0 → Grew before now a.text
-    → Means (Migrate name) files p q c d f g before now status
+    → FileMeans (Migrate name) files p q c d f g before now status
 means_migrated name file entries a files p q c d f g before now status stands spelled text has is printed = record {
   known = inl is;
   done = λ h. record { file = file; stands = stands; entries = entries; spelled = spelled; text = a.text; printed = printed; same = text.same };
@@ -34,7 +35,7 @@ means_migrated name file entries a files p q c d f g before now status stands sp
 -- it is refused
 means_keyless : (name file : List ℕ) (fault : KeyFileFault) (files : Files) (p q : Names) (c d f g : ℕ) (before now : Option (List ℕ)) (status : ℕ)
     → Grew p q (name ∷ []) → HasFile files name file → keys_of file ≡ Err fault → HasKeysStatus file status → status ≡ 4 → Grew before now (keys_line fault)
-    → Means (Migrate name) files p q c d f g before now status
+    → FileMeans (Migrate name) files p q c d f g before now status
 means_keyless name file fault files p q c d f g before now status asked stands unspelled has is printed = record {
   known = inr (inr (inr (inr (inl is))));
   done = λ h. absurd (omega arith);
@@ -50,7 +51,7 @@ means_keyless name file fault files p q c d f g before now status asked stands u
 
 -- memory ran out
 means_forgot : (name file : List ℕ) (files : Files) (p q : Names) (c d f g : ℕ) (before now : Option (List ℕ)) (status : ℕ)
-    → status ≡ 7 → Grew before now memory_line → Means (Migrate name) files p q c d f g before now status
+    → status ≡ 7 → Grew before now memory_line → FileMeans (Migrate name) files p q c d f g before now status
 means_forgot name file files p q c d f g before now status is printed = record {
   known = inr (inr (inr (inr (inr (inr (inl is))))));
   done = λ h. absurd (omega arith);
@@ -67,7 +68,7 @@ means_forgot name file files p q c d f g before now status is printed = record {
 -- by the fault
 means_fault : (name file : List ℕ) (fault : KeyFileFault) (files : Files) (p q : Names) (c d f g : ℕ) (before now : Option (List ℕ)) (status : ℕ)
     → Grew p q (name ∷ []) → HasFile files name file → keys_of file ≡ Err fault → HasKeysStatus file status
-    → status ≡ (keys_answer fault).status → Grew before now (keys_answer fault).text → Means (Migrate name) files p q c d f g before now status
+    → status ≡ (keys_answer fault).status → Grew before now (keys_answer fault).text → FileMeans (Migrate name) files p q c d f g before now status
 means_fault name file keys.Document files p q c d f g before now status asked stands un has is printed =
     means_keyless name file keys.Document files p q c d f g before now status asked stands un has is printed
 means_fault name file (keys.Field k x) files p q c d f g before now status asked stands un has is printed =
@@ -88,7 +89,7 @@ means_fault name file (keys.NoMemory want) files p q c d f g before now status a
 -- the file was read
 means_file : (name file : List ℕ) (read : Result (List Entry) KeyFileFault) (a : Answer) (files : Files) (p q : Names) (c d f g : ℕ) (before now : Option (List ℕ)) (status : ℕ)
     → Grew p q (name ∷ []) → HasFile files name file → keys_of file ≡ read → IsKeysAnswer read a → HasKeysStatus file status
-    → status ≡ a.status → Grew before now a.text → Means (Migrate name) files p q c d f g before now status
+    → status ≡ a.status → Grew before now a.text → FileMeans (Migrate name) files p q c d f g before now status
 means_file name file (Ok entries) a files p q c d f g before now status asked stands is text has stated printed =
     means_migrated name file entries a files p q c d f g before now status stands is text has (stated ∙ text.stated) printed
 means_file name file (Err fault) a files p q c d f g before now status asked stands is answers has stated printed =
@@ -98,7 +99,7 @@ means_file name file (Err fault) a files p q c d f g before now status asked sta
 -- the name was fetched or not
 pub means_migrate : (name : List ℕ) (fetched : Option (List ℕ)) (a : Answer) (files : Files) (p q : Names) (c d f g : ℕ) (before now : Option (List ℕ)) (status : ℕ)
     → Grew p q (name ∷ []) → HasFetched name fetched files c d → IsFetchedKeys name fetched a
-    → status ≡ a.status → Grew before now a.text → Means (Migrate name) files p q c d f g before now status
+    → status ≡ a.status → Grew before now a.text → FileMeans (Migrate name) files p q c d f g before now status
 means_migrate name None a files p q c d f g before now status asked rose answers stated printed =
     let is : status ≡ 2 = stated ∙ ap (λ (x : Answer). x.status) answers in
     record {

@@ -19,5 +19,5 @@ pub mod BulkRuns
 pub mod BulkMeanings
 pub mod LineEndings
 pub mod LineMeanings
-pub mod LineDispatch
+pub mod WholeRuns
 pub mod Recordings

@@ -2,120 +2,130 @@
 use Rattle.std.proofs.Common.{◌≡◌, ◌⊎◌, inl, inr, ℕ, ◌≤◌, List, [], ◌∷◌, Option, Some, None, Result, Ok, Err, refl, sym, subst, arith}
 use Rattle.er_base.specs.declared.no_memory.NoMemory.{NoMemory}
 use Rattle.safety_automaton.specs.Keys.{Entry, key_at}
-use Rattle.des_block.specs.declared.triple_key.TripleKey.{TripleKey}
 use Rattle.key_store.specs.declared.key_file_fault.KeyFileFault.{KeyFileFault}
 use Rattle.key_store.specs.declared.key_file_fault.KeyFileFault.TheVariants as keys
 use Rattle.key_store.specs.Answers.{Refuses}
 use Rattle.key_store.specs.KeyFiles.{keys_of}
-use Rattle.link_trait.specs.Outside.{Grew, GrewPart, Rose, HasFile}
-use Rattle.readiness_loop.specs.Claims.{Outside, outside}
-use Rattle.loop_visit.specs.Acting.{seen}
+use Rattle.link_trait.specs.Outside.{Grew, GrewPart, Rose, HasFile, Kept}
 use Rattle.er_program.specs.Answers.{Files, keys_answer}
 use Rattle.er_program.specs.LastLines.{fetch_line}
-use Rattle.er_program.specs.LineCommands.{LineCommand, Serve, Call, key_file_of}
-use Rattle.er_program.specs.LineRuns.{Given, HasKeys, HasNoKey, Looped, LoopFails, LoopBreaks, FailsWith, LacksKey, IsLastLineBegun, OfFetch, OfKeyFile, OfPair, IsLoopBegun, IsLineSinkFailed, RunsOut, BeforeLoop, WithinLoop, with_sink, wires_line, none_line}
-use Rattle.er_program.specs.LineWriting.{LoopEnded, HasLooped, WiresFailed, KeyLacks, LoopBroke, InLoop, InWiresLine, InKeyLine, LoopEnds, FileEnded, FileBroke, FileSpent, FileEnds, LineEnded, NotFetched, WasRead, LineEnds}
+use Rattle.er_program.specs.Commands.{Command, Call}
+use Rattle.er_program.specs.Outsides.{Outside, Traffic, traffic_of, IsLeftAlone}
+use Rattle.er_program.specs.LineRuns.{Given, HasNoKey, LoopFails, LoopBreaks, key_file_of, OfFetch, OfKeyFile, OfPair, NotLooped, Looping, RunsOut, BeforeLoop, WithinLoop, with_sink, wires_line, none_line}
+use Rattle.er_program.specs.LineWriting.{WiresFailed, KeyLacks, InLoop, InWiresLine, InKeyLine, LoopEnds, FileBroke, FileSpent, FileEnds, NotFetched, WasRead, LineBroke, LineEnds}
 use Rattle.er_program.specs.Writing.{Gives}
 use Rattle.er_program.specs.declared.status.Status.{Status}
 use Rattle.er_program.specs.declared.stop.Stop.{Stop}
 use Rattle.er_program.specs.declared.stop.Stop.TheVariants as stop
+use Rattle.er_program.proofs.RunEndings.{has_file_kept}
 
 -- the wires failed in the loop, and the last line was told
-pub loop_failed : (command : LineCommand) (entries : List Entry) (g : Given) (t u : ℕ) (before now : Outside) (held : Option (List ℕ)) (sunk : ℕ) (r : Result Status Stop)
-    → Rose t u → LoopFails command entries g before (with_sink now held sunk) → before.seen.sunk ≤ sunk
-    → Gives (record { status = 6; text = wires_line }) held now.seen.held sunk now.seen.sunk r → ((want : NoMemory) → r ≡ Err (stop.NoMemory want) → ⊥)
-    → LoopEnds command entries g t u before now r
-loop_failed command entries g t u before now held sunk (Ok s) rose fails later gives never =
+pub loop_failed : (command : Command) (entries : List Entry) (g : Given) (before now : Traffic) (held : Option (List ℕ)) (sunk : ℕ) (r : Result Status Stop)
+    → Rose before.turns_failed now.turns_failed → LoopFails command entries g before (with_sink now held sunk) → before.sunk ≤ sunk
+    → Gives (record { status = 6; text = wires_line }) held now.held sunk now.sunk r → ((want : NoMemory) → r ≡ Err (stop.NoMemory want) → ⊥)
+    → LoopEnds command entries g before now r
+loop_failed command entries g before now held sunk (Ok s) rose fails later gives never =
     WiresFailed gives.0 rose (record { held = held; sunk = sunk; fails = fails; last = gives.1 })
-loop_failed command entries g t u before now held sunk (Err stop.Sink) rose fails later gives never =
+loop_failed command entries g before now held sunk (Err stop.Sink) rose fails later gives never =
     (InWiresLine (record { held = held; sunk = sunk; fails = fails; last = gives.0 }), omega (arith, later, gives.1))
-loop_failed command entries g t u before now held sunk (Err (stop.NoMemory want)) rose fails later gives never = absurd (never want refl)
+loop_failed command entries g before now held sunk (Err (stop.NoMemory want)) rose fails later gives never = absurd (never want refl)
 
 -- no key of the pair of a call holds
-pub call_lacks : (keys address : List ℕ) (engine rbc turns : ℕ) (entries : List Entry) (g : Given) (t u : ℕ) (before now : Outside) (moment : ℕ) (r : Result Status Stop)
+pub call_lacks : (keys address : List ℕ) (engine rbc turns : ℕ) (entries : List Entry) (g : Given) (before now : Traffic) (moment : ℕ) (r : Result Status Stop)
     → Grew before.clock now.clock (moment ∷ []) → key_at entries moment engine rbc ≡ None
-    → Gives (record { status = 4; text = none_line engine rbc }) before.seen.held now.seen.held before.seen.sunk now.seen.sunk r
-    → LoopEnds (Call keys address engine rbc turns) entries g t u before now r
-call_lacks keys address engine rbc turns entries g t u before now moment (Ok s) asked none gives =
-    KeyLacks gives.0 (record { moment = moment; asked = asked; none = none }, gives.1)
-call_lacks keys address engine rbc turns entries g t u before now moment (Err stop.Sink) asked none gives =
-    (InKeyLine (record { moment = moment; asked = asked; none = none }, gives.0), gives.1)
-call_lacks keys address engine rbc turns entries g t u before now moment (Err (stop.NoMemory want)) asked none gives = inl gives.0
+    → IsLeftAlone (Call keys address engine rbc turns) before now
+    → Gives (record { status = 4; text = none_line engine rbc }) before.held now.held before.sunk now.sunk r
+    → LoopEnds (Call keys address engine rbc turns) entries g before now r
+call_lacks keys address engine rbc turns entries g before now moment (Ok s) asked none alone gives =
+    KeyLacks gives.0 alone (record { moment = moment; asked = asked; none = none }, gives.1)
+call_lacks keys address engine rbc turns entries g before now moment (Err stop.Sink) asked none alone gives =
+    (InKeyLine alone (record { moment = moment; asked = asked; none = none }, gives.0), gives.1)
+call_lacks keys address engine rbc turns entries g before now moment (Err (stop.NoMemory want)) asked none alone gives = inl (gives.0, alone)
 
 -- ---- the key file
 
-pub file_good : (command : LineCommand) (read : Result (List Entry) KeyFileFault) (entries : List Entry) (g : Given) (t u : ℕ) (before now : Outside) (r : Result Status Stop)
-    → read ≡ Ok entries → LoopEnds command entries g t u before now r → FileEnds command read g t u before now r
-file_good command read entries g t u before now (Ok s) is ends = rw is ends
-file_good command read entries g t u before now (Err stop.Sink) is ends = rw is ends
-file_good command read entries g t u before now (Err (stop.NoMemory want)) is ends = rw is ends
+pub file_good : (command : Command) (read : Result (List Entry) KeyFileFault) (entries : List Entry) (g : Given) (before now : Traffic) (r : Result Status Stop)
+    → read ≡ Ok entries → LoopEnds command entries g before now r → FileEnds command read g before now r
+file_good command read entries g before now (Ok s) is ends = rw is ends
+file_good command read entries g before now (Err stop.Sink) is ends = rw is ends
+file_good command read entries g before now (Err (stop.NoMemory want)) is ends = rw is ends
 
-told : (command : LineCommand) (read : Result (List Entry) KeyFileFault) (fault : KeyFileFault) (g : Given) (t u : ℕ) (before now : Outside) (r : Result Status Stop)
-    → read ≡ Err fault → Gives (keys_answer fault) before.seen.held now.seen.held before.seen.sunk now.seen.sunk r
-    → FileEnds command read g t u before now r
-told command read fault g t u before now (Ok s) is gives = rw is (gives.0, gives.1)
-told command read fault g t u before now (Err stop.Sink) is gives = rw is gives
-told command read fault g t u before now (Err (stop.NoMemory want)) is gives = rw is gives.0
+told : (command : Command) (read : Result (List Entry) KeyFileFault) (fault : KeyFileFault) (g : Given) (before now : Traffic) (r : Result Status Stop)
+    → read ≡ Err fault → IsLeftAlone command before now → Gives (keys_answer fault) before.held now.held before.sunk now.sunk r
+    → FileEnds command read g before now r
+told command read fault g before now (Ok s) is alone gives = rw is (gives.0, gives.1, alone)
+told command read fault g before now (Err stop.Sink) is alone gives = rw is ((gives.0, alone), gives.1)
+told command read fault g before now (Err (stop.NoMemory want)) is alone gives = rw is (gives.0, alone)
 
 -- nothing was printed, whatever the file is read as
-spent : (command : LineCommand) (read : Result (List Entry) KeyFileFault) (g : Given) (before now : Outside) → Grew before.seen.held now.seen.held [] → FileSpent command read g before now
-spent command (Ok entries) g before now none = inl none
-spent command (Err fault) g before now none = none
+spent : (command : Command) (read : Result (List Entry) KeyFileFault) (g : Given) (before now : Traffic) → Grew before.held now.held [] → IsLeftAlone command before now
+    → FileSpent command read g before now
+spent command (Ok entries) g before now none alone = inl (none, alone)
+spent command (Err fault) g before now none alone = (none, alone)
 
-wanted : (command : LineCommand) (read : Result (List Entry) KeyFileFault) (want : NoMemory) (g : Given) (t u : ℕ) (before now : Outside) (r : Result Status Stop)
-    → r ≡ Err (stop.NoMemory want) → Gives (keys_answer (keys.NoMemory want)) before.seen.held now.seen.held before.seen.sunk now.seen.sunk r
-    → FileEnds command read g t u before now r
-wanted command read want g t u before now (Ok s) is gives = absurd cc
-wanted command read want g t u before now (Err stop.Sink) is gives = absurd cc
-wanted command read want g t u before now (Err (stop.NoMemory other)) is gives = spent command read g before now gives.0
+wanted : (command : Command) (read : Result (List Entry) KeyFileFault) (want : NoMemory) (g : Given) (before now : Traffic) (r : Result Status Stop)
+    → r ≡ Err (stop.NoMemory want) → IsLeftAlone command before now → Gives (keys_answer (keys.NoMemory want)) before.held now.held before.sunk now.sunk r
+    → FileEnds command read g before now r
+wanted command read want g before now (Ok s) is alone gives = absurd cc
+wanted command read want g before now (Err stop.Sink) is alone gives = absurd cc
+wanted command read want g before now (Err (stop.NoMemory other)) is alone gives = spent command read g before now gives.0 alone
 
-pub file_refused : (command : LineCommand) (read : Result (List Entry) KeyFileFault) (fault : KeyFileFault) (g : Given) (t u : ℕ) (before now : Outside) (r : Result Status Stop)
-    → Refuses fault read → ((want : NoMemory) → fault ≡ keys.NoMemory want → r ≡ Err (stop.NoMemory want))
-    → Gives (keys_answer fault) before.seen.held now.seen.held before.seen.sunk now.seen.sunk r
-    → FileEnds command read g t u before now r
-file_refused command read keys.Document g t u before now r is passed gives = told command read keys.Document g t u before now r is gives
-file_refused command read (keys.Field k x) g t u before now r is passed gives = told command read (keys.Field k x) g t u before now r is gives
-file_refused command read (keys.Hex k) g t u before now r is passed gives = told command read (keys.Hex k) g t u before now r is gives
-file_refused command read (keys.Number k) g t u before now r is passed gives = told command read (keys.Number k) g t u before now r is gives
-file_refused command read (keys.Range k) g t u before now r is passed gives = told command read (keys.Range k) g t u before now r is gives
-file_refused command read (keys.Twice j k) g t u before now r is passed gives = told command read (keys.Twice j k) g t u before now r is gives
-file_refused command read (keys.Version n) g t u before now r is passed gives = told command read (keys.Version n) g t u before now r is gives
-file_refused command read (keys.NoMemory want) g t u before now r is passed gives = wanted command read want g t u before now r (passed want refl) gives
+pub file_refused : (command : Command) (read : Result (List Entry) KeyFileFault) (fault : KeyFileFault) (g : Given) (before now : Traffic) (r : Result Status Stop)
+    → Refuses fault read → ((want : NoMemory) → fault ≡ keys.NoMemory want → r ≡ Err (stop.NoMemory want)) → IsLeftAlone command before now
+    → Gives (keys_answer fault) before.held now.held before.sunk now.sunk r
+    → FileEnds command read g before now r
+file_refused command read keys.Document g before now r is passed alone gives = told command read keys.Document g before now r is alone gives
+file_refused command read (keys.Field k x) g before now r is passed alone gives = told command read (keys.Field k x) g before now r is alone gives
+file_refused command read (keys.Hex k) g before now r is passed alone gives = told command read (keys.Hex k) g before now r is alone gives
+file_refused command read (keys.Number k) g before now r is passed alone gives = told command read (keys.Number k) g before now r is alone gives
+file_refused command read (keys.Range k) g before now r is passed alone gives = told command read (keys.Range k) g before now r is alone gives
+file_refused command read (keys.Twice j k) g before now r is passed alone gives = told command read (keys.Twice j k) g before now r is alone gives
+file_refused command read (keys.Version n) g before now r is passed alone gives = told command read (keys.Version n) g before now r is alone gives
+file_refused command read (keys.NoMemory want) g before now r is passed alone gives = wanted command read want g before now r (passed want refl) alone gives
 
 -- ---- the words
 
 -- a beginning, by what the file is read as
-broke : (command : LineCommand) (files : Files) (c d : ℕ) (g : Given) (before now : Outside) (file : List ℕ) (read : Result (List Entry) KeyFileFault)
-    → HasFile files (key_file_of command) file → keys_of file ≡ read → FileBroke command read g before now → Rose before.seen.sunk now.seen.sunk
-    → IsLineSinkFailed command files c d g before now
-broke command files c d g before now file (Err fault) stands is part rose =
-    record { rose = rose; beginning = inl (OfKeyFile file stands fault is part) }
-broke command files c d g before now file (Ok entries) stands is (InLoop breaks) rose =
-    record { rose = rose; beginning = inr (inl (record { entries = entries; keys = record { file = file; stands = stands; spelled = is }; begun = inl breaks })) }
-broke command files c d g before now file (Ok entries) stands is (InWiresLine fails) rose =
-    record { rose = rose; beginning = inr (inl (record { entries = entries; keys = record { file = file; stands = stands; spelled = is }; begun = inr fails })) }
-broke command files c d g before now file (Ok entries) stands is (InKeyLine lacks) rose =
-    record { rose = rose; beginning = inl (OfPair entries (record { file = file; stands = stands; spelled = is }) lacks) }
+broke : (command : Command) (g : Given) (before now : Outside) (file : List ℕ) (read : Result (List Entry) KeyFileFault)
+    → HasFile now.files (key_file_of command) file → keys_of file ≡ read → FileBroke command read g (traffic_of before) (traffic_of now) → Rose before.sunk now.sunk
+    → LineBroke command g before now
+broke command g before now file (Err fault) stands is part rose =
+    record { rose = rose; beginning = NotLooped (OfKeyFile file stands fault is part.0) part.1 }
+broke command g before now file (Ok entries) stands is (InLoop breaks) rose =
+    record { rose = rose; beginning = Looping (record { entries = entries; keys = record { file = file; stands = stands; spelled = is }; begun = inl breaks }) }
+broke command g before now file (Ok entries) stands is (InWiresLine fails) rose =
+    record { rose = rose; beginning = Looping (record { entries = entries; keys = record { file = file; stands = stands; spelled = is }; begun = inr fails }) }
+broke command g before now file (Ok entries) stands is (InKeyLine alone lacks) rose =
+    record { rose = rose; beginning = NotLooped (OfPair entries (record { file = file; stands = stands; spelled = is }) lacks) alone }
 
 -- memory ran out, by what the file is read as
-runs_out : (command : LineCommand) (files : Files) (g : Given) (before now : Outside) (file : List ℕ) (read : Result (List Entry) KeyFileFault)
-    → HasFile files (key_file_of command) file → keys_of file ≡ read → FileSpent command read g before now → RunsOut command files g before now
-runs_out command files g before now file (Err fault) stands is none = BeforeLoop none
-runs_out command files g before now file (Ok entries) stands is (inl none) = BeforeLoop none
-runs_out command files g before now file (Ok entries) stands is (inr breaks) =
+runs_out : (command : Command) (g : Given) (before now : Outside) (file : List ℕ) (read : Result (List Entry) KeyFileFault)
+    → HasFile now.files (key_file_of command) file → keys_of file ≡ read → FileSpent command read g (traffic_of before) (traffic_of now)
+    → RunsOut command g now.files (traffic_of before) (traffic_of now)
+runs_out command g before now file (Err fault) stands is none = BeforeLoop none.0 none.1
+runs_out command g before now file (Ok entries) stands is (inl none) = BeforeLoop none.0 none.1
+runs_out command g before now file (Ok entries) stands is (inr breaks) =
     WithinLoop entries (record { file = file; stands = stands; spelled = is }) breaks
 
-pub line_read : (command : LineCommand) (files : Files) (c d : ℕ) (g : Given) (t u : ℕ) (before now : Outside) (file : List ℕ) (r : Result Status Stop)
-    → HasFile files (key_file_of command) file → FileEnds command (keys_of file) g t u before now r → LineEnds command files c d g t u before now r
-line_read command files c d g t u before now file (Ok s) stands ends = WasRead file stands ends
-line_read command files c d g t u before now file (Err stop.Sink) stands ends =
-    broke command files c d g before now file (keys_of file) stands refl ends.0 ends.1
-line_read command files c d g t u before now file (Err (stop.NoMemory want)) stands ends = runs_out command files g before now file (keys_of file) stands refl ends
+line_read_so : (command : Command) (g : Given) (before now : Outside) (file : List ℕ) (r : Result Status Stop)
+    → HasFile now.files (key_file_of command) file → FileEnds command (keys_of file) g (traffic_of before) (traffic_of now) r → LineEnds command g before now r
+line_read_so command g before now file (Ok s) stands ends = WasRead file stands ends
+line_read_so command g before now file (Err stop.Sink) stands ends = broke command g before now file (keys_of file) stands refl ends.0 ends.1
+line_read_so command g before now file (Err (stop.NoMemory want)) stands ends = runs_out command g before now file (keys_of file) stands refl ends
 
-pub line_unfetched : (command : LineCommand) (files : Files) (c d : ℕ) (g : Given) (t u : ℕ) (before now : Outside) (r : Result Status Stop)
-    → Rose c d → Gives (record { status = 2; text = fetch_line (key_file_of command) }) before.seen.held now.seen.held before.seen.sunk now.seen.sunk r
-    → LineEnds command files c d g t u before now r
-line_unfetched command files c d g t u before now (Ok s) rose gives = NotFetched gives.0 rose gives.1
-line_unfetched command files c d g t u before now (Err stop.Sink) rose gives =
-    record { rose = gives.1; beginning = inl (OfFetch rose gives.0) }
-line_unfetched command files c d g t u before now (Err (stop.NoMemory want)) rose gives = BeforeLoop gives.0
+-- a file that was fetched, and the cabinet stayed so
+pub line_read : (command : Command) (g : Given) (before now : Outside) (files fetched : Files) (file : List ℕ) (r : Result Status Stop)
+    → HasFile files (key_file_of command) file → Kept files fetched → now.files ≡ fetched
+    → FileEnds command (keys_of file) g (traffic_of before) (traffic_of now) r → LineEnds command g before now r
+line_read command g before now files fetched file r stands kept same ends =
+    line_read_so command g before now file r
+    (subst (λ (x : Files). HasFile x (key_file_of command) file) (sym same) (has_file_kept files fetched (key_file_of command) file stands kept)) ends
+
+pub line_unfetched : (command : Command) (g : Given) (before now : Outside) (r : Result Status Stop)
+    → Rose before.unfetched now.unfetched → IsLeftAlone command (traffic_of before) (traffic_of now)
+    → Gives (record { status = 2; text = fetch_line (key_file_of command) }) before.held now.held before.sunk now.sunk r
+    → LineEnds command g before now r
+line_unfetched command g before now (Ok s) rose alone gives = NotFetched gives.0 rose gives.1 alone
+line_unfetched command g before now (Err stop.Sink) rose alone gives =
+    record { rose = gives.1; beginning = NotLooped (OfFetch rose gives.0) alone }
+line_unfetched command g before now (Err (stop.NoMemory want)) rose alone gives = BeforeLoop gives.0 alone

@@ -19,7 +19,8 @@ use Rattle.er_program.specs.Commands.{Replay}
 use Rattle.er_program.specs.KeyLines.{keys_line}
 use Rattle.er_program.specs.LastLines.{fault_line, refused_line, memory_line, why_word}
 use Rattle.er_program.specs.Answers.{Answer, Files, HasFetched, IsReplayAnswer, AllAreTaken, OneIsRefused, IsTraceAnswer, IsFetchedTrace, IsAnswerBehindKeys, IsFetchedReplay, keys_answer}
-use Rattle.er_program.specs.Runs.{Means, IsUnfetched, SpellTrace, HasTraceStatus, HasReplayStatus, IsStatusBehindKeys}
+use Rattle.er_program.specs.Runs.{SpellTrace, HasTraceStatus, HasReplayStatus, IsStatusBehindKeys}
+use Rattle.er_program.specs.FileMeans.{FileMeans, IsUnfetched}
 
 -- ---- a name that wasn't fetched
 
@@ -48,7 +49,7 @@ unfetched keys_name name p q c d before now status asks is rose =
     ]
 
 means_lost : (keys_name name : List ℕ) (files : Files) (p q : Names) (c d f g : ℕ) (before now : Option (List ℕ)) (status : ℕ)
-    → Asks (Replay keys_name name) status p q before now → status ≡ 2 → Rose c d → Means (Replay keys_name name) files p q c d f g before now status
+    → Asks (Replay keys_name name) status p q before now → status ≡ 2 → Rose c d → FileMeans (Replay keys_name name) files p q c d f g before now status
 means_lost keys_name name files p q c d f g before now status asks is rose = record {
   known = inr (inr (inl is));
   done = λ h. absurd (omega arith);
@@ -65,7 +66,7 @@ means_lost keys_name name files p q c d f g before now status asks is rose = rec
 -- ---- memory ran out
 
 means_forgot : (keys_name name : List ℕ) (files : Files) (p q : Names) (c d f g : ℕ) (before now : Option (List ℕ)) (status : ℕ)
-    → status ≡ 7 → Grew before now memory_line → Means (Replay keys_name name) files p q c d f g before now status
+    → status ≡ 7 → Grew before now memory_line → FileMeans (Replay keys_name name) files p q c d f g before now status
 means_forgot keys_name name files p q c d f g before now status is printed = record {
   known = inr (inr (inr (inr (inr (inr (inl is))))));
   done = λ h. absurd (omega arith);
@@ -83,7 +84,7 @@ means_forgot keys_name name files p q c d f g before now status is printed = rec
 
 means_keyless : (keys_name name key_file : List ℕ) (why : KeyFileFault) (files : Files) (p q : Names) (c d f g : ℕ) (before now : Option (List ℕ)) (status : ℕ)
     → Asks (Replay keys_name name) status p q before now → HasFile files keys_name key_file → keys_of key_file ≡ Err why → HasReplayStatus keys_name name files status
-    → status ≡ 4 → Grew before now (keys_line why) → Means (Replay keys_name name) files p q c d f g before now status
+    → status ≡ 4 → Grew before now (keys_line why) → FileMeans (Replay keys_name name) files p q c d f g before now status
 means_keyless keys_name name key_file why files p q c d f g before now status asks stands unspelled has is printed = record {
   known = inr (inr (inr (inr (inl is))));
   done = λ h. absurd (omega arith);
@@ -110,7 +111,7 @@ means_keyless keys_name name key_file why files p q c d f g before now status as
 
 means_fault : (keys_name name key_file : List ℕ) (why : KeyFileFault) (files : Files) (p q : Names) (c d f g : ℕ) (before now : Option (List ℕ)) (status : ℕ)
     → Asks (Replay keys_name name) status p q before now → HasFile files keys_name key_file → keys_of key_file ≡ Err why → HasReplayStatus keys_name name files status
-    → status ≡ (keys_answer why).status → Grew before now (keys_answer why).text → Means (Replay keys_name name) files p q c d f g before now status
+    → status ≡ (keys_answer why).status → Grew before now (keys_answer why).text → FileMeans (Replay keys_name name) files p q c d f g before now status
 means_fault keys_name name key_file keys.Document files p q c d f g before now status asks stands un has is printed =
     means_keyless keys_name name key_file keys.Document files p q c d f g before now status asks stands un has is printed
 means_fault keys_name name key_file (keys.Field k x) files p q c d f g before now status asks stands un has is printed =
@@ -133,7 +134,7 @@ means_fault keys_name name key_file (keys.NoMemory want) files p q c d f g befor
 means_out_of_form : (keys_name name key_file file : List ℕ) (known : List Entry) (line : ℕ) (why : Why) (files : Files) (p q : Names) (c d f g : ℕ) (before now : Option (List ℕ)) (status : ℕ)
     → HasFile files keys_name key_file → keys_of key_file ≡ Ok known → HasFile files name file → trace_of file ≡ Err (text.At line why)
     → HasReplayStatus keys_name name files status → status ≡ 3 → Grew before now (fault_line line (why_word why))
-    → Means (Replay keys_name name) files p q c d f g before now status
+    → FileMeans (Replay keys_name name) files p q c d f g before now status
 means_out_of_form keys_name name key_file file known line why files p q c d f g before now status keys_stand keys_are stands unspelled has is printed = record {
   known = inr (inr (inr (inl is)));
   done = λ h. absurd (omega arith);
@@ -160,7 +161,7 @@ means_out_of_form keys_name name key_file file known line why files p q c d f g 
 
 means_refused : (keys_name name : List ℕ) (known : List Entry) (trace : Trace) (why : ReplayFault) (files : Files) (p q : Names) (c d f g : ℕ) (before now : Option (List ℕ)) (status : ℕ)
     → SpellTrace keys_name name files known trace → (first : FirstRefused trace.settings (key_at known) trace.entries why) → HasReplayStatus keys_name name files status
-    → status ≡ 3 → Grew before now (printed trace.settings (key_at known) first.first ++ refused_line why) → Means (Replay keys_name name) files p q c d f g before now status
+    → status ≡ 3 → Grew before now (printed trace.settings (key_at known) first.first ++ refused_line why) → FileMeans (Replay keys_name name) files p q c d f g before now status
 means_refused keys_name name known trace why files p q c d f g before now status spell first has is printed = record {
   known = inr (inr (inr (inl is)));
   done = λ h. absurd (omega arith);
@@ -176,7 +177,7 @@ means_refused keys_name name known trace why files p q c d f g before now status
 
 means_all : (keys_name name : List ℕ) (known : List Entry) (trace : Trace) (files : Files) (p q : Names) (c d f g : ℕ) (before now : Option (List ℕ)) (status : ℕ)
     → SpellTrace keys_name name files known trace → AreTaken trace.settings (key_at known) trace.entries → HasReplayStatus keys_name name files status
-    → status ≡ 0 → Grew before now (printed trace.settings (key_at known) trace.entries) → Means (Replay keys_name name) files p q c d f g before now status
+    → status ≡ 0 → Grew before now (printed trace.settings (key_at known) trace.entries) → FileMeans (Replay keys_name name) files p q c d f g before now status
 means_all keys_name name known trace files p q c d f g before now status spell taken has is printed = record {
   known = inl is;
   done = λ h. record { entries = known; trace = trace; spell = spell; taken = taken; written = printed };
@@ -192,7 +193,7 @@ means_all keys_name name known trace files p q c d f g before now status spell t
 
 means_events : (keys_name name : List ℕ) (known : List Entry) (trace : Trace) (a : Answer) (files : Files) (p q : Names) (c d f g : ℕ) (before now : Option (List ℕ)) (status : ℕ)
     → SpellTrace keys_name name files known trace → IsReplayAnswer trace.settings (key_at known) trace.entries a → HasReplayStatus keys_name name files status
-    → status ≡ a.status → Grew before now a.text → Means (Replay keys_name name) files p q c d f g before now status
+    → status ≡ a.status → Grew before now a.text → FileMeans (Replay keys_name name) files p q c d f g before now status
 means_events keys_name name known trace a files p q c d f g before now status spell (AllAreTaken taken is) has stated printed =
     means_all keys_name name known trace files p q c d f g before now status spell taken has (stated ∙ ap (λ (x : Answer). x.status) is)
     (subst (λ (x : Answer). Grew before now x.text) is printed)
@@ -202,7 +203,7 @@ means_events keys_name name known trace a files p q c d f g before now status sp
 
 means_trace : (keys_name name key_file file : List ℕ) (known : List Entry) (read : Result Trace TextFault) (a : Answer) (files : Files) (p q : Names) (c d f g : ℕ) (before now : Option (List ℕ)) (status : ℕ)
     → HasFile files keys_name key_file → keys_of key_file ≡ Ok known → HasFile files name file → trace_of file ≡ read → IsTraceAnswer known read a
-    → HasReplayStatus keys_name name files status → status ≡ a.status → Grew before now a.text → Means (Replay keys_name name) files p q c d f g before now status
+    → HasReplayStatus keys_name name files status → status ≡ a.status → Grew before now a.text → FileMeans (Replay keys_name name) files p q c d f g before now status
 means_trace keys_name name key_file file known (Err (text.At line why)) a files p q c d f g before now status keys_stand keys_are stands is answers has stated printed =
     means_out_of_form keys_name name key_file file known line why files p q c d f g before now status keys_stand keys_are stands is has
     (stated ∙ ap (λ (x : Answer). x.status) answers) (subst (λ (x : Answer). Grew before now x.text) answers printed)
@@ -258,7 +259,7 @@ words_status keys_name name key_file read files status stands is behind =
 means_behind : (keys_name name key_file : List ℕ) (known : List Entry) (fetched : Option (List ℕ)) (a : Answer) (files : Files) (p q : Names) (c d f g : ℕ) (before now : Option (List ℕ)) (status : ℕ)
     → Asks (Replay keys_name name) status p q before now → HasFile files keys_name key_file → keys_of key_file ≡ Ok known
     → HasFetched name fetched files c d → IsFetchedTrace known name fetched a → status ≡ a.status → Grew before now a.text
-    → Means (Replay keys_name name) files p q c d f g before now status
+    → FileMeans (Replay keys_name name) files p q c d f g before now status
 means_behind keys_name name key_file known None a files p q c d f g before now status asks keys_stand keys_are rose answers stated printed =
     means_lost keys_name name files p q c d f g before now status asks (stated ∙ ap (λ (x : Answer). x.status) answers) rose
 means_behind keys_name name key_file known (Some file) a files p q c d f g before now status asks keys_stand keys_are stands answers stated printed =
@@ -269,7 +270,7 @@ means_behind keys_name name key_file known (Some file) a files p q c d f g befor
 -- the key file was read
 means_keys : (keys_name name key_file : List ℕ) (read : Result (List Entry) KeyFileFault) (a : Answer) (files : Files) (p q : Names) (c d f g : ℕ) (before now : Option (List ℕ)) (status : ℕ)
     → Asks (Replay keys_name name) status p q before now → HasFile files keys_name key_file → keys_of key_file ≡ read → IsAnswerBehindKeys read name files c d a
-    → status ≡ a.status → Grew before now a.text → Means (Replay keys_name name) files p q c d f g before now status
+    → status ≡ a.status → Grew before now a.text → FileMeans (Replay keys_name name) files p q c d f g before now status
 means_keys keys_name name key_file (Err why) a files p q c d f g before now status asks stands is answers stated printed =
     let so : status ≡ (keys_answer why).status = stated ∙ ap (λ (x : Answer). x.status) answers in
     means_fault keys_name name key_file why files p q c d f g before now status asks stands is
@@ -280,7 +281,7 @@ means_keys keys_name name key_file (Ok known) a files p q c d f g before now sta
 -- the key file's name was fetched or not
 pub means_replay : (keys_name name : List ℕ) (fetched : Option (List ℕ)) (a : Answer) (files : Files) (p q : Names) (c d f g : ℕ) (before now : Option (List ℕ)) (status : ℕ)
     → Asks (Replay keys_name name) status p q before now → HasFetched keys_name fetched files c d → IsFetchedReplay keys_name name fetched files c d a
-    → status ≡ a.status → Grew before now a.text → Means (Replay keys_name name) files p q c d f g before now status
+    → status ≡ a.status → Grew before now a.text → FileMeans (Replay keys_name name) files p q c d f g before now status
 means_replay keys_name name None a files p q c d f g before now status asks rose answers stated printed =
     means_lost keys_name name files p q c d f g before now status asks (stated ∙ ap (λ (x : Answer). x.status) answers) rose
 means_replay keys_name name (Some key_file) a files p q c d f g before now status asks stands answers stated printed =

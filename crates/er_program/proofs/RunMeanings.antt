@@ -13,10 +13,11 @@ use Rattle.drill_model.specs.Texts.{drill_text}
 use Rattle.link_trait.specs.Outside.{Grew, GrewPart, Rose, HasFile}
 use Rattle.link_trait.specs.Growth.{grew_then}
 use Rattle.er_program.specs.Asking.{Asks}
-use Rattle.er_program.specs.Commands.{Command, Misused, Drill, Bits, Migrate, Replay, Bulk}
+use Rattle.er_program.specs.Commands.{Command, Misused, Drill, Bits, Migrate, Replay, Bulk, Serve, Call}
 use Rattle.er_program.specs.LastLines.{fault_line, why_word, fetch_line, usage_line, memory_line}
 use Rattle.er_program.specs.Answers.{Answer, IsAnswer, HasFetched, IsFetchedAnswer, Files, FirstFault, AreDone, IsDrillAnswer, IsWhole, BreaksOff, IsScenarioAnswer, lines_of_first, fault_answer}
-use Rattle.er_program.specs.Runs.{HoldsAlways, WorldsHold, BrokeOff, AreFirstLines, Means, HasStatus, IsSinkFailed, IsOutOfMemory, IsComplete}
+use Rattle.er_program.specs.Runs.{HoldsAlways, WorldsHold, BrokeOff, AreFirstLines, HasStatus, IsSpent}
+use Rattle.er_program.specs.FileMeans.{FileMeans, IsSinkFailed, IsComplete}
 use Rattle.er_program.specs.Writing.{HasReadable, IsReadable, IsGiven, IsBegun, Finished, Broken, Exhausted, Exhausts}
 use Rattle.er_program.specs.declared.status.Status.{Status}
 use Rattle.er_program.proofs.BitMeanings.{means_bits}
@@ -35,7 +36,7 @@ Names = Option (List (List ℕ))
 -- ---- each status alone
 
 means_usage : (files : Files) (p q : Names) (c d f g : ℕ) (before now : Option (List ℕ)) (status : ℕ)
-    → status ≡ 1 → Grew before now usage_line → Means Misused files p q c d f g before now status
+    → status ≡ 1 → Grew before now usage_line → FileMeans Misused files p q c d f g before now status
 means_usage files p q c d f g before now status is printed = record {
   known = inr (inl is);
   done = λ h. absurd (omega arith);
@@ -50,7 +51,7 @@ means_usage files p q c d f g before now status is printed = record {
 }
 
 means_unfetched : (name : List ℕ) (files : Files) (p q : Names) (c d f g : ℕ) (before now : Option (List ℕ)) (status : ℕ)
-    → Grew p q (name ∷ []) → status ≡ 2 → Rose c d → Grew before now (fetch_line name) → Means (Drill name) files p q c d f g before now status
+    → Grew p q (name ∷ []) → status ≡ 2 → Rose c d → Grew before now (fetch_line name) → FileMeans (Drill name) files p q c d f g before now status
 means_unfetched name files p q c d f g before now status asked is rose printed = record {
   known = inr (inr (inl is));
   done = λ h. absurd (omega arith);
@@ -72,9 +73,11 @@ memory_complete (Bits name) files c d f g status is = λ good fine. inr is
 memory_complete (Migrate keys) files c d f g status is = λ good fine. inr is
 memory_complete (Replay keys trace) files c d f g status is = λ good fine. inr is
 memory_complete (Bulk seed count) files c d f g status is = λ fine. inr is
+memory_complete (Serve keys address rbc turns) files c d f g status is = λ good fine well. inr is
+memory_complete (Call keys address engine rbc turns) files c d f g status is = λ good fine well. inr is
 
 means_memory : (command : Command) (files : Files) (p q : Names) (c d f g : ℕ) (before now : Option (List ℕ)) (status : ℕ)
-    → status ≡ 7 → IsOutOfMemory command files before now → Means command files p q c d f g before now status
+    → status ≡ 7 → IsSpent command files before now → FileMeans command files p q c d f g before now status
 means_memory command files p q c d f g before now status is out = record {
   known = inr (inr (inr (inr (inr (inr (inl is))))));
   done = λ h. absurd (omega arith);
@@ -96,9 +99,11 @@ not_complete (Bits name) files c d f g status rose = λ good fine. absurd (fine 
 not_complete (Migrate keys) files c d f g status rose = λ good fine. absurd (fine rose)
 not_complete (Replay keys trace) files c d f g status rose = λ good fine. absurd (fine rose)
 not_complete (Bulk seed count) files c d f g status rose = λ fine. absurd (fine rose)
+not_complete (Serve keys address rbc turns) files c d f g status rose = λ good fine well. absurd (fine rose)
+not_complete (Call keys address engine rbc turns) files c d f g status rose = λ good fine well. absurd (fine rose)
 
 means_sink : (command : Command) (files : Files) (p q : Names) (c d f g : ℕ) (before now : Option (List ℕ)) (status : ℕ)
-    → status ≡ 5 → IsSinkFailed command files c d f g before now → Means command files p q c d f g before now status
+    → status ≡ 5 → IsSinkFailed command files c d f g before now → FileMeans command files p q c d f g before now status
 means_sink command files p q c d f g before now status is failed = record {
   known = inr (inr (inr (inr (inr (inl is)))));
   done = λ h. absurd (omega arith);
@@ -114,7 +119,7 @@ means_sink command files p q c d f g before now status is failed = record {
 
 means_out_of_form : (name file : List ℕ) (line : ℕ) (why : Why) (files : Files) (p q : Names) (c d f g : ℕ) (before now : Option (List ℕ)) (status : ℕ)
     → HasFile files name file → scenario_of file ≡ Err (text.At line why) → status ≡ 3 → Grew before now (fault_line line (why_word why))
-    → Means (Drill name) files p q c d f g before now status
+    → FileMeans (Drill name) files p q c d f g before now status
 means_out_of_form name file line why files p q c d f g before now status stands unspelled is printed = record {
   known = inr (inr (inr (inl is)));
   done = λ h. absurd (omega arith);
@@ -142,7 +147,7 @@ means_out_of_form name file line why files p q c d f g before now status stands 
 -- all steps are done
 means_done : (name file : List ℕ) (s : Scenario) (files : Files) (p q : Names) (c d f g : ℕ) (before now : Option (List ℕ)) (status : ℕ)
     → AlwaysHolds → HasFile files name file → scenario_of file ≡ Ok s → CanBeRead s → AreDone s (length s.steps)
-    → status ≡ 0 → Grew before now (drill_text s) → HasStatus file status → Means (Drill name) files p q c d f g before now status
+    → status ≡ 0 → Grew before now (drill_text s) → HasStatus file status → FileMeans (Drill name) files p q c d f g before now status
 means_done name file s files p q c d f g before now status law stands spelled readable done is printed has = record {
   known = inl is;
   done = λ h. record {
@@ -164,7 +169,7 @@ means_done name file s files p q c d f g before now status law stands spelled re
 
 -- a step isn't done: it is refused, or too many frames would wait
 means_refused : (name file : List ℕ) (files : Files) (p q : Names) (c d f g : ℕ) (before now : Option (List ℕ)) (status : ℕ)
-    → status ≡ 3 → BrokeOff name files 3 before now → HasFile files name file → HasStatus file status → Means (Drill name) files p q c d f g before now status
+    → status ≡ 3 → BrokeOff name files 3 before now → HasFile files name file → HasStatus file status → FileMeans (Drill name) files p q c d f g before now status
 means_refused name file files p q c d f g before now status is broke stands has = record {
   known = inr (inr (inr (inl is)));
   done = λ h. absurd (omega arith);
@@ -179,7 +184,7 @@ means_refused name file files p q c d f g before now status is broke stands has 
 }
 
 means_overfull : (name file : List ℕ) (files : Files) (p q : Names) (c d f g : ℕ) (before now : Option (List ℕ)) (status : ℕ)
-    → status ≡ 8 → BrokeOff name files 8 before now → HasFile files name file → HasStatus file status → Means (Drill name) files p q c d f g before now status
+    → status ≡ 8 → BrokeOff name files 8 before now → HasFile files name file → HasStatus file status → FileMeans (Drill name) files p q c d f g before now status
 means_overfull name file files p q c d f g before now status is broke stands has = record {
   known = inr (inr (inr (inr (inr (inr (inr is))))));
   done = λ h. absurd (omega arith);
@@ -211,7 +216,7 @@ means_fault : (name file : List ℕ) (s : Scenario) (files : Files) (p q : Names
     (fault : WorldFault) (first : FirstFault s) → first.fault ≡ fault
     → AlwaysHolds → HasFile files name file → scenario_of file ≡ Ok s → CanBeRead s
     → status ≡ (fault_answer first.step.line fault).status → Grew before now (lines_of_first s first.count ++ (fault_answer first.step.line fault).text)
-    → HasStatus file status → Means (Drill name) files p q c d f g before now status
+    → HasStatus file status → FileMeans (Drill name) files p q c d f g before now status
 means_fault name file s files p q c d f g before now status (NoLink n) first same law stands spelled readable stated printed has =
     means_refused name file files p q c d f g before now status stated
     (broke_off name file s files before now 3 first law stands spelled readable (rw same refl) (rw same printed)) stands has
@@ -254,7 +259,7 @@ has_status file status s a spelled answers stated zeroed = record {
 -- a scenario was drilled, to the end or to a step that isn't done
 means_drilled : (name file : List ℕ) (s : Scenario) (a : Answer) (files : Files) (p q : Names) (c d f g : ℕ) (before now : Option (List ℕ)) (status : ℕ)
     → AlwaysHolds → HasFile files name file → scenario_of file ≡ Ok s → CanBeRead s → IsDrillAnswer s a
-    → status ≡ a.status → Grew before now a.text → Means (Drill name) files p q c d f g before now status
+    → status ≡ a.status → Grew before now a.text → FileMeans (Drill name) files p q c d f g before now status
 means_drilled name file s a files p q c d f g before now status law stands spelled readable (IsWhole done is) stated printed =
     let zero_is : status ≡ 0 = stated ∙ ap (λ (x : Answer). x.status) is in
     means_done name file s files p q c d f g before now status law stands spelled readable done zero_is (rw is at printed)
@@ -271,7 +276,7 @@ means_drilled name file s a files p q c d f g before now status law stands spell
 -- the file of that name was read
 means_file : (name file : List ℕ) (read : Result Scenario TextFault) (a : Answer) (files : Files) (p q : Names) (c d f g : ℕ) (before now : Option (List ℕ)) (status : ℕ)
     → AlwaysHolds → HasFile files name file → scenario_of file ≡ read → IsReadable read → IsScenarioAnswer read a
-    → status ≡ a.status → Grew before now a.text → Means (Drill name) files p q c d f g before now status
+    → status ≡ a.status → Grew before now a.text → FileMeans (Drill name) files p q c d f g before now status
 means_file name file (Ok s) a files p q c d f g before now status law stands is readable answers stated printed =
     means_drilled name file s a files p q c d f g before now status law stands is readable answers stated printed
 means_file name file (Err (text.At line why)) a files p q c d f g before now status law stands is readable answers stated printed =
@@ -283,7 +288,7 @@ means_file name file (Err (text.NoMemory want)) a files p q c d f g before now s
 -- the name was fetched or not
 means_fetched : (name : List ℕ) (fetched : Option (List ℕ)) (a : Answer) (files : Files) (p q : Names) (c d f g : ℕ) (before now : Option (List ℕ)) (status : ℕ)
     → Grew p q (name ∷ []) → AlwaysHolds → HasFetched name fetched files c d → HasReadable fetched → IsFetchedAnswer name fetched a
-    → status ≡ a.status → Grew before now a.text → Means (Drill name) files p q c d f g before now status
+    → status ≡ a.status → Grew before now a.text → FileMeans (Drill name) files p q c d f g before now status
 means_fetched name None a files p q c d f g before now status asked law stands readable answers stated printed =
     means_unfetched name files p q c d f g before now status asked (stated ∙ ap (λ (x : Answer). x.status) answers) stands (rw answers at printed)
 means_fetched name (Some file) a files p q c d f g before now status asked law stands readable answers stated printed =
@@ -291,7 +296,7 @@ means_fetched name (Some file) a files p q c d f g before now status asked law s
 
 -- the words were answered
 pub means_finished : AlwaysHolds → BulkHolds → (command : Command) (files : Files) (p q : Names) (c d : ℕ) (before now : Option (List ℕ)) (f g status : ℕ)
-    → Asks command status p q before now → Finished command files c d before now f g status → Means command files p q c d f g before now status
+    → Asks command status p q before now → Finished command files c d before now f g status → FileMeans command files p q c d f g before now status
 means_finished law bulk Misused files p q c d before now f g status asked ends =
     means_usage files p q c d f g before now status (ends.stated ∙ ap (λ (a : Answer). a.status) ends.is) (rw ends.is at ends.printed)
 means_finished law bulk (Drill name) files p q c d before now f g status asked ends =
@@ -305,6 +310,8 @@ means_finished law bulk (Replay keys trace) files p q c d before now f g status 
     means_replay keys trace ends.is.fetched ends.answer files p q c d f g before now status asked ends.is.stands ends.is.is ends.stated ends.printed
 means_finished law bulk (Bulk seed count) files p q c d before now f g status asked ends =
     means_bulk bulk seed count ends.answer files p q c d f g before now status ends.is ends.stated ends.printed
+means_finished law bulk (Serve keys address rbc turns) files p q c d before now f g status asked ends = absurd asked
+means_finished law bulk (Call keys address engine rbc turns) files p q c d before now f g status asked ends = absurd asked
 
 -- what was given is the answer
 answer_given : (command : Command) (files : Files) (c d : ℕ) (a : Answer) → IsGiven command files c d a → IsAnswer command files c d a
@@ -314,6 +321,8 @@ answer_given (Bits name) files c d a given = given
 answer_given (Migrate keys) files c d a given = given
 answer_given (Replay keys trace) files c d a given = given
 answer_given (Bulk seed count) files c d a given = given
+answer_given (Serve keys address rbc turns) files c d a given = absurd given
+answer_given (Call keys address engine rbc turns) files c d a given = absurd given
 
 -- what a file that was fetched spells is in its ranges
 readable_of : (fetched : Option (List ℕ)) (file : List ℕ) (s : Scenario) → HasReadable fetched → fetched ≡ Some file → scenario_of file ≡ Ok s → CanBeRead s
@@ -333,10 +342,12 @@ worlds_hold law bulk (Bits name) files c d a given = tt
 worlds_hold law bulk (Migrate keys) files c d a given = tt
 worlds_hold law bulk (Replay keys trace) files c d a given = tt
 worlds_hold law bulk (Bulk seed count) files c d a given = bulk seed count
+worlds_hold law bulk (Serve keys address rbc turns) files c d a given = tt
+worlds_hold law bulk (Call keys address engine rbc turns) files c d a given = tt
 
 -- a write failed
 pub means_broken : AlwaysHolds → BulkHolds → (command : Command) (files : Files) (p q : Names) (c d : ℕ) (before now : Option (List ℕ)) (f g : ℕ)
-    → Broken command files c d before now f g → Means command files p q c d f g before now 5
+    → Broken command files c d before now f g → FileMeans command files p q c d f g before now 5
 means_broken law bulk command files p q c d before now f g ends =
     means_sink command files p q c d f g before now 5 refl
     (record {
@@ -368,10 +379,12 @@ first_lines_hold law bulk (Bits name) files text begun = begun
 first_lines_hold law bulk (Migrate keys) files text begun = begun
 first_lines_hold law bulk (Replay keys trace) files text begun = begun
 first_lines_hold law bulk (Bulk seed count) files text begun = (begun, bulk seed count)
+first_lines_hold law bulk (Serve keys address rbc turns) files text begun = absurd begun
+first_lines_hold law bulk (Call keys address engine rbc turns) files text begun = absurd begun
 
 -- memory ran out, and the last line was written
 means_exhausted : AlwaysHolds → BulkHolds → (command : Command) (files : Files) (p q : Names) (c d : ℕ) (before mid now : Option (List ℕ)) (f g h : ℕ)
-    → Exhausted command files before mid f g → Grew mid now memory_line → Means command files p q c d f h before now 7
+    → Exhausted command files before mid f g → Grew mid now memory_line → FileMeans command files p q c d f h before now 7
 means_exhausted law bulk command files p q c d before mid now f g h ends printed =
     means_memory command files p q c d f h before now 7 refl
     (record {
@@ -382,7 +395,7 @@ means_exhausted law bulk command files p q c d before mid now f g h ends printed
 
 -- memory ran out, and the last line wasn't written whole
 means_interrupted : AlwaysHolds → BulkHolds → (command : Command) (files : Files) (p q : Names) (c d : ℕ) (before mid now : Option (List ℕ)) (f g h : ℕ)
-    → Exhausted command files before mid f g → GrewPart mid now memory_line → Rose g h → Means command files p q c d f h before now 5
+    → Exhausted command files before mid f g → GrewPart mid now memory_line → Rose g h → FileMeans command files p q c d f h before now 5
 means_interrupted law bulk command files p q c d before mid now f g h ends part rose =
     means_sink command files p q c d f h before now 5 refl
     (record {
@@ -399,7 +412,7 @@ means_interrupted law bulk command files p q c d before mid now f g h ends part 
 
 -- memory ran out
 pub means_spent : AlwaysHolds → BulkHolds → (command : Command) (files : Files) (p q : Names) (c d : ℕ) (before mid now : Option (List ℕ)) (f g h : ℕ) (s : Status)
-    → Exhausted command files before mid f g → Exhausts mid now g h s → Means command files p q c d f h before now s.0
+    → Exhausted command files before mid f g → Exhausts mid now g h s → FileMeans command files p q c d f h before now s.0
 means_spent law bulk command files p q c d before mid now f g h s ends last =
     elim last [
       | inl written ↦ rw written.0 (means_exhausted law bulk command files p q c d before mid now f g h ends written.1)

@@ -12,7 +12,7 @@ use Rattle.drill_model.specs.Worlds.{plan_of, steps_of}
 use Rattle.drill_model.specs.Faults.{fault_behind}
 use Rattle.drill_model.specs.Texts.{first_lines, drill_text}
 use Rattle.link_trait.specs.Outside.{HasFile, Rose}
-use Rattle.er_program.specs.Commands.{Command, Misused, Drill, Bits, Migrate, Replay, Bulk}
+use Rattle.er_program.specs.Commands.{Command, Misused, Drill, Bits, Migrate, Replay, Bulk, Serve, Call}
 use Rattle.er_program.specs.BitTexts.{most_line_octets, bits_text}
 use Rattle.er_program.specs.BulkTexts.{bulk_plan, steps_of_bulk, totals_of_bulk, totals_line, AllDone, FirstOverfull}
 use Rattle.safety_automaton.specs.Keys.{Entry, key_at}
@@ -208,7 +208,7 @@ pub data IsBulkAnswer (seed count : ℕ) (a : Answer) : Type 0 where
 
 -- ---- the words
 
--- the answer to a command, by the files and the cabinet's count of faults before and after
+-- the answer to a command that needs no wires, by the files and the cabinet's count of faults before and after
 abbrev pub IsAnswer : Command → Files → ℕ → ℕ → Answer → Type 0
 IsAnswer Misused files c d a = a ≡ record { status = 1; text = usage_line }
 IsAnswer (Drill name) files c d a = IsFileAnswer name files c d a
@@ -216,3 +216,5 @@ IsAnswer (Bits name) files c d a = IsBitsAnswer name files c d a
 IsAnswer (Migrate keys) files c d a = IsMigrateAnswer keys files c d a
 IsAnswer (Replay keys trace) files c d a = IsReplayWordsAnswer keys trace files c d a
 IsAnswer (Bulk seed count) files c d a = IsBulkAnswer seed count a
+IsAnswer (Serve keys address rbc turns) files c d a = ⊥
+IsAnswer (Call keys address engine rbc turns) files c d a = ⊥

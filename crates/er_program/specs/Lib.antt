@@ -1,5 +1,7 @@
 pub mod Commands
 pub mod CommandViews
+pub mod Outsides
+pub mod OutsideViews
 pub mod LastLines
 pub mod Answers
 pub mod Runs
@@ -13,8 +15,8 @@ pub mod KeyLines
 pub mod KeyWriting
 pub mod ReplayWriting
 pub mod Asking
-pub mod LineCommands
-pub mod LineCommandViews
 pub mod LineRuns
 pub mod LineWriting
+pub mod Statuses
+pub mod FileMeans
 pub mod Recordings

@@ -1,4 +1,5 @@
 -- The recordings of `serve` and `call`: what the sink got is read as a trace, and a replay of this trace writes it again (this profile).
+use Rattle.loop_model.specs.Ends.{ModelEnd, model_ends}
 use Rattle.std.specs.Prelude.{ℕ, ◌≡◌, ◌≤◌, true, false, List, length, Option, Some}
 use Rattle.rand_core.specs.Stream.{Stream}
 use Rattle.des_block.specs.declared.triple_key.TripleKey.{TripleKey}
@@ -17,8 +18,8 @@ abbrev pub ServedReplays : Type 0
 ServedReplays =
     (before now : Outside) (plan : Plan) (address : List ℕ) (minds : List Mind) (words : Stream) (count : ℕ) (why : Option Halt)
     (served : HasServed before now plan address minds words count why) → plan.settings ≡ usual_settings
-    → length (recording_of plan (serves plan (beginning minds words) address true served.answers)) ≤ 16777216
-    → IsItsOwnReplay (key_at plan.keys) (recording_of plan (serves plan (beginning minds words) address true served.answers))
+    → length (recording_of plan (serves model_ends plan (beginning minds words) address true served.answers)) ≤ 16777216
+    → IsItsOwnReplay (key_at plan.keys) (recording_of plan (serves model_ends plan (beginning minds words) address true served.answers))
 
 -- the same of a dial over wires that didn't listen: with any keys that have the pair's KMAC at the moment of the call, which is what the
 -- clock answered first
@@ -28,5 +29,5 @@ DialledReplays =
     (count : ℕ) (why : Option Halt) (finds : Finds)
     (dialled : HasDialled before now (dialling kmac plan engine rbc handed) (record { engine = engine; kmac = kmac }) address minds words count why)
     → plan.settings ≡ usual_settings → before.listening ≡ false → finds dialled.answers.first engine rbc ≡ Some kmac
-    → length (recording_of (dialling kmac plan engine rbc handed) (dials (dialling kmac plan engine rbc handed) (record { engine = engine; kmac = kmac }) (beginning minds words) address dialled.answers)) ≤ 16777216
-    → IsItsOwnReplay finds (recording_of (dialling kmac plan engine rbc handed) (dials (dialling kmac plan engine rbc handed) (record { engine = engine; kmac = kmac }) (beginning minds words) address dialled.answers))
+    → length (recording_of (dialling kmac plan engine rbc handed) (dials model_ends (dialling kmac plan engine rbc handed) (record { engine = engine; kmac = kmac }) (beginning minds words) address dialled.answers)) ≤ 16777216
+    → IsItsOwnReplay finds (recording_of (dialling kmac plan engine rbc handed) (dials model_ends (dialling kmac plan engine rbc handed) (record { engine = engine; kmac = kmac }) (beginning minds words) address dialled.answers))

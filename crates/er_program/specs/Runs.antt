@@ -1,4 +1,4 @@
--- What is claimed of a run of the program: each status with its cause, what the sink got, the names that were asked for (this profile).
+-- What is claimed of a run of a command that needs no wires (this profile): what was done, what the sink got, and why it ended otherwise.
 use Rattle.std.specs.Prelude.{◌≡◌, ◌⊎◌, ◌≤◌, ℕ, ◌<◌, List, [], ◌∷◌, ◌++◌, length, take, Option, Some, None, Result, Ok, Err, codes}
 use Rattle.er_base.specs.declared.why.Why.{Why}
 use Rattle.er_base.specs.declared.text_fault.TextFault.TheVariants.{At}
@@ -8,7 +8,7 @@ use Rattle.drill_model.specs.Worlds.{plan_of}
 use Rattle.drill_model.specs.Texts.{drill_text}
 use Rattle.drill_model.specs.Headline.{Holds}
 use Rattle.link_trait.specs.Outside.{Grew, GrewPart, Rose, HasFile}
-use Rattle.er_program.specs.Commands.{Command, Misused, Drill, Bits, names_of, Migrate, Replay, Bulk}
+use Rattle.er_program.specs.Commands.{Command, Misused, Drill, Bits, Migrate, Replay, Bulk, Serve, Call}
 use Rattle.er_program.specs.LastLines.{usage_line, memory_line, fetch_line, fault_line, refused_line, overfull_line, why_word}
 use Rattle.er_program.specs.Answers.{Answer, IsAnswer, IsScenarioAnswer, HasFetched, Files, FirstFault, AreDone, first_steps, lines_of_first, fault_answer, bits_answer, IsKeysAnswer, IsTraceAnswer, IsBulkAnswer, keys_answer}
 use Rattle.er_program.specs.BitTexts.{most_line_octets, verdict_lines, verdicts_in, bits_text}
@@ -23,10 +23,6 @@ use Rattle.trace_model.specs.Replays.{AreTaken, FirstRefused}
 use Rattle.key_store.specs.declared.key_file_fault.KeyFileFault.{KeyFileFault}
 use Rattle.key_store.specs.KeyFiles.{keys_of}
 use Rattle.er_program.specs.KeyLines.{keys_line}
-
--- the closed list of statuses
-abbrev pub IsStatus : ℕ → Type 0
-IsStatus s = (s ≡ 0) ⊎ (s ≡ 1) ⊎ (s ≡ 2) ⊎ (s ≡ 3) ⊎ (s ≡ 4) ⊎ (s ≡ 5) ⊎ (s ≡ 7) ⊎ (s ≡ 8)
 
 -- ---- what holds of a world
 
@@ -98,36 +94,6 @@ pub record BulkCounted (seed count : ℕ) (before now : Option (List ℕ)) : Typ
   pub written : Grew before now (totals_line seed count (totals_of_bulk seed count))
   pub holds : HoldsInBulk seed count (length (steps_of_bulk seed count))
 
-abbrev pub IsDone : Command → Files → Option (List ℕ) → Option (List ℕ) → Type 0
-IsDone Misused files before now = ⊥
-IsDone (Drill name) files before now = Drilled name files before now
-IsDone (Bits name) files before now = BitsRead name files before now
-IsDone (Migrate keys) files before now = Migrated keys files before now
-IsDone (Replay keys trace) files before now = Replayed keys trace files before now
-IsDone (Bulk seed count) files before now = BulkCounted seed count before now
-
--- ---- status 1
-
-abbrev pub IsMisused : Command → Option (List ℕ) → Option (List ℕ) → Type 0
-IsMisused Misused before now = Grew before now usage_line
-IsMisused (Drill name) before now = ⊥
-IsMisused (Bits name) before now = ⊥
-IsMisused (Migrate keys) before now = ⊥
-IsMisused (Replay keys trace) before now = ⊥
-IsMisused (Bulk seed count) before now = ⊥
-
--- ---- status 2
-
--- the fetch of a file word failed, the last name that was asked for; the file words before it were asked for before
-pub record IsUnfetched (command : Command) (asked asked_now : Option (List (List ℕ))) (c d : ℕ) (before now : Option (List ℕ)) : Type 0 where
-  pub first : List (List ℕ)
-  pub name : List ℕ
-  pub rest : List (List ℕ)
-  pub is : names_of command ≡ first ++ name ∷ rest
-  pub asked_for : Grew asked asked_now (first ++ name ∷ [])
-  pub rose : Rose c d
-  pub printed : Grew before now (fetch_line name)
-
 -- ---- statuses 3 and 8
 
 -- the file of that name is out of its grammar: the first fault of its first faulty line, which is printed alone
@@ -178,30 +144,11 @@ pub record IsEventRefused (keys name : List ℕ) (files : Files) (before now : O
   pub first : FirstRefused trace.settings (key_at entries) trace.entries fault
   pub written : Grew before now (printed trace.settings (key_at entries) first.first ++ refused_line fault)
 
--- status 3: the file is out of its grammar, or a step or an event is refused
-abbrev pub IsRefused : Command → Files → Option (List ℕ) → Option (List ℕ) → Type 0
-IsRefused Misused files before now = ⊥
-IsRefused (Drill name) files before now = IsOutOfForm name files before now ⊎ BrokeOff name files 3 before now
-IsRefused (Bits name) files before now = BitsTooLong name files before now
-IsRefused (Migrate keys) files before now = ⊥
-IsRefused (Replay keys trace) files before now =
-    IsTraceOutOfForm keys trace files before now ⊎ IsEventRefused keys trace files before now
-IsRefused (Bulk seed count) files before now = ⊥
-
 -- in a step of a bulk run too many frames would wait, which is printed alone
 pub record IsBulkOverfull (seed count : ℕ) (before now : Option (List ℕ)) : Type 0 where
   pub first : FirstOverfull bulk_plan (steps_of_bulk seed count)
   pub written : Grew before now (overfull_line first.link first.side first.most)
   pub holds : HoldsInBulk seed count first.count
-
--- status 8: a frame would be one more than may wait in one direction
-abbrev pub IsOverfull : Command → Files → Option (List ℕ) → Option (List ℕ) → Type 0
-IsOverfull Misused files before now = ⊥
-IsOverfull (Drill name) files before now = BrokeOff name files 8 before now
-IsOverfull (Bits name) files before now = ⊥
-IsOverfull (Migrate keys) files before now = ⊥
-IsOverfull (Replay keys trace) files before now = ⊥
-IsOverfull (Bulk seed count) files before now = IsBulkOverfull seed count before now
 
 -- ---- status 4
 
@@ -213,14 +160,6 @@ pub record AreKeysRefused (name : List ℕ) (files : Files) (asked asked_now : O
   pub fault : KeyFileFault
   pub refused : keys_of file ≡ Err fault
   pub printed : Grew before now (keys_line fault)
-
-abbrev pub IsKeyless : Command → Files → Option (List (List ℕ)) → Option (List (List ℕ)) → Option (List ℕ) → Option (List ℕ) → Type 0
-IsKeyless Misused files asked asked_now before now = ⊥
-IsKeyless (Drill name) files asked asked_now before now = ⊥
-IsKeyless (Bits name) files asked asked_now before now = ⊥
-IsKeyless (Migrate keys) files asked asked_now before now = AreKeysRefused keys files asked asked_now before now
-IsKeyless (Replay keys trace) files asked asked_now before now = AreKeysRefused keys files asked asked_now before now
-IsKeyless (Bulk seed count) files asked asked_now before now = ⊥
 
 -- ---- status 7
 
@@ -260,9 +199,11 @@ AreFirstLines (Bits name) files text = (text ≡ []) ⊎ FirstVerdictLines name 
 AreFirstLines (Migrate keys) files text = text ≡ []
 AreFirstLines (Replay keys trace) files text = (text ≡ []) ⊎ FirstEventLines keys trace files text
 AreFirstLines (Bulk seed count) files text = (text ≡ []) × HoldsWhereDone seed count
+AreFirstLines (Serve keys address rbc turns) files text = ⊥
+AreFirstLines (Call keys address engine rbc turns) files text = ⊥
 
 -- want of memory: the sink got the lines of some first steps, and then the last line
-pub record IsOutOfMemory (command : Command) (files : Files) (before now : Option (List ℕ)) : Type 0 where
+pub record IsSpent (command : Command) (files : Files) (before now : Option (List ℕ)) : Type 0 where
   pub text : List ℕ
   pub first : AreFirstLines command files text
   pub printed : Grew before now (text ++ memory_line)
@@ -283,6 +224,8 @@ WorldsHold (Bits name) files c d = Unit {0}
 WorldsHold (Migrate keys) files c d = Unit {0}
 WorldsHold (Replay keys trace) files c d = Unit {0}
 WorldsHold (Bulk seed count) files c d = HoldsWhereDone seed count
+WorldsHold (Serve keys address rbc turns) files c d = Unit {0}
+WorldsHold (Call keys address engine rbc turns) files c d = Unit {0}
 
 -- a beginning of what the run would have written, and what is claimed of the worlds of drill and bulk
 pub record IsAnswerBegun (command : Command) (files : Files) (c d : ℕ) (before now : Option (List ℕ)) : Type 0 where
@@ -302,9 +245,8 @@ pub record IsMemoryBegun (command : Command) (files : Files) (before now : Optio
 
 -- a write failed. The sink got a beginning of what the run would have written; where want of memory came before, the lines of some first
 -- steps and then a beginning of the last line
-pub record IsSinkFailed (command : Command) (files : Files) (c d f g : ℕ) (before now : Option (List ℕ)) : Type 0 where
-  pub rose : Rose f g
-  pub beginning : IsAnswerBegun command files c d before now ⊎ IsMemoryBegun command files before now
+abbrev pub IsTextBegun : Command → Files → (c d : ℕ) → (before now : Option (List ℕ)) → Type 0
+IsTextBegun command files c d before now = IsAnswerBegun command files c d before now ⊎ IsMemoryBegun command files before now
 
 -- ---- completeness
 
@@ -346,34 +288,3 @@ pub record HasBulkStatus (seed count : ℕ) (status : ℕ) : Type 0 where
   pub answers : IsBulkAnswer seed count answer
   pub is : status ≡ answer.status
   pub all_done : AllDone bulk_plan (steps_of_bulk seed count) (length (steps_of_bulk seed count)) → status ≡ 0
-
--- where the counts of cabinet and sink didn't rise, the words and the file give their status, want of memory aside
-abbrev pub IsComplete : Command → Files → ℕ → ℕ → ℕ → ℕ → ℕ → Type 0
-IsComplete Misused files c d f g status = (Rose f g → ⊥) → (status ≡ 1) ⊎ (status ≡ 7)
-IsComplete (Drill name) files c d f g status =
-    (Rose c d → ⊥) → (Rose f g → ⊥)
-    → ((file : List ℕ) × HasFile files name file × HasStatus file status) ⊎ (status ≡ 7)
-IsComplete (Bits name) files c d f g status =
-    (Rose c d → ⊥) → (Rose f g → ⊥)
-    → ((file : List ℕ) × HasFile files name file × (status ≡ (bits_answer file).status)) ⊎ (status ≡ 7)
-IsComplete (Migrate keys) files c d f g status =
-    (Rose c d → ⊥) → (Rose f g → ⊥)
-    → ((file : List ℕ) × HasFile files keys file × HasKeysStatus file status) ⊎ (status ≡ 7)
-IsComplete (Replay keys trace) files c d f g status =
-    (Rose c d → ⊥) → (Rose f g → ⊥) → HasReplayStatus keys trace files status ⊎ (status ≡ 7)
-IsComplete (Bulk seed count) files c d f g status = (Rose f g → ⊥) → HasBulkStatus seed count status ⊎ (status ≡ 7)
-
--- ---- a run
-
--- all of this, of a run with this status
-pub record Means (command : Command) (files : Files) (asked asked_now : Option (List (List ℕ))) (c d f g : ℕ) (before now : Option (List ℕ)) (status : ℕ) : Type 0 where
-  pub known : IsStatus status
-  pub done : status ≡ 0 → IsDone command files before now
-  pub usage : status ≡ 1 → IsMisused command before now
-  pub fetch : status ≡ 2 → IsUnfetched command asked asked_now c d before now
-  pub refused : status ≡ 3 → IsRefused command files before now
-  pub keys : status ≡ 4 → IsKeyless command files asked asked_now before now
-  pub sink : status ≡ 5 → IsSinkFailed command files c d f g before now
-  pub memory : status ≡ 7 → IsOutOfMemory command files before now
-  pub overfull : status ≡ 8 → IsOverfull command files before now
-  pub complete : IsComplete command files c d f g status

@@ -1,4 +1,4 @@
--- Representation: what the parts of a run write to the sink, and how they end; no claim rests on it.
+-- Contract: what the parts of a run write to the sink, and how they end.
 use Rattle.std.specs.Prelude.{◌≡◌, ◌⊎◌, ℕ, ◌≤◌, false, List, [], ◌∷◌, ◌++◌, Option, Some, None, Result, Ok, Err}
 use Rattle.er_base.specs.declared.text_fault.TextFault.{TextFault}
 use Rattle.er_scenario.specs.declared.step.Step.{Step}
@@ -13,7 +13,7 @@ use Rattle.er_world.specs.Standing.{KeptWorld, Ran, IsFaultBehind}
 use Rattle.drill_model.specs.Faults.{fault_behind}
 use Rattle.link_trait.specs.Outside.{Grew, GrewPart, Rose}
 use Rattle.link_trait.specs.declared.sink.Failed.{Failed}
-use Rattle.er_program.specs.Commands.{Command, Misused, Drill, Bits, Migrate, Replay, Bulk}
+use Rattle.er_program.specs.Commands.{Command, Misused, Drill, Bits, Migrate, Replay, Bulk, Serve, Call}
 use Rattle.er_program.specs.LastLines.{usage_line, memory_line}
 use Rattle.er_program.specs.Answers.{Answer, IsDrillAnswer, IsScenarioAnswer, IsFileAnswer, IsBitsAnswer, Files, AreDone, first_steps, lines_of_first, fault_answer, IsMigrateAnswer, IsReplayWordsAnswer, IsBulkAnswer}
 use Rattle.er_program.specs.Runs.{Spells, FirstVerdictLines, FirstEventLines}
@@ -163,6 +163,8 @@ IsGiven (Bits name) files c d a = IsBitsAnswer name files c d a
 IsGiven (Migrate keys) files c d a = IsMigrateAnswer keys files c d a
 IsGiven (Replay keys trace) files c d a = IsReplayWordsAnswer keys trace files c d a
 IsGiven (Bulk seed count) files c d a = IsBulkAnswer seed count a
+IsGiven (Serve keys address rbc turns) files c d a = ⊥
+IsGiven (Call keys address engine rbc turns) files c d a = ⊥
 
 -- the words were answered
 pub record Finished (command : Command) (files : Files) (c d : ℕ) (before now : Option (List ℕ)) (f g status : ℕ) : Type 0 where
@@ -195,6 +197,8 @@ IsBegun (Bits name) files text = (text ≡ []) ⊎ FirstVerdictLines name files 
 IsBegun (Migrate keys) files text = text ≡ []
 IsBegun (Replay keys trace) files text = (text ≡ []) ⊎ FirstEventLines keys trace files text
 IsBegun (Bulk seed count) files text = text ≡ []
+IsBegun (Serve keys address rbc turns) files text = ⊥
+IsBegun (Call keys address engine rbc turns) files text = ⊥
 
 -- memory ran out
 pub record Exhausted (command : Command) (files : Files) (before now : Option (List ℕ)) (f g : ℕ) : Type 0 where

@@ -58,8 +58,8 @@ fn frames_in(found: &BitFound<'_>) -> u64
 // Writes the line of what was found, and answers how many frames that is.
 fn tell_found<K: Sink>(alloc: Global, found: &BitFound<'_>, sink: &mut K) -> Result<u64, Stop>
     ensures tells { Tells (line_text (verdict_words (shown found.now))) (found_count (Some (shown found.now)))
-        (K.held sink.old) (K.held sink.new) (K.faults sink.old) (K.faults sink.new) result }
-    ensures sink_count { K.faults sink.old ≤ K.faults sink.new }
+        (K.state sink.old).held (K.state sink.new).held (K.state sink.old).faults (K.state sink.new).faults result }
+    ensures sink_count { (K.state sink.old).faults ≤ (K.state sink.new).faults }
 {
     let mut line = Vec::new(alloc);
     put_verdict(found, &mut line)?;
@@ -72,8 +72,8 @@ fn tell_found<K: Sink>(alloc: Global, found: &BitFound<'_>, sink: &mut K) -> Res
 // The same of what one call found, which may be nothing.
 fn tell<K: Sink>(alloc: Global, found: &Option<BitFound<'_>>, sink: &mut K) -> Result<u64, Stop>
     ensures tells { Tells (verdict_lines (option_to_list (option_map shown found.now))) (found_count (option_map shown found.now))
-        (K.held sink.old) (K.held sink.new) (K.faults sink.old) (K.faults sink.new) result }
-    ensures sink_count { K.faults sink.old ≤ K.faults sink.new }
+        (K.state sink.old).held (K.state sink.new).held (K.state sink.old).faults (K.state sink.new).faults result }
+    ensures sink_count { (K.state sink.old).faults ≤ (K.state sink.new).faults }
 {
     match found {
         Some(found) => tell_found(alloc, found, sink),
@@ -83,9 +83,9 @@ fn tell<K: Sink>(alloc: Global, found: &Option<BitFound<'_>>, sink: &mut K) -> R
 
 // The last line: how many bits there are, and how many frames.
 fn counted<K: Sink>(alloc: Global, bits: u64, frames: u64, sink: &mut K) -> Result<Status, Stop>
-    ensures gives { Gives (record { status = 0; text = counts_line bits frames }) (K.held sink.old) (K.held sink.new)
-        (K.faults sink.old) (K.faults sink.new) result }
-    ensures sink_count { K.faults sink.old ≤ K.faults sink.new }
+    ensures gives { Gives (record { status = 0; text = counts_line bits frames }) (K.state sink.old).held (K.state sink.new).held
+        (K.state sink.old).faults (K.state sink.new).faults result }
+    ensures sink_count { (K.state sink.old).faults ≤ (K.state sink.new).faults }
 {
     let mut line = Vec::new(alloc);
     put_line(
@@ -103,8 +103,8 @@ fn counted<K: Sink>(alloc: Global, bits: u64, frames: u64, sink: &mut K) -> Resu
 // Reads a line, and writes the line of each verdict as soon as it comes.
 fn read_line<K: Sink>(alloc: Global, octets: &[u8], sink: &mut K) -> Result<Status, Stop>
     requires short { length octets.now ≤ 16777216 }
-    ensures ends { EndsBits octets.now (K.held sink.old) (K.held sink.new) (K.faults sink.old) (K.faults sink.new) result }
-    ensures sink_count { K.faults sink.old ≤ K.faults sink.new }
+    ensures ends { EndsBits octets.now (K.state sink.old).held (K.state sink.new).held (K.state sink.old).faults (K.state sink.new).faults result }
+    ensures sink_count { (K.state sink.old).faults ≤ (K.state sink.new).faults }
 {
     reading_goes_on();
     nothing_is_read();
@@ -126,8 +126,8 @@ fn read_line<K: Sink>(alloc: Global, octets: &[u8], sink: &mut K) -> Result<Stat
 
 // The octets of the file.
 fn bits_file<K: Sink>(alloc: Global, octets: &[u8], sink: &mut K) -> Result<Status, Stop>
-    ensures ends { EndsBits octets.now (K.held sink.old) (K.held sink.new) (K.faults sink.old) (K.faults sink.new) result }
-    ensures sink_count { K.faults sink.old ≤ K.faults sink.new }
+    ensures ends { EndsBits octets.now (K.state sink.old).held (K.state sink.new).held (K.state sink.old).faults (K.state sink.new).faults result }
+    ensures sink_count { (K.state sink.old).faults ≤ (K.state sink.new).faults }
 {
     if octets.len() > MOST_LINE_OCTETS {
         return out_of_form(alloc, 0, Why::Long, sink);
@@ -142,13 +142,13 @@ pub fn bits_run<F: Cabinet, K: Sink>(
     cabinet: &mut F,
     sink: &mut K,
 ) -> Result<Status, Stop>
-    ensures ends { Ends (Bits name.now) (F.files cabinet.new) (F.faults cabinet.old) (F.faults cabinet.new)
-        (K.held sink.old) (K.held sink.new) (K.faults sink.old) (K.faults sink.new) result }
-    ensures asked { IfOk result (λ _. Grew (F.asked cabinet.old) (F.asked cabinet.new) (name.now ∷ [])) }
-    ensures part { GrewPart (F.asked cabinet.old) (F.asked cabinet.new) (name.now ∷ []) }
-    ensures files { Kept (F.files cabinet.old) (F.files cabinet.new) }
-    ensures count { F.faults cabinet.old ≤ F.faults cabinet.new }
-    ensures sink_count { K.faults sink.old ≤ K.faults sink.new }
+    ensures ends { Ends (Bits name.now) (F.state cabinet.new).files (F.state cabinet.old).faults (F.state cabinet.new).faults
+        (K.state sink.old).held (K.state sink.new).held (K.state sink.old).faults (K.state sink.new).faults result }
+    ensures asked { IfOk result (λ _. Grew (F.state cabinet.old).asked (F.state cabinet.new).asked (name.now ∷ [])) }
+    ensures part { GrewPart (F.state cabinet.old).asked (F.state cabinet.new).asked (name.now ∷ []) }
+    ensures files { Kept (F.state cabinet.old).files (F.state cabinet.new).files }
+    ensures count { (F.state cabinet.old).faults ≤ (F.state cabinet.new).faults }
+    ensures sink_count { (K.state sink.old).faults ≤ (K.state sink.new).faults }
 {
     match cabinet.fetch(alloc, name) {
         Ok(octets) => bits_file(alloc, octets.as_slice(), sink),

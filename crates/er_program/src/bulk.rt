@@ -91,9 +91,9 @@ fn counted<K: Sink>(
     totals: &Totals,
     sink: &mut K,
 ) -> Result<Status, Stop>
-    ensures gives { Gives (record { status = 0; text = totals_line seed count totals.now }) (K.held sink.old)
-        (K.held sink.new) (K.faults sink.old) (K.faults sink.new) result }
-    ensures sink_count { K.faults sink.old ≤ K.faults sink.new }
+    ensures gives { Gives (record { status = 0; text = totals_line seed count totals.now }) (K.state sink.old).held
+        (K.state sink.new).held (K.state sink.old).faults (K.state sink.new).faults result }
+    ensures sink_count { (K.state sink.old).faults ≤ (K.state sink.new).faults }
 {
     let mut line = Vec::new(alloc);
     put_totals(seed, count, totals, &mut line)?;
@@ -113,9 +113,9 @@ fn drawn(alloc: Global, seed: u64, count: u32) -> Result<Vec<Step>, NoMemory>
 /// `bulk SEED COUNT`: does the steps of a bulk run, and prints their totals.
 pub fn bulk_run<K: Sink>(alloc: Global, seed: u64, count: u32, sink: &mut K) -> Result<Status, Stop>
     requires { count ≤ 10000 }
-    ensures ends { GivesOne (IsBulkAnswer seed count) (K.held sink.old) (K.held sink.new) (K.faults sink.old)
-        (K.faults sink.new) result }
-    ensures sink_count { K.faults sink.old ≤ K.faults sink.new }
+    ensures ends { GivesOne (IsBulkAnswer seed count) (K.state sink.old).held (K.state sink.new).held (K.state sink.old).faults
+        (K.state sink.new).faults result }
+    ensures sink_count { (K.state sink.old).faults ≤ (K.state sink.new).faults }
 {
     drill_laws::laws::worlds();
     let steps = drawn(alloc, seed, count)?;

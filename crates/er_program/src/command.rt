@@ -1,11 +1,17 @@
 //! The commands of the program, and the words that fit them.
 
-ghost use Rattle.std.specs.Prelude.{◌≡◌};
-ghost use Rattle.er_program.specs.Commands.{command_of, command_of_two, bulk_of, command_of_three, texts};
-ghost use Rattle.er_program.specs.CommandViews.{command_view, HasFew};
+ghost use Rattle.std.specs.Prelude.{◌≡◌, ◌≤◌, ◌<◌, IfSome};
+ghost use Rattle.er_program.specs.Commands.{command_of, command_of_two, bulk_of, command_of_three, at_most, etcs_number, turns_number, serve_of, command_of_five, call_of, command_of_six, needs_wires, texts};
+ghost use Rattle.er_program.specs.CommandViews.{command_view, IsInRange};
 
 use bulk_steps::MOST_MESSAGES;
 use er_base::decimal;
+
+/// The most turns that a loop can be asked for (this profile).
+const MOST_TURNS: u64 = 1_000_000_000;
+
+/// The greatest ETCS number.
+const MOST_ETCS_NUMBER: u64 = 16_777_215;
 
 /// A command, as the words of the program spell it.
 #[derive(Clone, Copy)]
@@ -41,11 +47,52 @@ pub enum Command<'a> {
         /// The number of messages.
         count: u32,
     },
+    /// `serve KEYS ADDRESS RBC TURNS`.
+    Serve {
+        /// The name of the key file.
+        keys: &'a str,
+        /// The address to listen at.
+        address: &'a str,
+        /// The radio block centre.
+        rbc: u32,
+        /// How many turns are done at the most.
+        turns: u64,
+    },
+    /// `call KEYS ADDRESS ENGINE RBC TURNS`.
+    Call {
+        /// The name of the key file.
+        keys: &'a str,
+        /// The address to dial.
+        address: &'a str,
+        /// The engine that calls.
+        engine: u32,
+        /// The radio block centre that is called.
+        rbc: u32,
+        /// How many turns are done at the most.
+        turns: u64,
+    },
+}
+
+impl Command<'_> {
+    /// Whether it runs the readiness loop, and so needs wires, a clock and random words.
+    pub fn needs_wires(&self) -> bool
+        ensures { result ≡ needs_wires (command_view self.now) }
+    {
+        match self {
+            Command::Misused
+            | Command::Drill { .. }
+            | Command::Bits { .. }
+            | Command::Migrate { .. }
+            | Command::Replay { .. }
+            | Command::Bulk { .. } => false,
+            Command::Serve { .. } | Command::Call { .. } => true,
+        }
+    }
 }
 
 fn command_of_two<'a>(command: &str, name: &'a str) -> Command<'a>
     ensures fits { command_view result ≡ command_of_two command.now name.now }
-    ensures few { HasFew (command_view result) }
+    ensures range { IsInRange (command_view result) }
 {
     if command == "drill" {
         Command::Drill { name }
@@ -60,7 +107,7 @@ fn command_of_two<'a>(command: &str, name: &'a str) -> Command<'a>
 
 fn bulk_of<'a>(seed: Option<u64>, count: Option<u64>) -> Command<'a>
     ensures fits { command_view result ≡ bulk_of seed count }
-    ensures few { HasFew (command_view result) }
+    ensures range { IsInRange (command_view result) }
 {
     let Some(seed) = seed else {
         return Command::Misused;
@@ -79,7 +126,7 @@ fn bulk_of<'a>(seed: Option<u64>, count: Option<u64>) -> Command<'a>
 
 fn command_of_three<'a>(command: &str, first: &'a str, second: &'a str) -> Command<'a>
     ensures fits { command_view result ≡ command_of_three command.now first.now second.now }
-    ensures few { HasFew (command_view result) }
+    ensures range { IsInRange (command_view result) }
 {
     if command == "replay" {
         Command::Replay {
@@ -93,16 +140,150 @@ fn command_of_three<'a>(command: &str, first: &'a str, second: &'a str) -> Comma
     }
 }
 
+fn at_most(most: u64, number: Option<u64>) -> Option<u64>
+    ensures fits { result ≡ at_most most number }
+    ensures range { IfSome result (λ n. n ≤ most) }
+{
+    let number = number?;
+    if number <= most { Some(number) } else { None }
+}
+
+fn etcs_number(word: &str) -> Option<u32>
+    ensures fits { result ≡ etcs_number word.now }
+    ensures range { IfSome result (λ n. n < 16777216) }
+{
+    match at_most(MOST_ETCS_NUMBER, decimal(word.as_bytes())) {
+        Some(number) => Some(number as u32),
+        None => None,
+    }
+}
+
+fn turns_number(word: &str) -> Option<u64>
+    ensures { result ≡ turns_number word.now }
+{
+    at_most(MOST_TURNS, decimal(word.as_bytes()))
+}
+
+fn serve_of<'a>(
+    keys: &'a str,
+    address: &'a str,
+    rbc: Option<u32>,
+    turns: Option<u64>,
+) -> Command<'a>
+    requires rbc { IfSome rbc (λ n. n < 16777216) }
+    ensures fits { command_view result ≡ serve_of keys.now address.now rbc turns }
+    ensures range { IsInRange (command_view result) }
+{
+    let Some(rbc) = rbc else {
+        return Command::Misused;
+    };
+    let Some(turns) = turns else {
+        return Command::Misused;
+    };
+    Command::Serve {
+        keys,
+        address,
+        rbc,
+        turns,
+    }
+}
+
+fn command_of_five<'a>(
+    command: &str,
+    keys: &'a str,
+    address: &'a str,
+    rbc: &str,
+    turns: &str,
+) -> Command<'a>
+    ensures fits { command_view result ≡ command_of_five command.now keys.now address.now rbc.now turns.now }
+    ensures range { IsInRange (command_view result) }
+{
+    if command == "serve" {
+        serve_of(keys, address, etcs_number(rbc), turns_number(turns))
+    } else {
+        Command::Misused
+    }
+}
+
+fn call_of<'a>(
+    keys: &'a str,
+    address: &'a str,
+    engine: Option<u32>,
+    rbc: Option<u32>,
+    turns: Option<u64>,
+) -> Command<'a>
+    requires engine { IfSome engine (λ n. n < 16777216) }
+    requires rbc { IfSome rbc (λ n. n < 16777216) }
+    ensures fits { command_view result ≡ call_of keys.now address.now engine rbc turns }
+    ensures range { IsInRange (command_view result) }
+{
+    let Some(engine) = engine else {
+        return Command::Misused;
+    };
+    let Some(rbc) = rbc else {
+        return Command::Misused;
+    };
+    let Some(turns) = turns else {
+        return Command::Misused;
+    };
+    Command::Call {
+        keys,
+        address,
+        engine,
+        rbc,
+        turns,
+    }
+}
+
+fn command_of_six<'a>(
+    command: &str,
+    keys: &'a str,
+    address: &'a str,
+    engine: &str,
+    rbc: &str,
+    turns: &str,
+) -> Command<'a>
+    ensures fits { command_view result ≡ command_of_six command.now keys.now address.now engine.now rbc.now turns.now }
+    ensures range { IsInRange (command_view result) }
+{
+    if command == "call" {
+        call_of(
+            keys,
+            address,
+            etcs_number(engine),
+            etcs_number(rbc),
+            turns_number(turns),
+        )
+    } else {
+        Command::Misused
+    }
+}
+
 /// The command that these words fit. They leave out the program's name.
 pub fn command_from(words: &[String]) -> Command<'_>
     ensures fits { command_view result ≡ command_of (texts words.now) }
-    ensures few { HasFew (command_view result) }
+    ensures range { IsInRange (command_view result) }
 {
     match words {
         [command, name] => command_of_two(command.as_str(), name.as_str()),
         [command, first, second] => {
             command_of_three(command.as_str(), first.as_str(), second.as_str())
         }
+        [command, keys, address, rbc, turns] => command_of_five(
+            command.as_str(),
+            keys.as_str(),
+            address.as_str(),
+            rbc.as_str(),
+            turns.as_str(),
+        ),
+        [command, keys, address, engine, rbc, turns] => command_of_six(
+            command.as_str(),
+            keys.as_str(),
+            address.as_str(),
+            engine.as_str(),
+            rbc.as_str(),
+            turns.as_str(),
+        ),
         _ => Command::Misused,
     }
 }

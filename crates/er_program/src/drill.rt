@@ -29,9 +29,9 @@ fn step_once<K: Sink>(
     requires moment { HasMoment step.now }
     requires unspent { world.old.spent ≡ false }
     ensures drills { (plan : Plan) (done : List AnyStep) → Ran world.old plan done
-        → StepsOne plan done world.old step.now world.new (K.held sink.old) (K.held sink.new) (K.faults sink.old)
-        (K.faults sink.new) result }
-    ensures sink_count { K.faults sink.old ≤ K.faults sink.new }
+        → StepsOne plan done world.old step.now world.new (K.state sink.old).held (K.state sink.new).held (K.state sink.old).faults
+        (K.state sink.new).faults result }
+    ensures sink_count { (K.state sink.old).faults ≤ (K.state sink.new).faults }
 {
     let mut out = Vec::new(alloc);
     match world.apply(alloc, step, &mut out) {
@@ -46,9 +46,9 @@ fn step_once<K: Sink>(
 /// Does the steps of a scenario and writes what comes of them, to the end or up to the first step that isn't done.
 pub fn drill<K: Sink>(alloc: Global, scenario: &Scenario, sink: &mut K) -> Result<Status, Stop>
     requires { CanBeRead scenario.now }
-    ensures drills { Drills scenario.now (K.held sink.old) (K.held sink.new) (K.faults sink.old)
-        (K.faults sink.new) result }
-    ensures sink_count { K.faults sink.old ≤ K.faults sink.new }
+    ensures drills { Drills scenario.now (K.state sink.old).held (K.state sink.new).held (K.state sink.old).faults
+        (K.state sink.new).faults result }
+    ensures sink_count { (K.state sink.old).faults ≤ (K.state sink.new).faults }
 {
     drill_model::laws::runs_grow();
     let mut world = World::new(alloc, scenario.level, scenario.settings, scenario.show)?;

@@ -22,8 +22,8 @@ use std::alloc::Global;
 /// Writes a text, which may be empty: then nothing is asked of the sink.
 #[tactic(auto, using(link_trait::specs::Growth::grew_nothing))]
 pub fn say<K: Sink>(text: &[u8], sink: &mut K) -> Result<(), Failed>
-    ensures gives { Writes text.now (K.held sink.old) (K.held sink.new) (K.faults sink.old) (K.faults sink.new) result }
-    ensures sink_count { K.faults sink.old ≤ K.faults sink.new }
+    ensures gives { Writes text.now (K.state sink.old).held (K.state sink.new).held (K.state sink.old).faults (K.state sink.new).faults result }
+    ensures sink_count { (K.state sink.old).faults ≤ (K.state sink.new).faults }
 {
     if text.is_empty() {
         return Ok(());
@@ -33,10 +33,10 @@ pub fn say<K: Sink>(text: &[u8], sink: &mut K) -> Result<(), Failed>
 
 /// Writes a text, and gives the status that goes with it.
 pub fn last<K: Sink>(status: u8, text: &[u8], sink: &mut K) -> Result<Status, Stop>
-    ensures gives { Gives (record { status = status; text = text.now }) (K.held sink.old) (K.held sink.new)
-        (K.faults sink.old) (K.faults sink.new) result }
+    ensures gives { Gives (record { status = status; text = text.now }) (K.state sink.old).held (K.state sink.new).held
+        (K.state sink.old).faults (K.state sink.new).faults result }
     ensures never { (want : Want) → result ≢ Err (stop.NoMemory want) }
-    ensures sink_count { K.faults sink.old ≤ K.faults sink.new }
+    ensures sink_count { (K.state sink.old).faults ≤ (K.state sink.new).faults }
 {
     match say(text, sink) {
         Ok(()) => Ok(Status(status)),
@@ -46,18 +46,18 @@ pub fn last<K: Sink>(status: u8, text: &[u8], sink: &mut K) -> Result<Status, St
 
 /// The words fit no command.
 pub fn misused<K: Sink>(sink: &mut K) -> Result<Status, Stop>
-    ensures gives { Gives (record { status = 1; text = usage_line }) (K.held sink.old) (K.held sink.new)
-        (K.faults sink.old) (K.faults sink.new) result }
-    ensures sink_count { K.faults sink.old ≤ K.faults sink.new }
+    ensures gives { Gives (record { status = 1; text = usage_line }) (K.state sink.old).held (K.state sink.new).held
+        (K.state sink.old).faults (K.state sink.new).faults result }
+    ensures sink_count { (K.state sink.old).faults ≤ (K.state sink.new).faults }
 {
     last(1, b"! usage\n", sink)
 }
 
 /// The fetch of that name failed.
 pub fn unfetched<K: Sink>(alloc: Global, name: &str, sink: &mut K) -> Result<Status, Stop>
-    ensures gives { Gives (record { status = 2; text = fetch_line name.now }) (K.held sink.old) (K.held sink.new)
-        (K.faults sink.old) (K.faults sink.new) result }
-    ensures sink_count { K.faults sink.old ≤ K.faults sink.new }
+    ensures gives { Gives (record { status = 2; text = fetch_line name.now }) (K.state sink.old).held (K.state sink.new).held
+        (K.state sink.old).faults (K.state sink.new).faults result }
+    ensures sink_count { (K.state sink.old).faults ≤ (K.state sink.new).faults }
 {
     let line = fetch_line(alloc, name)?;
     last(2, line.as_slice(), sink)
@@ -70,9 +70,9 @@ pub fn out_of_form<K: Sink>(
     why: Why,
     sink: &mut K,
 ) -> Result<Status, Stop>
-    ensures gives { Gives (record { status = 3; text = fault_line line (why_word why) }) (K.held sink.old)
-        (K.held sink.new) (K.faults sink.old) (K.faults sink.new) result }
-    ensures sink_count { K.faults sink.old ≤ K.faults sink.new }
+    ensures gives { Gives (record { status = 3; text = fault_line line (why_word why) }) (K.state sink.old).held
+        (K.state sink.new).held (K.state sink.old).faults (K.state sink.new).faults result }
+    ensures sink_count { (K.state sink.old).faults ≤ (K.state sink.new).faults }
 {
     let line = fault_line(alloc, line, why_octets(why))?;
     last(3, line.as_slice(), sink)
@@ -85,9 +85,9 @@ pub fn not_done<K: Sink>(
     fault: WorldFault,
     sink: &mut K,
 ) -> Result<Status, Stop>
-    ensures gives { TellsFault line fault (K.held sink.old) (K.held sink.new) (K.faults sink.old)
-        (K.faults sink.new) result }
-    ensures sink_count { K.faults sink.old ≤ K.faults sink.new }
+    ensures gives { TellsFault line fault (K.state sink.old).held (K.state sink.new).held (K.state sink.old).faults
+        (K.state sink.new).faults result }
+    ensures sink_count { (K.state sink.old).faults ≤ (K.state sink.new).faults }
 {
     match fault {
         WorldFault::NoLink(_) => {
@@ -114,9 +114,9 @@ pub fn not_done<K: Sink>(
 pub fn closed<K: Sink>(alloc: Global, world: &World, sink: &mut K) -> Result<Status, Stop>
     requires { world.now.spent ≡ false }
     ensures gives { (plan : Plan) (steps : List AnyStep) → Ran world.now plan steps
-        → Gives (record { status = 0; text = last_lines plan steps }) (K.held sink.old) (K.held sink.new)
-        (K.faults sink.old) (K.faults sink.new) result }
-    ensures sink_count { K.faults sink.old ≤ K.faults sink.new }
+        → Gives (record { status = 0; text = last_lines plan steps }) (K.state sink.old).held (K.state sink.new).held
+        (K.state sink.old).faults (K.state sink.new).faults result }
+    ensures sink_count { (K.state sink.old).faults ≤ (K.state sink.new).faults }
 {
     let mut out = Vec::new(alloc);
     world.summary(alloc, &mut out)?;
@@ -125,8 +125,8 @@ pub fn closed<K: Sink>(alloc: Global, world: &World, sink: &mut K) -> Result<Sta
 
 /// Writes the last line of a run whose objects can't be made: status 7, or 5 where the write fails.
 pub fn unmade<K: Sink>(sink: &mut K) -> Status
-    ensures gives { Exhausts (K.held sink.old) (K.held sink.new) (K.faults sink.old) (K.faults sink.new) result }
-    ensures sink_count { K.faults sink.old ≤ K.faults sink.new }
+    ensures gives { Exhausts (K.state sink.old).held (K.state sink.new).held (K.state sink.old).faults (K.state sink.new).faults result }
+    ensures sink_count { (K.state sink.old).faults ≤ (K.state sink.new).faults }
 {
     match say(b"! memory\n", sink) {
         Ok(()) => Status(7),
@@ -136,8 +136,8 @@ pub fn unmade<K: Sink>(sink: &mut K) -> Status
 
 /// Writes the last line of a run for which memory didn't suffice: status 7, or 5 where the write fails.
 pub fn out_of_memory<K: Sink>(want: NoMemory, sink: &mut K) -> Status
-    ensures gives { Exhausts (K.held sink.old) (K.held sink.new) (K.faults sink.old) (K.faults sink.new) result }
-    ensures sink_count { K.faults sink.old ≤ K.faults sink.new }
+    ensures gives { Exhausts (K.state sink.old).held (K.state sink.new).held (K.state sink.old).faults (K.state sink.new).faults result }
+    ensures sink_count { (K.state sink.old).faults ≤ (K.state sink.new).faults }
 {
     let _ = want;
     unmade(sink)

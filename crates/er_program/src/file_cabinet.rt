@@ -42,11 +42,7 @@ impl<R: Files + Drop> FileCabinet<R> {
 }
 
 impl<R: Files + Drop> Cabinet for FileCabinet<R> {
-    ghost files = { λ _. None };
-
-    ghost asked = { λ _. None };
-
-    ghost faults = { λ count. count };
+    ghost state = { λ count. record { files = None; asked = None; faults = count } };
 
     fn fetch(&mut self, alloc: Global, name: &str) -> Result<Vec<u8>, FetchFault>
         ensures most { IfOk result (λ octets. vec_len octets ≤ MOST_FILE_OCTETS) }

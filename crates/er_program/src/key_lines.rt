@@ -26,9 +26,9 @@ pub fn say_keys<K: Sink>(
     words: &[PrintedWord<'_>],
     sink: &mut K,
 ) -> Result<Status, Stop>
-    ensures gives { Gives (record { status = 4; text = line_text (codes "!" ∷ map word_printed words.now) }) (K.held sink.old)
-        (K.held sink.new) (K.faults sink.old) (K.faults sink.new) result }
-    ensures sink_count { K.faults sink.old ≤ K.faults sink.new }
+    ensures gives { Gives (record { status = 4; text = line_text (codes "!" ∷ map word_printed words.now) }) (K.state sink.old).held
+        (K.state sink.new).held (K.state sink.old).faults (K.state sink.new).faults result }
+    ensures sink_count { (K.state sink.old).faults ≤ (K.state sink.new).faults }
 {
     let mut line = Vec::new(alloc);
     put_line(&Plain(b"!"), words, &mut line)?;
@@ -37,9 +37,9 @@ pub fn say_keys<K: Sink>(
 
 // The key file has a version that is unknown.
 fn say_version<K: Sink>(alloc: Global, version: i64, sink: &mut K) -> Result<Status, Stop>
-    ensures gives { Gives (record { status = 4; text = keys_line (keys.Version version) }) (K.held sink.old)
-        (K.held sink.new) (K.faults sink.old) (K.faults sink.new) result }
-    ensures sink_count { K.faults sink.old ≤ K.faults sink.new }
+    ensures gives { Gives (record { status = 4; text = keys_line (keys.Version version) }) (K.state sink.old).held
+        (K.state sink.new).held (K.state sink.old).faults (K.state sink.new).faults result }
+    ensures sink_count { (K.state sink.old).faults ≤ (K.state sink.new).faults }
 {
     let number = decimal_text(alloc, version)?;
     let words = [Plain(b"keys"), Plain(b"version"), Plain(number.as_bytes())];
@@ -59,10 +59,10 @@ pub fn keys_refused<K: Sink>(
     fault: KeyFileFault,
     sink: &mut K,
 ) -> Result<Status, Stop>
-    ensures gives { Gives (keys_answer fault) (K.held sink.old) (K.held sink.new) (K.faults sink.old)
-        (K.faults sink.new) result }
+    ensures gives { Gives (keys_answer fault) (K.state sink.old).held (K.state sink.new).held (K.state sink.old).faults
+        (K.state sink.new).faults result }
     ensures want { (want : Want) → fault ≡ keys.NoMemory want → result ≡ Err (stop.NoMemory want) }
-    ensures sink_count { K.faults sink.old ≤ K.faults sink.new }
+    ensures sink_count { (K.state sink.old).faults ≤ (K.state sink.new).faults }
 {
     match fault {
         KeyFileFault::Document => {

@@ -15,9 +15,10 @@ mod halt;
 mod key_lines;
 mod last_lines;
 pub mod laws;
-mod line_command;
 mod machine_clock;
 mod migrate;
+mod outside;
+mod pair;
 mod replay;
 mod serving;
 mod status;
@@ -25,6 +26,7 @@ mod stdout_sink;
 mod stop;
 mod top;
 
+pub use command::{Command, command_from};
 pub use endings::unmade;
 pub use file_cabinet::{FileCabinet, MOST_FILE_OCTETS};
 pub use link_trait::{
@@ -34,4 +36,4 @@ pub use link_trait::{
 pub use machine_clock::MachineClock;
 pub use status::Status;
 pub use stdout_sink::StdoutSink;
-pub use top::run;
+pub use top::{run, run_off_line};

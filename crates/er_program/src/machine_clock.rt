@@ -38,7 +38,7 @@ impl<R: SystemClock + Drop> MachineClock<R> {
 }
 
 impl<R: SystemClock + Drop> Clock for MachineClock<R> {
-    ghost answers = { λ _. None };
+    ghost state = { λ _. record { answers = None } };
 
     fn now(&mut self) -> u64
         ensures last { result ≡ self.new }

@@ -18,9 +18,9 @@ use std::alloc::Global;
 
 // Prints the entries of a store.
 fn print_keys<K: Sink>(alloc: Global, store: &KeyStore, sink: &mut K) -> Result<Status, Stop>
-    ensures ends { GivesOne (IsKeyText store.now) (K.held sink.old) (K.held sink.new) (K.faults sink.old)
-        (K.faults sink.new) result }
-    ensures sink_count { K.faults sink.old ≤ K.faults sink.new }
+    ensures ends { GivesOne (IsKeyText store.now) (K.state sink.old).held (K.state sink.new).held (K.state sink.old).faults
+        (K.state sink.new).faults result }
+    ensures sink_count { (K.state sink.old).faults ≤ (K.state sink.new).faults }
 {
     let text = store.to_text(alloc)?;
     last(0, text.as_slice(), sink)
@@ -28,9 +28,9 @@ fn print_keys<K: Sink>(alloc: Global, store: &KeyStore, sink: &mut K) -> Result<
 
 // The octets of the file.
 fn migrate_file<K: Sink>(alloc: Global, octets: &[u8], sink: &mut K) -> Result<Status, Stop>
-    ensures ends { GivesOne (IsKeysAnswer (keys_of octets.now)) (K.held sink.old) (K.held sink.new) (K.faults sink.old)
-        (K.faults sink.new) result }
-    ensures sink_count { K.faults sink.old ≤ K.faults sink.new }
+    ensures ends { GivesOne (IsKeysAnswer (keys_of octets.now)) (K.state sink.old).held (K.state sink.new).held (K.state sink.old).faults
+        (K.state sink.new).faults result }
+    ensures sink_count { (K.state sink.old).faults ≤ (K.state sink.new).faults }
 {
     match KeyStore::from_bytes(alloc, octets) {
         Ok(store) => print_keys(alloc, &store, sink),
@@ -45,13 +45,13 @@ pub fn migrate_run<F: Cabinet, K: Sink>(
     cabinet: &mut F,
     sink: &mut K,
 ) -> Result<Status, Stop>
-    ensures ends { Ends (Migrate name.now) (F.files cabinet.new) (F.faults cabinet.old) (F.faults cabinet.new)
-        (K.held sink.old) (K.held sink.new) (K.faults sink.old) (K.faults sink.new) result }
-    ensures asked { IfOk result (λ _. Grew (F.asked cabinet.old) (F.asked cabinet.new) (name.now ∷ [])) }
-    ensures part { GrewPart (F.asked cabinet.old) (F.asked cabinet.new) (name.now ∷ []) }
-    ensures files { Kept (F.files cabinet.old) (F.files cabinet.new) }
-    ensures count { F.faults cabinet.old ≤ F.faults cabinet.new }
-    ensures sink_count { K.faults sink.old ≤ K.faults sink.new }
+    ensures ends { Ends (Migrate name.now) (F.state cabinet.new).files (F.state cabinet.old).faults (F.state cabinet.new).faults
+        (K.state sink.old).held (K.state sink.new).held (K.state sink.old).faults (K.state sink.new).faults result }
+    ensures asked { IfOk result (λ _. Grew (F.state cabinet.old).asked (F.state cabinet.new).asked (name.now ∷ [])) }
+    ensures part { GrewPart (F.state cabinet.old).asked (F.state cabinet.new).asked (name.now ∷ []) }
+    ensures files { Kept (F.state cabinet.old).files (F.state cabinet.new).files }
+    ensures count { (F.state cabinet.old).faults ≤ (F.state cabinet.new).faults }
+    ensures sink_count { (K.state sink.old).faults ≤ (K.state sink.new).faults }
 {
     match cabinet.fetch(alloc, name) {
         Ok(octets) => migrate_file(alloc, octets.as_slice(), sink),

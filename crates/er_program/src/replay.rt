@@ -27,9 +27,9 @@ use trace_replay::{ReplayFault, replay};
 
 // The event at this line of the trace is refused.
 fn refused<K: Sink>(alloc: Global, line: usize, word: &[u8], sink: &mut K) -> Result<Status, Stop>
-    ensures gives { Gives (record { status = 3; text = fault_line line word.now }) (K.held sink.old) (K.held sink.new)
-        (K.faults sink.old) (K.faults sink.new) result }
-    ensures sink_count { K.faults sink.old ≤ K.faults sink.new }
+    ensures gives { Gives (record { status = 3; text = fault_line line word.now }) (K.state sink.old).held (K.state sink.new).held
+        (K.state sink.old).faults (K.state sink.new).faults result }
+    ensures sink_count { (K.state sink.old).faults ≤ (K.state sink.new).faults }
 {
     let line = fault_line(alloc, line, word)?;
     last(3, line.as_slice(), sink)
@@ -37,9 +37,9 @@ fn refused<K: Sink>(alloc: Global, line: usize, word: &[u8], sink: &mut K) -> Re
 
 // Why the replay ends before the last event.
 fn not_taken<K: Sink>(alloc: Global, fault: ReplayFault, sink: &mut K) -> Result<Status, Stop>
-    ensures tells { TellsRefusal fault (K.held sink.old) (K.held sink.new) (K.faults sink.old) (K.faults sink.new)
+    ensures tells { TellsRefusal fault (K.state sink.old).held (K.state sink.new).held (K.state sink.old).faults (K.state sink.new).faults
         result }
-    ensures sink_count { K.faults sink.old ≤ K.faults sink.new }
+    ensures sink_count { (K.state sink.old).faults ≤ (K.state sink.new).faults }
 {
     match fault {
         ReplayFault::NoConn { line, .. } => refused(alloc, line, b"noconn", sink),
@@ -61,9 +61,9 @@ fn replay_events<K: Sink>(
 ) -> Result<Status, Stop>
     requires { CanBeRead trace.now }
     ensures ends { EndsOne (IsReplayAnswer trace.now.settings (key_at store.now) trace.now.entries)
-        (BeginsEvents trace.now.settings (key_at store.now) trace.now.entries) (K.held sink.old) (K.held sink.new)
-        (K.faults sink.old) (K.faults sink.new) result }
-    ensures sink_count { K.faults sink.old ≤ K.faults sink.new }
+        (BeginsEvents trace.now.settings (key_at store.now) trace.now.entries) (K.state sink.old).held (K.state sink.new).held
+        (K.state sink.old).faults (K.state sink.new).faults result }
+    ensures sink_count { (K.state sink.old).faults ≤ (K.state sink.new).faults }
 {
     match replay(alloc, store, trace, sink) {
         Ok(()) => Ok(Status(0)),
@@ -79,8 +79,8 @@ fn replay_file<K: Sink>(
     sink: &mut K,
 ) -> Result<Status, Stop>
     ensures ends { EndsOne (IsTraceAnswer store.now (trace_of octets.now)) (BeginsTrace store.now (trace_of octets.now))
-        (K.held sink.old) (K.held sink.new) (K.faults sink.old) (K.faults sink.new) result }
-    ensures sink_count { K.faults sink.old ≤ K.faults sink.new }
+        (K.state sink.old).held (K.state sink.new).held (K.state sink.old).faults (K.state sink.new).faults result }
+    ensures sink_count { (K.state sink.old).faults ≤ (K.state sink.new).faults }
 {
     match read(alloc, octets) {
         Ok(trace) => replay_events(alloc, store, &trace, sink),
@@ -97,15 +97,15 @@ fn replay_trace<F: Cabinet, K: Sink>(
     cabinet: &mut F,
     sink: &mut K,
 ) -> Result<Status, Stop>
-    ensures ends { EndsOne (IsTraceFileAnswer store.now name.now (F.files cabinet.new) (F.faults cabinet.old)
-        (F.faults cabinet.new)) (BeginsTraceFile store.now name.now (F.files cabinet.new)) (K.held sink.old)
-        (K.held sink.new) (K.faults sink.old) (K.faults sink.new) result }
-    ensures asked { IfOk result (λ _. Grew (F.asked cabinet.old) (F.asked cabinet.new) (name.now ∷ [])) }
-    ensures asks { IfOk result (λ s. AsksLast name.now s.0 (K.held sink.old) (K.held sink.new)) }
-    ensures part { GrewPart (F.asked cabinet.old) (F.asked cabinet.new) (name.now ∷ []) }
-    ensures files { Kept (F.files cabinet.old) (F.files cabinet.new) }
-    ensures count { F.faults cabinet.old ≤ F.faults cabinet.new }
-    ensures sink_count { K.faults sink.old ≤ K.faults sink.new }
+    ensures ends { EndsOne (IsTraceFileAnswer store.now name.now (F.state cabinet.new).files (F.state cabinet.old).faults
+        (F.state cabinet.new).faults) (BeginsTraceFile store.now name.now (F.state cabinet.new).files) (K.state sink.old).held
+        (K.state sink.new).held (K.state sink.old).faults (K.state sink.new).faults result }
+    ensures asked { IfOk result (λ _. Grew (F.state cabinet.old).asked (F.state cabinet.new).asked (name.now ∷ [])) }
+    ensures asks { IfOk result (λ s. AsksLast name.now s.0 (K.state sink.old).held (K.state sink.new).held) }
+    ensures part { GrewPart (F.state cabinet.old).asked (F.state cabinet.new).asked (name.now ∷ []) }
+    ensures files { Kept (F.state cabinet.old).files (F.state cabinet.new).files }
+    ensures count { (F.state cabinet.old).faults ≤ (F.state cabinet.new).faults }
+    ensures sink_count { (K.state sink.old).faults ≤ (K.state sink.new).faults }
 {
     match cabinet.fetch(alloc, name) {
         Ok(octets) => replay_file(alloc, store, octets.as_slice(), sink),
@@ -122,15 +122,15 @@ fn replay_with<F: Cabinet, K: Sink>(
     cabinet: &mut F,
     sink: &mut K,
 ) -> Result<Status, Stop>
-    ensures ends { EndsOne (IsAnswerBehindKeys (keys_of octets.now) name.now (F.files cabinet.new)
-        (F.faults cabinet.old) (F.faults cabinet.new)) (BeginsBehindKeys (keys_of octets.now) name.now
-        (F.files cabinet.new)) (K.held sink.old) (K.held sink.new) (K.faults sink.old) (K.faults sink.new) result }
-    ensures asks { IfOk result (λ s. AsksBehindKeys name.now s.0 (F.asked cabinet.old) (F.asked cabinet.new)
-        (K.held sink.old) (K.held sink.new)) }
-    ensures part { GrewPart (F.asked cabinet.old) (F.asked cabinet.new) (name.now ∷ []) }
-    ensures files { Kept (F.files cabinet.old) (F.files cabinet.new) }
-    ensures count { F.faults cabinet.old ≤ F.faults cabinet.new }
-    ensures sink_count { K.faults sink.old ≤ K.faults sink.new }
+    ensures ends { EndsOne (IsAnswerBehindKeys (keys_of octets.now) name.now (F.state cabinet.new).files
+        (F.state cabinet.old).faults (F.state cabinet.new).faults) (BeginsBehindKeys (keys_of octets.now) name.now
+        (F.state cabinet.new).files) (K.state sink.old).held (K.state sink.new).held (K.state sink.old).faults (K.state sink.new).faults result }
+    ensures asks { IfOk result (λ s. AsksBehindKeys name.now s.0 (F.state cabinet.old).asked (F.state cabinet.new).asked
+        (K.state sink.old).held (K.state sink.new).held) }
+    ensures part { GrewPart (F.state cabinet.old).asked (F.state cabinet.new).asked (name.now ∷ []) }
+    ensures files { Kept (F.state cabinet.old).files (F.state cabinet.new).files }
+    ensures count { (F.state cabinet.old).faults ≤ (F.state cabinet.new).faults }
+    ensures sink_count { (K.state sink.old).faults ≤ (K.state sink.new).faults }
 {
     match KeyStore::from_bytes(alloc, octets) {
         Ok(store) => replay_trace(alloc, &store, name, cabinet, sink),
@@ -146,14 +146,14 @@ pub fn replay_run<F: Cabinet, K: Sink>(
     cabinet: &mut F,
     sink: &mut K,
 ) -> Result<Status, Stop>
-    ensures ends { Ends (Replay keys.now trace.now) (F.files cabinet.new) (F.faults cabinet.old) (F.faults cabinet.new)
-        (K.held sink.old) (K.held sink.new) (K.faults sink.old) (K.faults sink.new) result }
-    ensures asks { IfOk result (λ s. Asks (Replay keys.now trace.now) s.0 (F.asked cabinet.old) (F.asked cabinet.new)
-        (K.held sink.old) (K.held sink.new)) }
-    ensures part { GrewPart (F.asked cabinet.old) (F.asked cabinet.new) (keys.now ∷ trace.now ∷ []) }
-    ensures files { Kept (F.files cabinet.old) (F.files cabinet.new) }
-    ensures count { F.faults cabinet.old ≤ F.faults cabinet.new }
-    ensures sink_count { K.faults sink.old ≤ K.faults sink.new }
+    ensures ends { Ends (Replay keys.now trace.now) (F.state cabinet.new).files (F.state cabinet.old).faults (F.state cabinet.new).faults
+        (K.state sink.old).held (K.state sink.new).held (K.state sink.old).faults (K.state sink.new).faults result }
+    ensures asks { IfOk result (λ s. Asks (Replay keys.now trace.now) s.0 (F.state cabinet.old).asked (F.state cabinet.new).asked
+        (K.state sink.old).held (K.state sink.new).held) }
+    ensures part { GrewPart (F.state cabinet.old).asked (F.state cabinet.new).asked (keys.now ∷ trace.now ∷ []) }
+    ensures files { Kept (F.state cabinet.old).files (F.state cabinet.new).files }
+    ensures count { (F.state cabinet.old).faults ≤ (F.state cabinet.new).faults }
+    ensures sink_count { (K.state sink.old).faults ≤ (K.state sink.new).faults }
 {
     match cabinet.fetch(alloc, keys) {
         Ok(octets) => replay_with(alloc, octets.as_slice(), trace, cabinet, sink),

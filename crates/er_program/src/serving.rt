@@ -1,16 +1,16 @@
 //! `serve KEYS ADDRESS RBC TURNS`: the readiness loop as a radio block centre, which listens.
 
-ghost use Rattle.std.specs.Prelude.{◌≡◌, ◌≤◌, ◌<◌, ◌∷◌, [], ℕ, List, length, map, IfOk};
+ghost use Rattle.std.specs.Prelude.{◌≡◌, ◌<◌, ℕ, List, length, map};
 ghost use Rattle.key_store.specs.KeyFiles.{keys_of};
-ghost use Rattle.link_trait.specs.Outside.{Grew, GrewPart, Kept};
-ghost use Rattle.loop_visit.specs.Acting.{seen};
-ghost use Rattle.readiness_loop.specs.Claims.{outside};
-ghost use Rattle.er_program.specs.LineCommands.{Serve};
+ghost use Rattle.er_program.specs.Commands.{Serve};
 ghost use Rattle.er_program.specs.LineRuns.{given};
 ghost use Rattle.er_program.specs.LineWriting.{LoopEnds, FileEnds, LineEnds};
+ghost use Rattle.er_program.specs.OutsideViews.{Keeps, AsksOne};
+ghost use Rattle.er_program.specs.Outsides.{traffic_of};
 
 use crate::endings::{last, unfetched};
 use crate::key_lines::keys_refused;
+use crate::outside::Outside;
 use crate::status::Status;
 use crate::stop::Stop;
 use er_settings::Settings;
@@ -22,97 +22,80 @@ use readiness_loop::{LinePlan, LoopFault, serve};
 use std::alloc::Global;
 
 // The loop, with the keys of a store.
-fn serve_with<K: Sink, W: Wires, C: Clock, R: Rng>(
+fn serve_with<F: Cabinet, K: Sink, W: Wires, C: Clock, R: Rng>(
     alloc: Global,
     store: &KeyStore,
     address: &str,
     rbc: u32,
     turns: u64,
     users: Vec<Box<dyn SafeUser>>,
-    wires: &mut W,
-    clock: &mut C,
-    randoms: &mut R,
-    sink: &mut K,
+    outside: &mut Outside<F, K, W, C, R>,
 ) -> Result<Status, Stop>
     requires rbc { rbc < 16777216 }
     ensures ends { (keys : List ℕ) → LoopEnds (Serve keys address.now rbc turns) store.now
-        (given (length users.items) (map mind users.items) (R.stream randoms.old))
-        (W.turn_faults wires.old) (W.turn_faults wires.new)
-        (outside (seen (K.held sink.old) (K.faults sink.old) (W.calls wires.old) (W.faults wires.old)) (W.listening wires.old) (C.answers clock.old))
-        (outside (seen (K.held sink.new) (K.faults sink.new) (W.calls wires.new) (W.faults wires.new)) (W.listening wires.new) (C.answers clock.new)) result }
-    ensures sink_count { K.faults sink.old ≤ K.faults sink.new }
+        (given (length users.items) (map mind users.items) (R.stream outside.old.randoms)) (traffic_of outside.old.seen) (traffic_of outside.new.seen) result }
+    ensures keeps { Keeps outside.old outside.new }
 {
     let plan = LinePlan {
         settings: Settings::usual(),
         turns,
     };
     match serve(
-        alloc, store, &plan, address, rbc, users, wires, clock, randoms, sink,
+        alloc,
+        store,
+        &plan,
+        address,
+        rbc,
+        users,
+        outside.wires,
+        outside.clock,
+        outside.randoms,
+        outside.sink,
     ) {
         Ok(_) => Ok(Status(0)),
-        Err(LoopFault::Wires) => last(6, b"! wires\n", sink),
+        Err(LoopFault::Wires) => last(6, b"! wires\n", outside.sink),
         Err(LoopFault::Sink) => Err(Stop::Sink),
         Err(LoopFault::NoMemory(want)) => Err(Stop::NoMemory(want)),
     }
 }
 
 // The octets of the key file.
-fn serve_file<K: Sink, W: Wires, C: Clock, R: Rng>(
+fn serve_file<F: Cabinet, K: Sink, W: Wires, C: Clock, R: Rng>(
     alloc: Global,
     octets: &[u8],
     address: &str,
     rbc: u32,
     turns: u64,
     users: Vec<Box<dyn SafeUser>>,
-    wires: &mut W,
-    clock: &mut C,
-    randoms: &mut R,
-    sink: &mut K,
+    outside: &mut Outside<F, K, W, C, R>,
 ) -> Result<Status, Stop>
     requires rbc { rbc < 16777216 }
     ensures ends { (keys : List ℕ) → FileEnds (Serve keys address.now rbc turns) (keys_of octets.now)
-        (given (length users.items) (map mind users.items) (R.stream randoms.old))
-        (W.turn_faults wires.old) (W.turn_faults wires.new)
-        (outside (seen (K.held sink.old) (K.faults sink.old) (W.calls wires.old) (W.faults wires.old)) (W.listening wires.old) (C.answers clock.old))
-        (outside (seen (K.held sink.new) (K.faults sink.new) (W.calls wires.new) (W.faults wires.new)) (W.listening wires.new) (C.answers clock.new)) result }
-    ensures sink_count { K.faults sink.old ≤ K.faults sink.new }
+        (given (length users.items) (map mind users.items) (R.stream outside.old.randoms)) (traffic_of outside.old.seen) (traffic_of outside.new.seen) result }
+    ensures keeps { Keeps outside.old outside.new }
 {
     match KeyStore::from_bytes(alloc, octets) {
-        Ok(store) => serve_with(
-            alloc, &store, address, rbc, turns, users, wires, clock, randoms, sink,
-        ),
-        Err(fault) => keys_refused(alloc, fault, sink),
+        Ok(store) => serve_with(alloc, &store, address, rbc, turns, users, outside),
+        Err(fault) => keys_refused(alloc, fault, outside.sink),
     }
 }
 
 /// `serve KEYS ADDRESS RBC TURNS`: fetches the key file, and serves at the address with its keys.
-pub fn serve_run<F: Cabinet, K: Sink, W: Wires, C: Clock, R: Rng>(
+pub(crate) fn serve_run<F: Cabinet, K: Sink, W: Wires, C: Clock, R: Rng>(
     alloc: Global,
     keys: &str,
     address: &str,
     rbc: u32,
     turns: u64,
     users: Vec<Box<dyn SafeUser>>,
-    cabinet: &mut F,
-    wires: &mut W,
-    clock: &mut C,
-    randoms: &mut R,
-    sink: &mut K,
+    outside: &mut Outside<F, K, W, C, R>,
 ) -> Result<Status, Stop>
     requires rbc { rbc < 16777216 }
-    ensures ends { LineEnds (Serve keys.now address.now rbc turns) (F.files cabinet.new) (F.faults cabinet.old)
-        (F.faults cabinet.new)
-        (given (length users.items) (map mind users.items) (R.stream randoms.old))
-        (W.turn_faults wires.old) (W.turn_faults wires.new)
-        (outside (seen (K.held sink.old) (K.faults sink.old) (W.calls wires.old) (W.faults wires.old)) (W.listening wires.old) (C.answers clock.old))
-        (outside (seen (K.held sink.new) (K.faults sink.new) (W.calls wires.new) (W.faults wires.new)) (W.listening wires.new) (C.answers clock.new)) result }
-    ensures asked { IfOk result (λ _. Grew (F.asked cabinet.old) (F.asked cabinet.new) (keys.now ∷ [])) }
-    ensures part { GrewPart (F.asked cabinet.old) (F.asked cabinet.new) (keys.now ∷ []) }
-    ensures files { Kept (F.files cabinet.old) (F.files cabinet.new) }
-    ensures count { F.faults cabinet.old ≤ F.faults cabinet.new }
-    ensures sink_count { K.faults sink.old ≤ K.faults sink.new }
+    ensures ends { LineEnds (Serve keys.now address.now rbc turns)
+        (given (length users.items) (map mind users.items) (R.stream outside.old.randoms)) outside.old.seen outside.new.seen result }
+    ensures asks { AsksOne keys.now outside.old outside.new result }
 {
-    match cabinet.fetch(alloc, keys) {
+    match outside.cabinet.fetch(alloc, keys) {
         Ok(octets) => serve_file(
             alloc,
             octets.as_slice(),
@@ -120,12 +103,9 @@ pub fn serve_run<F: Cabinet, K: Sink, W: Wires, C: Clock, R: Rng>(
             rbc,
             turns,
             users,
-            wires,
-            clock,
-            randoms,
-            sink,
+            outside,
         ),
-        Err(FetchFault::Failed) => unfetched(alloc, keys, sink),
+        Err(FetchFault::Failed) => unfetched(alloc, keys, outside.sink),
         Err(FetchFault::NoMemory(want)) => Err(Stop::NoMemory(want)),
     }
 }

@@ -71,9 +71,7 @@ fn octets_taken<W: Write>(writer: &mut W, piece: &[u8]) -> usize
 }
 
 impl<W: Write + Drop> Sink for StdoutSink<W> {
-    ghost held = { λ _. None };
-
-    ghost faults = { λ s. s.faults };
+    ghost state = { λ s. record { held = None; faults = s.faults } };
 
     fn write(&mut self, piece: &[u8]) -> Result<(), Failed>
         ensures written { WritesPiece self.old.contents self.new.contents piece.now result }

@@ -1,20 +1,18 @@
 //! The top call: what the program does with its words.
 
-ghost use Rattle.std.specs.Prelude.{◌≡◌, ◌≢◌, ◌≤◌, ◌-◌, ◌^◌, ◌⊎◌, [], ◌∷◌, length, map, IfOk, None, Some};
+ghost use Rattle.std.specs.Prelude.{◌≡◌, ◌≢◌, ◌≤◌, true, false, [], ◌∷◌, length, map, IfOk};
 ghost use Rattle.er_scenario.specs.Files.{scenario_of};
 ghost use Rattle.link_trait.specs.Outside.{Grew, GrewPart, Kept};
 ghost use Rattle.er_program.specs.Asking.{Asks};
-ghost use Rattle.er_program.specs.Commands.{Drill, command_of, names_of, texts};
-ghost use Rattle.er_program.specs.CommandViews.{command_view};
-ghost use Rattle.loop_visit.specs.Acting.{seen};
-ghost use Rattle.readiness_loop.specs.Claims.{outside};
-ghost use Rattle.er_program.specs.LastLines.{memory_line};
-ghost use Rattle.er_program.specs.LineCommands.{LineCommand as AnyLineCommand, line_command_of, key_file_of};
-ghost use Rattle.er_program.specs.LineCommandViews.{line_view, IsInRange};
-ghost use Rattle.er_program.specs.LineRuns.{given, IsLineStatus, IsServed, IsKeyFileUnfetched, IsLineKeyless, IsLineSinkFailed, IsWiresFailed, IsMemoryTold, IsLineComplete, LineMeans};
+ghost use Rattle.er_program.specs.Commands.{Drill, command_of, names_of, needs_wires, texts};
+ghost use Rattle.er_program.specs.CommandViews.{command_view, IsInRange};
+ghost use Rattle.er_program.specs.FileMeans.{FileMeans};
+ghost use Rattle.er_program.specs.LineRuns.{Given, given, key_file_of};
 ghost use Rattle.er_program.specs.LineWriting.{LineEnds};
+ghost use Rattle.er_program.specs.Outsides.{Traffic, outside_of, beside, IsSteady};
+ghost use Rattle.er_program.specs.OutsideViews.{AsksOne};
+ghost use Rattle.er_program.specs.Statuses.{IsStatusOf, Means, IsIdle, AreAsked, IsComplete, IsRun};
 ghost use Rattle.er_program.specs.Writing.{EndsFile, Ends};
-ghost use Rattle.er_program.specs.Runs.{Means, IsStatus, IsDone, IsMisused, IsUnfetched, IsRefused, IsKeyless, IsSinkFailed, IsOutOfMemory, IsOverfull, IsComplete};
 
 use crate::bits::bits_run;
 use crate::bulk::bulk_run;
@@ -22,8 +20,9 @@ use crate::calling::call_run;
 use crate::command::{Command, command_from};
 use crate::drill::drill;
 use crate::endings::{misused, out_of_form, out_of_memory, unfetched};
-use crate::line_command::{LineCommand, line_command_from};
 use crate::migrate::migrate_run;
+use crate::outside::Outside;
+use crate::pair::Pair;
 use crate::replay::replay_run;
 use crate::serving::serve_run;
 use crate::status::Status;
@@ -36,9 +35,9 @@ use rand_core::Rng;
 use std::alloc::Global;
 
 fn drill_file<K: Sink>(alloc: Global, octets: &[u8], sink: &mut K) -> Result<Status, Stop>
-    ensures ends { EndsFile (scenario_of octets.now) (K.held sink.old) (K.held sink.new) (K.faults sink.old)
-        (K.faults sink.new) result }
-    ensures sink_count { K.faults sink.old ≤ K.faults sink.new }
+    ensures ends { EndsFile (scenario_of octets.now) (K.state sink.old).held (K.state sink.new).held (K.state sink.old).faults
+        (K.state sink.new).faults result }
+    ensures sink_count { (K.state sink.old).faults ≤ (K.state sink.new).faults }
 {
     match read(alloc, octets) {
         Ok(scenario) => drill(alloc, &scenario, sink),
@@ -54,13 +53,13 @@ fn drill_run<F: Cabinet, K: Sink>(
     cabinet: &mut F,
     sink: &mut K,
 ) -> Result<Status, Stop>
-    ensures ends { Ends (Drill name.now) (F.files cabinet.new) (F.faults cabinet.old) (F.faults cabinet.new)
-        (K.held sink.old) (K.held sink.new) (K.faults sink.old) (K.faults sink.new) result }
-    ensures asked { IfOk result (λ _. Grew (F.asked cabinet.old) (F.asked cabinet.new) (name.now ∷ [])) }
-    ensures part { GrewPart (F.asked cabinet.old) (F.asked cabinet.new) (name.now ∷ []) }
-    ensures files { Kept (F.files cabinet.old) (F.files cabinet.new) }
-    ensures count { F.faults cabinet.old ≤ F.faults cabinet.new }
-    ensures sink_count { K.faults sink.old ≤ K.faults sink.new }
+    ensures ends { Ends (Drill name.now) (F.state cabinet.new).files (F.state cabinet.old).faults (F.state cabinet.new).faults
+        (K.state sink.old).held (K.state sink.new).held (K.state sink.old).faults (K.state sink.new).faults result }
+    ensures asked { IfOk result (λ _. Grew (F.state cabinet.old).asked (F.state cabinet.new).asked (name.now ∷ [])) }
+    ensures part { GrewPart (F.state cabinet.old).asked (F.state cabinet.new).asked (name.now ∷ []) }
+    ensures files { Kept (F.state cabinet.old).files (F.state cabinet.new).files }
+    ensures count { (F.state cabinet.old).faults ≤ (F.state cabinet.new).faults }
+    ensures sink_count { (K.state sink.old).faults ≤ (K.state sink.new).faults }
 {
     match cabinet.fetch(alloc, name) {
         Ok(octets) => drill_file(alloc, octets.as_slice(), sink),
@@ -69,49 +68,52 @@ fn drill_run<F: Cabinet, K: Sink>(
     }
 }
 
-// What a command asks for, done and answered, or why it broke off.
+// What a command that needs no wires asks for, done and answered, or why it broke off.
 fn answered<F: Cabinet, K: Sink>(
     alloc: Global,
-    words: &[String],
+    command: &Command<'_>,
     cabinet: &mut F,
     sink: &mut K,
 ) -> Result<Status, Stop>
-    ensures ends { Ends (command_of (texts words.now)) (F.files cabinet.new) (F.faults cabinet.old)
-        (F.faults cabinet.new)
-        (K.held sink.old) (K.held sink.new) (K.faults sink.old) (K.faults sink.new) result }
-    ensures asks { IfOk result (λ s. Asks (command_of (texts words.now)) s.0 (F.asked cabinet.old) (F.asked cabinet.new)
-        (K.held sink.old) (K.held sink.new)) }
-    ensures part { GrewPart (F.asked cabinet.old) (F.asked cabinet.new) (names_of (command_of (texts words.now))) }
-    ensures files { Kept (F.files cabinet.old) (F.files cabinet.new) }
-    ensures count { F.faults cabinet.old ≤ F.faults cabinet.new }
-    ensures sink_count { K.faults sink.old ≤ K.faults sink.new }
+    requires off_line { needs_wires (command_view command.now) ≡ false }
+    requires range { IsInRange (command_view command.now) }
+    ensures ends { Ends (command_view command.now) (F.state cabinet.new).files (F.state cabinet.old).faults (F.state cabinet.new).faults
+        (K.state sink.old).held (K.state sink.new).held (K.state sink.old).faults (K.state sink.new).faults result }
+    ensures asks { IfOk result (λ s. Asks (command_view command.now) s.0 (F.state cabinet.old).asked (F.state cabinet.new).asked
+        (K.state sink.old).held (K.state sink.new).held) }
+    ensures part { GrewPart (F.state cabinet.old).asked (F.state cabinet.new).asked (names_of (command_view command.now)) }
+    ensures files { Kept (F.state cabinet.old).files (F.state cabinet.new).files }
+    ensures count { (F.state cabinet.old).faults ≤ (F.state cabinet.new).faults }
+    ensures sink_count { (K.state sink.old).faults ≤ (K.state sink.new).faults }
 {
-    match command_from(words) {
+    match *command {
         Command::Misused => misused(sink),
         Command::Drill { name } => drill_run(alloc, name, cabinet, sink),
         Command::Bits { name } => bits_run(alloc, name, cabinet, sink),
         Command::Migrate { keys } => migrate_run(alloc, keys, cabinet, sink),
         Command::Replay { keys, trace } => replay_run(alloc, keys, trace, cabinet, sink),
         Command::Bulk { seed, count } => bulk_run(alloc, seed, count, sink),
+        Command::Serve { .. } | Command::Call { .. } => unreachable!(),
     }
 }
 
+// The same with its status, whatever it broke off for.
 fn ran<F: Cabinet, K: Sink>(
     alloc: Global,
-    words: &[String],
+    command: &Command<'_>,
     cabinet: &mut F,
     sink: &mut K,
 ) -> Status
-    ensures means { Means (command_of (texts words.now)) (F.files cabinet.new) (F.asked cabinet.old)
-        (F.asked cabinet.new)
-        (F.faults cabinet.old) (F.faults cabinet.new) (K.faults sink.old) (K.faults sink.new) (K.held sink.old)
-        (K.held sink.new) result.0 }
+    requires off_line { needs_wires (command_view command.now) ≡ false }
+    requires range { IsInRange (command_view command.now) }
+    ensures means { FileMeans (command_view command.now) (F.state cabinet.new).files (F.state cabinet.old).asked (F.state cabinet.new).asked
+        (F.state cabinet.old).faults (F.state cabinet.new).faults (K.state sink.old).faults (K.state sink.new).faults (K.state sink.old).held (K.state sink.new).held result.0 }
     ensures asked { result.0 ≢ 2 → result.0 ≢ 4 → result.0 ≢ 5 → result.0 ≢ 7
-        → Grew (F.asked cabinet.old) (F.asked cabinet.new) (names_of (command_of (texts words.now))) }
-    ensures part { GrewPart (F.asked cabinet.old) (F.asked cabinet.new) (names_of (command_of (texts words.now))) }
-    ensures files { Kept (F.files cabinet.old) (F.files cabinet.new) }
-    ensures count { F.faults cabinet.old ≤ F.faults cabinet.new }
-    ensures sink_count { K.faults sink.old ≤ K.faults sink.new }
+        → Grew (F.state cabinet.old).asked (F.state cabinet.new).asked (names_of (command_view command.now)) }
+    ensures part { GrewPart (F.state cabinet.old).asked (F.state cabinet.new).asked (names_of (command_view command.now)) }
+    ensures files { Kept (F.state cabinet.old).files (F.state cabinet.new).files }
+    ensures count { (F.state cabinet.old).faults ≤ (F.state cabinet.new).faults }
+    ensures sink_count { (K.state sink.old).faults ≤ (K.state sink.new).faults }
 {
     drill_laws::laws::worlds();
     drill_laws::laws::steps();
@@ -122,125 +124,109 @@ fn ran<F: Cabinet, K: Sink>(
     drill_laws::laws::losing_line_reasons();
     drill_laws::laws::order_is_unforged();
     drill_laws::laws::delivery();
-    match answered(alloc, words, cabinet, sink) {
+    match answered(alloc, command, cabinet, sink) {
         Ok(status) => status,
         Err(Stop::Sink) => Status(5),
         Err(Stop::NoMemory(want)) => out_of_memory(want, sink),
     }
 }
 
-// What a command of the loop asks for, done and answered, or why it broke off.
+/// Does what a command asks for that needs no wires, and answers with what status the program is to end, as [`run`] does.
+pub fn run_off_line<F: Cabinet, K: Sink>(
+    alloc: Global,
+    command: &Command<'_>,
+    cabinet: &mut F,
+    sink: &mut K,
+) -> Status
+    requires off_line { needs_wires (command_view command.now) ≡ false }
+    requires range { IsInRange (command_view command.now) }
+    // Whatever wires, clock and random words there are beside its cabinet and sink, they are left alone.
+    ensures run { (g : Given) (rest : Traffic) → IsRun (command_view command.now) g (beside rest F.Cabinet K.Sink cabinet.old sink.old)
+        (beside rest F.Cabinet K.Sink cabinet.new sink.new) result.0 }
+{
+    ran(alloc, command, cabinet, sink)
+}
+
+// What `serve` or `call` asks for, done and answered, or why it broke off.
 fn line_answered<F: Cabinet, K: Sink, W: Wires, C: Clock, R: Rng>(
     alloc: Global,
-    command: &LineCommand<'_>,
+    command: &Command<'_>,
     users: Vec<Box<dyn SafeUser>>,
-    cabinet: &mut F,
-    wires: &mut W,
-    clock: &mut C,
-    randoms: &mut R,
-    sink: &mut K,
+    outside: &mut Outside<F, K, W, C, R>,
 ) -> Result<Status, Stop>
-    requires range { IsInRange (line_view command.now) }
-    ensures ends { LineEnds (line_view command.now) (F.files cabinet.new) (F.faults cabinet.old) (F.faults cabinet.new)
-        (given (length users.items) (map mind users.items) (R.stream randoms.old))
-        (W.turn_faults wires.old) (W.turn_faults wires.new)
-        (outside (seen (K.held sink.old) (K.faults sink.old) (W.calls wires.old) (W.faults wires.old)) (W.listening wires.old) (C.answers clock.old))
-        (outside (seen (K.held sink.new) (K.faults sink.new) (W.calls wires.new) (W.faults wires.new)) (W.listening wires.new) (C.answers clock.new)) result }
-    ensures asked { IfOk result (λ _. Grew (F.asked cabinet.old) (F.asked cabinet.new) (key_file_of (line_view command.now) ∷ [])) }
-    ensures part { GrewPart (F.asked cabinet.old) (F.asked cabinet.new) (key_file_of (line_view command.now) ∷ []) }
-    ensures files { Kept (F.files cabinet.old) (F.files cabinet.new) }
-    ensures count { F.faults cabinet.old ≤ F.faults cabinet.new }
-    ensures sink_count { K.faults sink.old ≤ K.faults sink.new }
+    requires on_line { needs_wires (command_view command.now) ≡ true }
+    requires range { IsInRange (command_view command.now) }
+    ensures ends { LineEnds (command_view command.now) (given (length users.items) (map mind users.items) (R.stream outside.old.randoms)) outside.old.seen outside.new.seen
+        result }
+    ensures asks { AsksOne (key_file_of (command_view command.now)) outside.old outside.new result }
 {
     match *command {
-        LineCommand::Serve {
+        Command::Serve {
             keys,
             address,
             rbc,
             turns,
-        } => serve_run(
-            alloc, keys, address, rbc, turns, users, cabinet, wires, clock, randoms, sink,
-        ),
-        LineCommand::Call {
+        } => serve_run(alloc, keys, address, rbc, turns, users, outside),
+        Command::Call {
             keys,
             address,
             engine,
             rbc,
             turns,
         } => call_run(
-            alloc, keys, address, engine, rbc, turns, users, cabinet, wires, clock, randoms, sink,
+            alloc,
+            keys,
+            Pair { engine, rbc },
+            address,
+            turns,
+            users,
+            outside,
         ),
+        Command::Misused
+        | Command::Drill { .. }
+        | Command::Bits { .. }
+        | Command::Migrate { .. }
+        | Command::Replay { .. }
+        | Command::Bulk { .. } => unreachable!(),
     }
 }
 
+// The same with its status, whatever it broke off for.
 fn line_ran<F: Cabinet, K: Sink, W: Wires, C: Clock, R: Rng>(
     alloc: Global,
-    command: &LineCommand<'_>,
+    command: &Command<'_>,
     users: Vec<Box<dyn SafeUser>>,
-    cabinet: &mut F,
-    wires: &mut W,
-    clock: &mut C,
-    randoms: &mut R,
-    sink: &mut K,
+    outside: &mut Outside<F, K, W, C, R>,
 ) -> Status
-    requires range { IsInRange (line_view command.now) }
-    ensures means { LineMeans (line_view command.now) (F.files cabinet.new) (F.faults cabinet.old) (F.faults cabinet.new)
-        (W.turn_faults wires.old) (W.turn_faults wires.new)
-        (given (length users.items) (map mind users.items) (R.stream randoms.old))
-        (outside (seen (K.held sink.old) (K.faults sink.old) (W.calls wires.old) (W.faults wires.old)) (W.listening wires.old) (C.answers clock.old))
-        (outside (seen (K.held sink.new) (K.faults sink.new) (W.calls wires.new) (W.faults wires.new)) (W.listening wires.new) (C.answers clock.new)) result.0 }
-    ensures asked { result.0 ≢ 5 → result.0 ≢ 7
-        → Grew (F.asked cabinet.old) (F.asked cabinet.new) (key_file_of (line_view command.now) ∷ []) }
-    ensures part { GrewPart (F.asked cabinet.old) (F.asked cabinet.new) (key_file_of (line_view command.now) ∷ []) }
-    ensures files { Kept (F.files cabinet.old) (F.files cabinet.new) }
-    ensures count { F.faults cabinet.old ≤ F.faults cabinet.new }
-    ensures sink_count { K.faults sink.old ≤ K.faults sink.new }
+    requires on_line { needs_wires (command_view command.now) ≡ true }
+    requires range { IsInRange (command_view command.now) }
+    ensures run { IsRun (command_view command.now) (given (length users.items) (map mind users.items) (R.stream outside.old.randoms)) outside.old.seen outside.new.seen
+        result.0 }
+    ensures names { outside.new.names ≡ outside.old.names }
 {
-    match line_answered(alloc, command, users, cabinet, wires, clock, randoms, sink) {
+    match line_answered(alloc, command, users, outside) {
         Ok(status) => status,
         Err(Stop::Sink) => Status(5),
-        Err(Stop::NoMemory(want)) => out_of_memory(want, sink),
+        Err(Stop::NoMemory(want)) => out_of_memory(want, outside.sink),
     }
 }
 
 // A command of the loop is run over wires, and any other without them.
 fn dispatched<F: Cabinet, K: Sink, W: Wires, C: Clock, R: Rng>(
     alloc: Global,
-    words: &[String],
-    cabinet: &mut F,
-    sink: &mut K,
-    wires: &mut W,
-    clock: &mut C,
-    randoms: &mut R,
+    command: &Command<'_>,
     users: Vec<Box<dyn SafeUser>>,
+    outside: &mut Outside<F, K, W, C, R>,
 ) -> Status
-    ensures means { line_command_of (texts words.now) ≡ None
-        → Means (command_of (texts words.now)) (F.files cabinet.new) (F.asked cabinet.old)
-        (F.asked cabinet.new)
-        (F.faults cabinet.old) (F.faults cabinet.new) (K.faults sink.old) (K.faults sink.new) (K.held sink.old)
-        (K.held sink.new) result.0 }
-    ensures asked { line_command_of (texts words.now) ≡ None → result.0 ≢ 2 → result.0 ≢ 4 → result.0 ≢ 5 → result.0 ≢ 7
-        → Grew (F.asked cabinet.old) (F.asked cabinet.new) (names_of (command_of (texts words.now))) }
-    ensures part { line_command_of (texts words.now) ≡ None
-        → GrewPart (F.asked cabinet.old) (F.asked cabinet.new) (names_of (command_of (texts words.now))) }
-    ensures line_means { (c : AnyLineCommand) → line_command_of (texts words.now) ≡ Some c
-        → LineMeans c (F.files cabinet.new) (F.faults cabinet.old) (F.faults cabinet.new)
-        (W.turn_faults wires.old) (W.turn_faults wires.new)
-        (given (length users.items) (map mind users.items) (R.stream randoms.old))
-        (outside (seen (K.held sink.old) (K.faults sink.old) (W.calls wires.old) (W.faults wires.old)) (W.listening wires.old) (C.answers clock.old))
-        (outside (seen (K.held sink.new) (K.faults sink.new) (W.calls wires.new) (W.faults wires.new)) (W.listening wires.new) (C.answers clock.new)) result.0 }
-    ensures line_asked { (c : AnyLineCommand) → line_command_of (texts words.now) ≡ Some c → result.0 ≢ 5 → result.0 ≢ 7
-        → Grew (F.asked cabinet.old) (F.asked cabinet.new) (key_file_of c ∷ []) }
-    ensures line_part { (c : AnyLineCommand) → line_command_of (texts words.now) ≡ Some c
-        → GrewPart (F.asked cabinet.old) (F.asked cabinet.new) (key_file_of c ∷ []) }
-    ensures known { IsStatus result.0 ⊎ (result.0 ≡ 6) }
-    ensures files { Kept (F.files cabinet.old) (F.files cabinet.new) }
-    ensures count { F.faults cabinet.old ≤ F.faults cabinet.new }
-    ensures sink_count { K.faults sink.old ≤ K.faults sink.new }
+    requires range { IsInRange (command_view command.now) }
+    ensures run { IsRun (command_view command.now) (given (length users.items) (map mind users.items) (R.stream outside.old.randoms)) outside.old.seen outside.new.seen
+        result.0 }
+    ensures names { outside.new.names ≡ outside.old.names }
 {
-    match line_command_from(words) {
-        Some(command) => line_ran(alloc, &command, users, cabinet, wires, clock, randoms, sink),
-        None => ran(alloc, words, cabinet, sink),
+    if command.needs_wires() {
+        line_ran(alloc, command, users, outside)
+    } else {
+        run_off_line(alloc, command, outside.cabinet, outside.sink)
     }
 }
 
@@ -284,89 +270,49 @@ pub fn run<F: Cabinet, K: Sink, W: Wires, C: Clock, R: Rng>(
     randoms: &mut R,
     users: Vec<Box<dyn SafeUser>>,
 ) -> Status
-    // The list of statuses is closed, and each has its cause. With `complete` each comes exactly where its cause is
-    // met.
-    ensures known { IsStatus result.0 ⊎ (result.0 ≡ 6) }
-    ensures off_line { line_command_of (texts words.now) ≡ None → IsStatus result.0 }
-    ensures on_line { (c : AnyLineCommand) → line_command_of (texts words.now) ≡ Some c → IsLineStatus result.0 }
-    ensures done { line_command_of (texts words.now) ≡ None → result.0 ≡ 0 → IsDone (command_of (texts words.now)) (F.files cabinet.new) (K.held sink.old)
-        (K.held sink.new) }
-    ensures usage { line_command_of (texts words.now) ≡ None → result.0 ≡ 1 → IsMisused (command_of (texts words.now)) (K.held sink.old) (K.held sink.new) }
-    ensures fetch { line_command_of (texts words.now) ≡ None → result.0 ≡ 2 → IsUnfetched (command_of (texts words.now)) (F.asked cabinet.old)
-        (F.asked cabinet.new)
-        (F.faults cabinet.old) (F.faults cabinet.new) (K.held sink.old) (K.held sink.new) }
-    ensures refused { line_command_of (texts words.now) ≡ None → result.0 ≡ 3 → IsRefused (command_of (texts words.now)) (F.files cabinet.new) (K.held sink.old)
-        (K.held sink.new) }
-    ensures keys { line_command_of (texts words.now) ≡ None → result.0 ≡ 4 → IsKeyless (command_of (texts words.now)) (F.files cabinet.new) (F.asked cabinet.old)
-        (F.asked cabinet.new) (K.held sink.old) (K.held sink.new) }
-    ensures sink { line_command_of (texts words.now) ≡ None → result.0 ≡ 5
-        → IsSinkFailed (command_of (texts words.now)) (F.files cabinet.new) (F.faults cabinet.old)
-        (F.faults cabinet.new)
-        (K.faults sink.old) (K.faults sink.new) (K.held sink.old) (K.held sink.new) }
-    ensures memory { line_command_of (texts words.now) ≡ None → result.0 ≡ 7 → IsOutOfMemory (command_of (texts words.now)) (F.files cabinet.new)
-        (K.held sink.old) (K.held sink.new) }
-    ensures overfull { line_command_of (texts words.now) ≡ None → result.0 ≡ 8 → IsOverfull (command_of (texts words.now)) (F.files cabinet.new) (K.held sink.old)
-        (K.held sink.new) }
-
-    // Where no count of faults rose, the words and the file give their status, want of memory aside.
-    ensures complete { line_command_of (texts words.now) ≡ None → IsComplete (command_of (texts words.now)) (F.files cabinet.new) (F.faults cabinet.old)
-        (F.faults cabinet.new)
-        (K.faults sink.old) (K.faults sink.new) result.0 }
-
-    // The file words are asked for in their order, each once, and nothing else is; at statuses 2 and 4 `fetch` and
-    // `keys` say up to which one.
-    ensures asked { line_command_of (texts words.now) ≡ None → result.0 ≢ 2 → result.0 ≢ 4 → result.0 ≢ 5 → result.0 ≢ 7
-        → Grew (F.asked cabinet.old) (F.asked cabinet.new) (names_of (command_of (texts words.now))) }
-    ensures asked_part { line_command_of (texts words.now) ≡ None → GrewPart (F.asked cabinet.old) (F.asked cabinet.new) (names_of (command_of
-        (texts words.now))) }
-
-    // The same of `serve` and `call`: at 0 the loop answered that it served; 6 only where a listen, dial or turn failed.
-    ensures line_served { (c : AnyLineCommand) → line_command_of (texts words.now) ≡ Some c → result.0 ≡ 0
-        → IsServed c (F.files cabinet.new)
-        (given (length users.items) (map mind users.items) (R.stream randoms.old))
-        (outside (seen (K.held sink.old) (K.faults sink.old) (W.calls wires.old) (W.faults wires.old)) (W.listening wires.old) (C.answers clock.old))
-        (outside (seen (K.held sink.new) (K.faults sink.new) (W.calls wires.new) (W.faults wires.new)) (W.listening wires.new) (C.answers clock.new)) }
-    ensures line_fetch { (c : AnyLineCommand) → line_command_of (texts words.now) ≡ Some c → result.0 ≡ 2
-        → IsKeyFileUnfetched c (F.faults cabinet.old) (F.faults cabinet.new)
-        (outside (seen (K.held sink.old) (K.faults sink.old) (W.calls wires.old) (W.faults wires.old)) (W.listening wires.old) (C.answers clock.old))
-        (outside (seen (K.held sink.new) (K.faults sink.new) (W.calls wires.new) (W.faults wires.new)) (W.listening wires.new) (C.answers clock.new)) }
-    ensures line_keys { (c : AnyLineCommand) → line_command_of (texts words.now) ≡ Some c → result.0 ≡ 4
-        → IsLineKeyless c (F.files cabinet.new)
-        (outside (seen (K.held sink.old) (K.faults sink.old) (W.calls wires.old) (W.faults wires.old)) (W.listening wires.old) (C.answers clock.old))
-        (outside (seen (K.held sink.new) (K.faults sink.new) (W.calls wires.new) (W.faults wires.new)) (W.listening wires.new) (C.answers clock.new)) }
-    ensures line_sink { (c : AnyLineCommand) → line_command_of (texts words.now) ≡ Some c → result.0 ≡ 5
-        → IsLineSinkFailed c (F.files cabinet.new) (F.faults cabinet.old) (F.faults cabinet.new)
-        (given (length users.items) (map mind users.items) (R.stream randoms.old))
-        (outside (seen (K.held sink.old) (K.faults sink.old) (W.calls wires.old) (W.faults wires.old)) (W.listening wires.old) (C.answers clock.old))
-        (outside (seen (K.held sink.new) (K.faults sink.new) (W.calls wires.new) (W.faults wires.new)) (W.listening wires.new) (C.answers clock.new)) }
-    ensures line_wires { (c : AnyLineCommand) → line_command_of (texts words.now) ≡ Some c → result.0 ≡ 6
-        → IsWiresFailed c (F.files cabinet.new)
-        (given (length users.items) (map mind users.items) (R.stream randoms.old))
-        (W.turn_faults wires.old) (W.turn_faults wires.new)
-        (outside (seen (K.held sink.old) (K.faults sink.old) (W.calls wires.old) (W.faults wires.old)) (W.listening wires.old) (C.answers clock.old))
-        (outside (seen (K.held sink.new) (K.faults sink.new) (W.calls wires.new) (W.faults wires.new)) (W.listening wires.new) (C.answers clock.new)) }
-    ensures line_memory { (c : AnyLineCommand) → line_command_of (texts words.now) ≡ Some c → result.0 ≡ 7
-        → IsMemoryTold c (F.files cabinet.new)
-        (given (length users.items) (map mind users.items) (R.stream randoms.old))
-        (outside (seen (K.held sink.old) (K.faults sink.old) (W.calls wires.old) (W.faults wires.old)) (W.listening wires.old) (C.answers clock.old))
-        (outside (seen (K.held sink.new) (K.faults sink.new) (W.calls wires.new) (W.faults wires.new)) (W.listening wires.new) (C.answers clock.new))
-        (λ held held_now. Grew held held_now memory_line) }
-    ensures line_complete { (c : AnyLineCommand) → line_command_of (texts words.now) ≡ Some c
-        → IsLineComplete c (F.files cabinet.new) (F.faults cabinet.old) (F.faults cabinet.new)
-        (W.turn_faults wires.old) (W.turn_faults wires.new)
-        (outside (seen (K.held sink.old) (K.faults sink.old) (W.calls wires.old) (W.faults wires.old)) (W.listening wires.old) (C.answers clock.old))
-        (outside (seen (K.held sink.new) (K.faults sink.new) (W.calls wires.new) (W.faults wires.new)) (W.listening wires.new) (C.answers clock.new)) result.0 }
-
-    // The key file is asked for, once, and nothing else is.
-    ensures line_asked { (c : AnyLineCommand) → line_command_of (texts words.now) ≡ Some c → result.0 ≢ 5 → result.0 ≢ 7
-        → Grew (F.asked cabinet.old) (F.asked cabinet.new) (key_file_of c ∷ []) }
-    ensures line_asked_part { (c : AnyLineCommand) → line_command_of (texts words.now) ≡ Some c
-        → GrewPart (F.asked cabinet.old) (F.asked cabinet.new) (key_file_of c ∷ []) }
-
+    // The list of statuses is closed, and each has its cause. With `complete` each comes exactly where its cause is met.
+    ensures known { IsStatusOf (command_of (texts words.now)) result.0 }
+    ensures means { Means (command_of (texts words.now)) (given (length users.items) (map mind users.items) (R.stream randoms.old))
+        (outside_of F.Cabinet K.Sink W.Wires C.Clock cabinet.old sink.old wires.old clock.old)
+        (outside_of F.Cabinet K.Sink W.Wires C.Clock cabinet.new sink.new wires.new clock.new) result.0 }
+    // The wires of a command that needs none get no call; `serve` and `call` make none before the key file is good.
+    ensures idle { IsIdle (command_of (texts words.now))
+        (outside_of F.Cabinet K.Sink W.Wires C.Clock cabinet.old sink.old wires.old clock.old)
+        (outside_of F.Cabinet K.Sink W.Wires C.Clock cabinet.new sink.new wires.new clock.new) result.0 }
+    // The file words are asked for in their order, each once, and nothing else is.
+    ensures asked { AreAsked (command_of (texts words.now))
+        (outside_of F.Cabinet K.Sink W.Wires C.Clock cabinet.old sink.old wires.old clock.old)
+        (outside_of F.Cabinet K.Sink W.Wires C.Clock cabinet.new sink.new wires.new clock.new) result.0 }
+    // Where no count of faults rose, the words and the files give their status, want of memory aside.
+    ensures complete { IsComplete (command_of (texts words.now))
+        (outside_of F.Cabinet K.Sink W.Wires C.Clock cabinet.old sink.old wires.old clock.old)
+        (outside_of F.Cabinet K.Sink W.Wires C.Clock cabinet.new sink.new wires.new clock.new) result.0 }
     // The cabinet's files stay, and no count of faults falls.
-    ensures files { Kept (F.files cabinet.old) (F.files cabinet.new) }
-    ensures count { F.faults cabinet.old ≤ F.faults cabinet.new }
-    ensures sink_count { K.faults sink.old ≤ K.faults sink.new }
+    ensures steady { IsSteady
+        (outside_of F.Cabinet K.Sink W.Wires C.Clock cabinet.old sink.old wires.old clock.old)
+        (outside_of F.Cabinet K.Sink W.Wires C.Clock cabinet.new sink.new wires.new clock.new) }
 {
-    dispatched(alloc, words, cabinet, sink, wires, clock, randoms, users)
+    let command = command_from(words);
+    let mut outside = Outside {
+        cabinet,
+        sink,
+        wires,
+        clock,
+        randoms,
+    };
+    let status = dispatched(alloc, &command, users, &mut outside);
+    let Outside {
+        cabinet,
+        sink,
+        wires,
+        clock,
+        randoms,
+    } = outside;
+    // What is lent is given back here, which the clauses speak of.
+    let _ = &cabinet;
+    let _ = &sink;
+    let _ = &wires;
+    let _ = &clock;
+    let _ = &randoms;
+    status
 }

@@ -5,13 +5,14 @@ mod objects;
 
 use crate::objects::position_reports;
 use er_base::NoMemory;
-use er_program::{FileCabinet, MachineClock, MemoryWires, Sink, Status, StdoutSink, run, unmade};
+use er_program::{
+    Command, FileCabinet, MachineClock, Sink, Status, StdoutSink, command_from, run, run_off_line,
+    unmade,
+};
 use er_users::{Echo, SafeUser};
 use mio_wires::MioWires;
 use rand::make_rng;
 use rand_chacha::ChaCha20Rng;
-use rand_core::SeedableRng;
-use rand_pcg::Lcg64Xsh32;
 use readiness_loop::MOST_LIVE;
 use std::process::ExitCode;
 use std::{env, io};
@@ -80,42 +81,17 @@ fn call<K: Sink>(
     Ok(on_line(rt, words, users, sink))
 }
 
-// Any other command: its wires are in memory, and nothing is asked of them.
-fn off_line<K: Sink>(rt: HostRuntime, words: &[String], sink: &mut K) -> Option<Status> {
-    let alloc = rt.alloc();
-    let mut cabinet = FileCabinet::new(rt);
-    let mut clock = MachineClock::new(rt);
-    let mut wires = MemoryWires::new(alloc, Vec::new(alloc), 0, 0, 0).ok()?;
-    let mut randoms = Lcg64Xsh32::seed_from_u64(0);
-    Some(run(
-        alloc,
-        words,
-        &mut cabinet,
-        sink,
-        &mut wires,
-        &mut clock,
-        &mut randoms,
-        Vec::new(alloc),
-    ))
-}
-
-// Whether this is the first word.
-fn begins_with(words: &[String], command: &str) -> bool {
-    match words.first() {
-        Some(word) => word.as_str() == command,
-        None => false,
-    }
-}
-
 // What the words ask for. None where the objects can't be made.
 fn answered<K: Sink>(rt: HostRuntime, words: &[String], sink: &mut K) -> Option<Status> {
-    if begins_with(words, "serve") {
-        return serve(rt, words, sink).ok()?;
+    let command = command_from(words);
+    if !command.needs_wires() {
+        let mut cabinet = FileCabinet::new(rt);
+        return Some(run_off_line(rt.alloc(), &command, &mut cabinet, sink));
     }
-    if begins_with(words, "call") {
-        return call(rt, words, sink).ok()?;
+    match command {
+        Command::Call { .. } => call(rt, words, sink).ok()?,
+        _ => serve(rt, words, sink).ok()?,
     }
-    off_line(rt, words, sink)
 }
 
 fn status(rt: HostRuntime) -> Status {

@@ -39,7 +39,7 @@ struct AskedClock {
 }
 
 impl Clock for AskedClock {
-    ghost answers = { λ _. None };
+    ghost state = { λ _. record { answers = None } };
 
     fn now(&mut self) -> u64 {
         write_down(&self.happened, b"asked", b"");

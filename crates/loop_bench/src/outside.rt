@@ -10,7 +10,7 @@ use link_trait::{Clock, Failed, Sink};
 pub struct LoopClock;
 
 impl Clock for LoopClock {
-    ghost answers = { λ _. None };
+    ghost state = { λ _. record { answers = None } };
 
     fn now(&mut self) -> u64 {
         MOMENT
@@ -25,9 +25,7 @@ pub struct LoopSink {
 }
 
 impl Sink for LoopSink {
-    ghost held = { λ _. None };
-
-    ghost faults = { λ _. 0 };
+    ghost state = { λ _. record { held = None; faults = 0 } };
 
     fn write(&mut self, piece: &[u8]) -> Result<(), Failed> {
         self.octets = self.octets.saturating_add(piece.len() as u64);

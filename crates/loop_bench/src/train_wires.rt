@@ -48,17 +48,14 @@ impl TrainWires {
 }
 
 impl Wires for TrainWires {
-    ghost calls = { λ _. None };
-
-    ghost lines = { λ _. None };
-
-    ghost opened = { λ w. w.opened };
-
-    ghost listening = { λ w. w.listening };
-
-    ghost faults = { λ w. w.faults };
-
-    ghost turn_faults = { λ w. w.faults };
+    ghost state = { λ w. record {
+      calls = None;
+      lines = None;
+      opened = w.opened;
+      listening = w.listening;
+      faults = w.faults;
+      turn_faults = w.faults;
+    } };
 
     fn listen(&mut self, _address: &str) -> Result<(), Failed> {
         let _faults = self.faults;

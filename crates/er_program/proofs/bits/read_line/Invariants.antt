@@ -4,7 +4,7 @@ use Rattle.er_program.specs.BitWriting.{ReadTo}
 use Rattle.er_program.proofs.bits.read_line.Given as goal
 
 abbrev pub invariant-loop-at : goal.invariant-loop-at
-invariant-loop-at g l = ReadTo l.octets l.at l.frames l.deframer (g.K.Sink.held l.fn.sink) (g.K.Sink.held l.sink) (g.K.Sink.faults l.fn.sink) (g.K.Sink.faults l.sink)
+invariant-loop-at g l = ReadTo l.octets l.at l.frames l.deframer (g.K.Sink.state l.fn.sink).held (g.K.Sink.state l.sink).held (g.K.Sink.state l.fn.sink).faults (g.K.Sink.state l.sink).faults
 
 abbrev pub decreases-loop-at : goal.decreases-loop-at
 decreases-loop-at g l = l.bits - l.at

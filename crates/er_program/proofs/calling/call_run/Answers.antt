@@ -1,17 +1,17 @@
 -- The file that was fetched, and the fetch that failed, by the lemmas on endings.
-use Rattle.std.proofs.Common.{Err, ap}
+use Rattle.std.proofs.Common.{Err, ap, refl, inl}
 use Rattle.link_trait.specs.declared.cabinet.FetchFault.{FetchFault}
-use Rattle.er_program.specs.LineCommands.{Call}
-use Rattle.er_program.proofs.RunEndings.{has_file_kept}
+use Rattle.er_program.specs.Commands.{Call}
 use Rattle.er_program.proofs.LineEndings.{line_read, line_unfetched}
 use Rattle.er_program.proofs.calling.call_run.Goals as goal
 
 pub returns-in-Ok-clause-ends : goal.returns-in-Ok-clause-ends
 returns-in-Ok-clause-ends g c =
-    line_read (Call c.args.keys.now c.args.address.now c.args.engine c.args.rbc c.args.turns) _ _ _ _ _ _ _ _ c.in-Ok.octets.items c.call_file.result
-    (has_file_kept _ _ _ _ c.in-Ok.ensures.ok c.in-Ok.ensures.kept) (rw c.as_slice.ensures.value at (c.call_file.ensures.ends c.args.keys.now))
+    rw (← c.outside.view_is) (line_read (Call c.args.keys.now c.args.address.now c.args.pair.engine c.args.pair.rbc c.args.turns) _ _ _ _ _ c.in-Ok.octets.items c.call_file.result
+    c.in-Ok.ensures.ok c.in-Ok.ensures.kept c.call_file.ensures.keeps.files (rw c.as_slice.ensures.value at (c.call_file.ensures.ends c.args.keys.now)))
 
 pub returns-in-Err-Failed-clause-ends : goal.returns-in-Err-Failed-clause-ends
 returns-in-Err-Failed-clause-ends g c =
-    line_unfetched (Call c.args.keys.now c.args.address.now c.args.engine c.args.rbc c.args.turns) _ _ _ _ _ _ _ _ c.unfetched.result
-    (c.in-Err-Failed.ensures.failed (ap (λ (e : FetchFault). Err e) c.in-Err-Failed.field-0-is)) c.unfetched.ensures.gives
+    rw (← c.outside.view_is) (line_unfetched (Call c.args.keys.now c.args.address.now c.args.pair.engine c.args.pair.rbc c.args.turns) _ _ _ c.unfetched.result
+    (c.in-Err-Failed.ensures.failed (ap (λ (e : FetchFault). Err e) c.in-Err-Failed.field-0-is))
+    (record { calls = refl; failed = refl; turns_failed = refl; listening = refl; clock = inl refl }) c.unfetched.ensures.gives)

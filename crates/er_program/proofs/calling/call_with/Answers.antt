@@ -1,6 +1,16 @@
--- The key that holds.
-use Rattle.std.proofs.Common.{sym}
+-- The key that holds, and none.
+use Rattle.std.proofs.Common.{sym, inr, refl}
+use Rattle.er_program.specs.Commands.{Call}
+use Rattle.er_program.proofs.LineEndings.{call_lacks}
 use Rattle.er_program.proofs.calling.call_with.Goals as goal
 
 pub returns-in-Some-clause-ends : goal.returns-in-Some-clause-ends
-returns-in-Some-clause-ends g c = λ keys. c.dial_with.ensures.ends keys _ c.now-now.result _ c.now-now.ensures.told (sym c.in-Some.ensures.found)
+returns-in-Some-clause-ends g c = λ keys.
+    rw (← c.outside.view_is) (c.dial_with.ensures.ends keys _ c.now-now.result _ c.now-now.ensures.told (sym c.in-Some.ensures.found))
+
+pub returns-in-None-clause-ends : goal.returns-in-None-clause-ends
+returns-in-None-clause-ends g c = λ keys.
+    rw (← c.outside.view_is) (call_lacks keys c.args.address.now c.args.pair.engine c.args.pair.rbc c.args.turns _ _ _ _ c.now-now.result c.no_key.result c.now-now.ensures.told
+    (sym c.in-None.ensures.found)
+    (record { calls = refl; failed = refl; turns_failed = refl; listening = refl; clock = inr (c.now-now.result, c.now-now.ensures.told) })
+    c.no_key.ensures.gives)

@@ -4,4 +4,4 @@ use Rattle.er_program.proofs.drill.drill.Given as goal
 
 abbrev pub invariant-loop-numbered : goal.invariant-loop-numbered
 invariant-loop-numbered g l =
-    Went l.scenario l.numbered-index l.world (g.K.Sink.held l.fn.sink) (g.K.Sink.held l.sink) (g.K.Sink.faults l.fn.sink) (g.K.Sink.faults l.sink)
+    Went l.scenario l.numbered-index l.world (g.K.Sink.state l.fn.sink).held (g.K.Sink.state l.sink).held (g.K.Sink.state l.fn.sink).faults (g.K.Sink.state l.sink).faults

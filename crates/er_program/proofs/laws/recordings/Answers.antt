@@ -1,4 +1,5 @@
 use Rattle.std.proofs.Common.{true, subst}
+use Rattle.loop_model.specs.Ends.{ModelEnd, model_ends}
 use Rattle.safety_automaton.specs.Keys.{key_at}
 use Rattle.loop_model.specs.Loops.{beginning, serves}
 use Rattle.loop_recordings.specs.Recordings.{FindsToo}
@@ -9,7 +10,7 @@ use Rattle.er_program.proofs.laws.recordings.Goals as goal
 pub returns : goal.returns
 returns c = record {
   served = λ before now plan address minds words count why served usual fits.
-      c.recordings.ensures plan (serves plan (beginning minds words) address true served.answers)
+      c.recordings.ensures plan (serves model_ends plan (beginning minds words) address true served.answers)
       (record { settings = usual; grammar = served.done.in_grammar; fits = fits }) served.lawful.isolated served.lawful.replayed;
   dialled = λ before now kmac plan engine rbc handed address minds words count why finds dialled usual alone found fits.
       let own = dialling kmac plan engine rbc handed in
