@@ -8,8 +8,9 @@ ghost use Rattle.hdlc_frames.specs.Shown.{shown};
 ghost use Rattle.safety_automaton.specs.Keys.{key_at};
 ghost use Rattle.safety_automaton.specs.Safety.{session_in};
 ghost use Rattle.safety_automaton.specs.Reports.{made};
+ghost use Rattle.x224_class2.specs.Kept.{kept_made};
 ghost use Rattle.end_model.specs.Ends.{Call, Answer};
-ghost use Rattle.er_end.specs.Inboxes.{first_in};
+ghost use Rattle.er_end.specs.Inboxes.{first_in, newest_of};
 ghost use Rattle.er_end.specs.KeptEnds.{kept_opened, kept_end_made, after_start, used_of, after_octets, refusal, after_send, after_take, after_release, after_tick, after_break, waiting_in, deadline_of};
 ghost use Rattle.er_end.specs.Shown.{Shows, refusal_view};
 ghost use Rattle.er_end.specs.Resting.{Rests};
@@ -115,11 +116,7 @@ impl End {
     {
         let scratch = Room::with_capacity(alloc, SCRATCH)?;
         let line = Line::new(alloc, calls, settings)?;
-        let transport = if calls {
-            Transport::caller(alloc, settings)?
-        } else {
-            Transport::callee(alloc, settings)?
-        };
+        let transport = made_transport(alloc, calls, settings)?;
         let inbox = Inbox::with_slots(alloc)?;
         let layers = Layers {
             limit: now + settings.setup,
@@ -341,6 +338,27 @@ impl End {
         }
     }
 
+    /// The octets that the last event sent, to the line.
+    pub fn out(&self) -> &[u8]
+        ensures { result.now ≡ self.now.core.line.out }
+    {
+        self.layers.line.out()
+    }
+
+    /// The message that the last event accepted. It waits until it is taken.
+    pub fn accepted(&self) -> Option<&[u8]>
+        ensures { option_map (λ m. m.now) result ≡ newest_of self.now.core.upper.inbox }
+    {
+        self.layers.inbox.newest()
+    }
+
+    /// The message that the last event, a take, took; no octets where it took none.
+    pub fn taken(&self) -> &[u8]
+        ensures { result.now ≡ self.now.core.upper.inbox.last }
+    {
+        self.layers.inbox.taken()
+    }
+
     /// The moment at which the end wants a tick: the first of those at which T1 expires and, until the safe connection stands, at which
     /// the time for the set-up is spent. None where there is neither, and after a release.
     #[tactic(auto, unfolding(crate::specs::KeptEnds::deadline_of))]
@@ -391,5 +409,18 @@ impl End {
         ensures { result ≡ self.now.core.line.station.counts }
     {
         self.layers.line.counts()
+    }
+}
+
+// A function of its own, so that the stack that its making takes is given back before the end is put together.
+#[inline(never)]
+fn made_transport(alloc: Global, calls: bool, settings: &Settings) -> Result<Transport, NoMemory>
+    requires { AllAllowed settings.now }
+    ensures { IfOk result (λ made. made ≡ kept_made calls settings.now) }
+{
+    if calls {
+        Transport::caller(alloc, settings)
+    } else {
+        Transport::callee(alloc, settings)
     }
 }

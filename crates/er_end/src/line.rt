@@ -39,6 +39,7 @@ impl Model for Line {
 
 impl Line {
     /// The calling station of a link, or the called one.
+    #[inline(never)]
     pub fn new(alloc: Global, calling: bool, settings: &Settings) -> Result<Line, NoMemory>
         requires { AllAllowed settings.now }
         ensures { IfOk result (λ l. l ≡ record { station = kept_of (made calling (settings.now.modulo == 128) settings.now.window settings.now.n2 settings.now.t1); out = [] }) }

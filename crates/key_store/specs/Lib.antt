@@ -4,3 +4,4 @@ pub mod Ranges
 pub mod Answers
 pub mod Kept
 pub mod Written
+pub mod Lists

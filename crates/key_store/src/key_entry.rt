@@ -1,9 +1,11 @@
 //! An entry of a key file.
 
-ghost use Rattle.std.specs.Prelude.{◌≡◌};
+ghost use Rattle.std.specs.Prelude.{◌≡◌, true};
 ghost use Rattle.safety_automaton.specs.Keys.{is_of};
 ghost use Rattle.key_store.specs.KeyFiles.{is_at_once};
 ghost use Rattle.key_store.specs.Kept.{entry_of};
+ghost use Rattle.key_store.specs.Ranges.{IsInRange};
+ghost use Rattle.key_store.specs.Lists.{is_in_range};
 
 use des_block::TripleKey;
 
@@ -22,7 +24,33 @@ pub struct KeyEntry {
     pub last: u64,
 }
 
+/// The greatest ETCS number.
+pub const GREATEST_NUMBER: u32 = 16_777_215;
+/// The greatest moment, in milliseconds.
+pub const GREATEST_MOMENT: u64 = 1_000_000_000_000_000;
+
 impl KeyEntry {
+    /// Whether its numbers are in their ranges, and its first moment isn't behind its last one.
+    pub fn is_in_range(&self) -> bool
+        ensures value { result ≡ is_in_range (entry_of self.now) }
+        ensures range { result ≡ true → IsInRange (entry_of self.now) }
+    {
+        // the ranges of the KMAC's numbers, which its type gives
+        let _first = self.kmac.first;
+        let _second = self.kmac.second;
+        let _third = self.kmac.third;
+        if self.engine > GREATEST_NUMBER {
+            return false;
+        }
+        if self.rbc > GREATEST_NUMBER {
+            return false;
+        }
+        if self.first > self.last {
+            return false;
+        }
+        self.last <= GREATEST_MOMENT
+    }
+
     /// Whether it is that of a pair and holds at a moment.
     pub fn is_of(&self, engine: u32, rbc: u32, now: u64) -> bool
         ensures { result ≡ is_of now engine rbc (entry_of self.now) }

@@ -1,11 +1,12 @@
 //! The entries of a key file, one by one, and the first two that are of one pair at one moment.
 
-ghost use Rattle.std.specs.Prelude.{◌≡◌, ◌+◌, ◌<◌, ◌≤◌, ◌^◌, [], ◌∷◌, ◌++◌, length, map, IfOk, IfSome, OnOk};
+ghost use Rattle.std.specs.Prelude.{true, ◌≡◌, ◌+◌, ◌<◌, ◌≤◌, ◌^◌, [], ◌∷◌, ◌++◌, length, map, IfOk, IfSome, OnOk};
 ghost use Rattle.toml.specs.View.{view, items_view};
 ghost use Rattle.key_store.specs.declared.key_file_fault.KeyFileFault.TheVariants as fault;
 ghost use Rattle.key_store.specs.KeyFiles.{some_or, number_in_field, kmac_spelled, kmac_in_field, moments_in, entry_in, entries_in, three_keys, place_at_once, first_twice};
 ghost use Rattle.key_store.specs.Ranges.{IsKey, IsInRange, AreInRange};
 ghost use Rattle.key_store.specs.Kept.{entry_of, Gives};
+ghost use Rattle.key_store.specs.Lists.{are_in_range};
 
 use crate::field_name::FieldName;
 use crate::key_entry::KeyEntry;
@@ -191,4 +192,17 @@ pub fn first_twice(entries: &[KeyEntry]) -> Option<(usize, usize)>
         }
     }
     None
+}
+
+/// Whether the numbers of each entry are in their ranges.
+pub fn are_in_range(entries: &[KeyEntry]) -> bool
+    ensures value { result ≡ are_in_range (map entry_of entries.now) }
+    ensures range { result ≡ true → AreInRange (map entry_of entries.now) }
+{
+    for entry in entries {
+        if !entry.is_in_range() {
+            return false;
+        }
+    }
+    true
 }

@@ -1,11 +1,12 @@
-ghost use Rattle.std.specs.Prelude.{◌≡◌, Ok, IfOk};
+ghost use Rattle.std.specs.Prelude.{◌≡◌, Ok, IfOk, map};
 ghost use Rattle.key_store.specs.KeyFiles.{keys_of};
 ghost use Rattle.key_store.specs.Answers.{Answers};
+ghost use Rattle.key_store.specs.Lists.{as_entry, listed_keys};
 
 use crate::document::{listed_keys, read_document, read_version};
 use crate::key_entry::KeyEntry;
 use crate::key_file_fault::KeyFileFault;
-use crate::key_reader::{first_twice, read_entries};
+use crate::key_reader::{are_in_range, first_twice, read_entries};
 use crate::key_writer::key_text;
 use des_block::TripleKey;
 use er_base::NoMemory;
@@ -47,6 +48,20 @@ impl KeyStore {
         match first_twice(entries.as_slice()) {
             Some((first, second)) => Err(KeyFileFault::Twice { first, second }),
             None => Ok(KeyStore { entries }),
+        }
+    }
+
+    /// The keys of a list. None exactly where a number of an entry is out of its range, or two entries of one pair have a moment in common.
+    #[tactic(auto, unfolding(crate::specs::Lists::listed_keys))]
+    pub fn from_entries(entries: Vec<KeyEntry>) -> Option<KeyStore>
+        ensures { result ≡ listed_keys (map as_entry entries.items) }
+    {
+        if !are_in_range(entries.as_slice()) {
+            return None;
+        }
+        match first_twice(entries.as_slice()) {
+            Some(_) => None,
+            None => Some(KeyStore { entries }),
         }
     }
 

@@ -15,5 +15,6 @@ mod version;
 mod want;
 
 pub use field_name::FieldName;
+pub use key_entry::KeyEntry;
 pub use key_file_fault::KeyFileFault;
 pub use key_store::KeyStore;

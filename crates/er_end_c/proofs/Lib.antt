@@ -1,0 +1,4 @@
+pub mod SlotValues
+pub mod Settled
+pub mod Taking
+pub mod Running

@@ -1,0 +1,20 @@
+use Rattle.std.proofs.Common.{◌≡◌, rules, sym, ◌∙◌, subst, false}
+use Rattle.std.proofs.lemmas.Bool.{le-ltb}
+use Rattle.std.specs.Prelude.{Some}
+use Rattle.er_end.specs.KeptEnds.{after_take, waiting_in}
+use Rattle.er_end_c.specs.declared.held.Held.{Held}
+use Rattle.er_end_c.specs.Calls.{is_late}
+use Rattle.er_end_c.specs.Shown.{taken_deeds}
+use Rattle.er_end_c.proofs.Taking.{take_some}
+use Rattle.er_end_c.proofs.events.euroradio_take.Goals as goal
+
+pub returns-in-Some-take-clause-does : goal.returns-in-Some-take-clause-does
+returns-in-Some-take-clause-does c =
+    let t = take_some c.args.now c.in-Some.held.value c.in-Some-take.told
+    (subst (λ (h : Held). Some c.in-Some-take.told ≡ taken_deeds (waiting_in h.end) (after_take c.args.now h.end)) c.deref_mut.ensures.value (sym c.in-Some-take.is ∙ c.take.ensures.answer)) in
+    let early : is_late c.args.now ≡ false = le-ltb 1000000000000000 c.args.now c.if-now-gt-MOST_MOMENT.false in
+    record {
+      held = search rules;
+      answer = rw (c.in-Some.ensures, early) (sym t.1);
+      tells = rw (c.in-Some.ensures, early) t.0;
+    }

@@ -1,0 +1,5 @@
+use Rattle.er_end_c.proofs.Running.{runs_as_model}
+use Rattle.er_end_c.proofs.laws.runs.Goals as goal
+
+pub returns : goal.returns
+returns c = runs_as_model c.standing.ensures.made c.standing.ensures.steps c.standing.ensures.shows

@@ -1,0 +1,9 @@
+pub mod Slots
+pub mod Statuses
+pub mod Deeds
+pub mod Handles
+pub mod Calls
+pub mod Makings
+pub mod Shown
+pub mod Reads
+pub mod Runs

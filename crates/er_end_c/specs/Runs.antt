@@ -1,0 +1,150 @@
+-- Contract: calls on one handle, one after the other, from the making of its end on, are events of the end model, one after the other.
+use Rattle.std.specs.Prelude.{ℕ, ℤ, ◌≡◌, Bool, true, false, if◌then◌else◌, List, [], ◌∷◌, take, Option}
+use Rattle.safety_automaton.specs.Keys.{Entry, key_at}
+use Rattle.end_model.specs.Outcomes.{Outcome, ConnectedTo, Accepted, Taken, NothingToTake, Refused, WasReleased, Octets as Sent}
+use Rattle.end_model.specs.Steps.{Finds, deadline}
+use Rattle.end_model.specs.Layers.{model}
+use Rattle.end_model.specs.Ends.{Opening, Event, End, opened, step}
+use Rattle.end_model.specs.Ends as event
+use Rattle.er_end.specs.Standing.{IsAllowed}
+use Rattle.er_end_c.specs.declared.handle.CEnd.{CEnd}
+use Rattle.er_end_c.specs.declared.face.CDeeds.{CDeeds}
+use Rattle.er_end_c.specs.Statuses.{late_moment}
+use Rattle.er_end_c.specs.Deeds.{no_deeds, deeds_told, status_told, release_deeds, counts_shown}
+use Rattle.er_end_c.specs.Handles.{entries_of, held_in}
+use Rattle.er_end_c.specs.Makings.{IsMade}
+use Rattle.er_end_c.specs.Reads.{text_in, out_of, accepted_of, taken_of, none_or, else_, deadline_status, shown_deadline, shown_release_status, shown_release, waiting_count, shown_counts}
+use Rattle.er_end_c.specs.Calls.{Call, Start, Octets, Send, Take, Release, Tick, Ended, Fault, Stalled, is_late, moment_of, Does}
+
+-- a call, what it answered, and the texts that could be copied behind it
+pub record Answered : Type 0 where
+  pub call : Call
+  pub status : ℤ
+  pub deeds : CDeeds
+  pub out : List ℕ
+  pub accepted : List ℕ
+  pub taken : List ℕ
+
+-- these are the texts of a handle
+pub record HasTexts (end : CEnd) (a : Answered) : Type 0 where
+  pub out_there : a.out ≡ text_in out_of (held_in end)
+  pub accepted_there : a.accepted ≡ text_in accepted_of (held_in end)
+  pub taken_there : a.taken ≡ text_in taken_of (held_in end)
+
+-- these calls, one after the other, lead from a handle to a handle; calls that read leave what is held, and so may stand between them
+abbrev pub Leads : List Answered → CEnd → CEnd → Type 0
+Leads [] first last = held_in last ≡ held_in first
+Leads (a ∷ calls) first last = (next : CEnd) × Does a.call first next a.status a.deeds × HasTexts next a × Leads calls next last
+
+-- ---- in the end model
+
+-- the event that a call is; octets are those that it used
+abbrev pub event_used : Finds → Call → (used : ℕ) → Event
+event_used finds (Start now) used = event.Start
+event_used finds (Octets now piece) used = event.Come finds (take used piece)
+event_used finds (Send now text) used = event.Send text
+event_used finds (Take now) used = event.Take
+event_used finds (Release now sub) used = event.Leave sub
+event_used finds (Tick now) used = event.Tick
+event_used finds Ended used = event.Ended
+event_used finds Fault used = event.Fault
+event_used finds Stalled used = event.Stalled
+
+abbrev pub stepped : Finds → Answered → End → End × List Outcome
+stepped finds a m = step (moment_of a.call) (event_used finds a.call a.deeds.used) m
+
+-- the end behind a call; nothing happens at a moment above 10 ^ 15
+abbrev pub model_after : Finds → Answered → End → End
+model_after finds a m = if is_late (moment_of a.call) then m else (stepped finds a m).0
+
+abbrev pub model_run : Finds → List Answered → End → End
+model_run finds [] m = m
+model_run finds (a ∷ calls) m = model_run finds calls (model_after finds a m)
+
+-- a send was refused
+abbrev pub is_refused : List Outcome → Bool
+is_refused [] = false
+is_refused (ConnectedTo peer ∷ outcomes) = is_refused outcomes
+is_refused (Accepted message ∷ outcomes) = is_refused outcomes
+is_refused (Taken message ∷ outcomes) = is_refused outcomes
+is_refused (NothingToTake ∷ outcomes) = is_refused outcomes
+is_refused (Refused refusal ∷ outcomes) = true
+is_refused (WasReleased why ∷ outcomes) = is_refused outcomes
+is_refused (Sent octets ∷ outcomes) = is_refused outcomes
+
+-- the octets that go to the line
+abbrev pub octets_told : List Outcome → List ℕ
+octets_told [] = []
+octets_told (ConnectedTo peer ∷ outcomes) = octets_told outcomes
+octets_told (Accepted message ∷ outcomes) = octets_told outcomes
+octets_told (Taken message ∷ outcomes) = octets_told outcomes
+octets_told (NothingToTake ∷ outcomes) = octets_told outcomes
+octets_told (Refused refusal ∷ outcomes) = octets_told outcomes
+octets_told (WasReleased why ∷ outcomes) = octets_told outcomes
+octets_told (Sent octets ∷ outcomes) = octets
+
+-- the message that was accepted
+abbrev pub accepted_told : List Outcome → List ℕ
+accepted_told [] = []
+accepted_told (ConnectedTo peer ∷ outcomes) = accepted_told outcomes
+accepted_told (Accepted message ∷ outcomes) = message
+accepted_told (Taken message ∷ outcomes) = accepted_told outcomes
+accepted_told (NothingToTake ∷ outcomes) = accepted_told outcomes
+accepted_told (Refused refusal ∷ outcomes) = accepted_told outcomes
+accepted_told (WasReleased why ∷ outcomes) = accepted_told outcomes
+accepted_told (Sent octets ∷ outcomes) = accepted_told outcomes
+
+-- the message that was taken
+abbrev pub taken_told : List Outcome → List ℕ
+taken_told [] = []
+taken_told (ConnectedTo peer ∷ outcomes) = taken_told outcomes
+taken_told (Accepted message ∷ outcomes) = taken_told outcomes
+taken_told (Taken message ∷ outcomes) = message
+taken_told (NothingToTake ∷ outcomes) = []
+taken_told (Refused refusal ∷ outcomes) = taken_told outcomes
+taken_told (WasReleased why ∷ outcomes) = taken_told outcomes
+taken_told (Sent octets ∷ outcomes) = taken_told outcomes
+
+abbrev pub is_take : Call → Bool
+is_take (Start now) = false
+is_take (Octets now piece) = false
+is_take (Send now text) = false
+is_take (Take now) = true
+is_take (Release now sub) = false
+is_take (Tick now) = false
+is_take Ended = false
+is_take Fault = false
+is_take Stalled = false
+
+-- a call answers what the step of the model tells: as its status, as its deeds, and as the texts to be copied, unless it is a send that was
+-- refused, behind which those of the event before may still be copied
+pub record IsAnswered (a : Answered) (told : List Outcome) : Type 0 where
+  pub answer : a.status ≡ status_told told
+  pub tells : a.deeds ≡ record (deeds_told told) { used = a.deeds.used }
+  pub sent : is_refused told ≡ false → a.out ≡ octets_told told
+  pub came : is_refused told ≡ false → a.accepted ≡ accepted_told told
+  pub took : is_take a.call ≡ true → a.taken ≡ taken_told told
+
+abbrev pub IsAnsweredIf : (late : Bool) → Finds → Answered → End → Type 0
+IsAnsweredIf true finds a m = (a.status ≡ late_moment) × (a.deeds ≡ no_deeds)
+IsAnsweredIf false finds a m = IsAnswered a (stepped finds a m).1
+
+abbrev pub AreAnswered : Finds → List Answered → End → Type 0
+AreAnswered finds [] m = Unit {0}
+AreAnswered finds (a ∷ calls) m = IsAnsweredIf (is_late (moment_of a.call)) finds a m × AreAnswered finds calls (model_after finds a m)
+
+-- the calls that read answer what the model says of its end
+pub record ReadsAs (end : CEnd) (m : End) : Type 0 where
+  pub wanted : deadline_status (held_in end) ≡ none_or (deadline model m.core)
+  pub moment : (before : ℕ) → shown_deadline before (held_in end) ≡ else_ before (deadline model m.core)
+  pub over : shown_release_status (held_in end) ≡ none_or m.core.released
+  pub why : shown_release (held_in end) ≡ release_deeds m.core.released
+  pub waits : waiting_count (held_in end) ≡ model.untaken m.core.upper
+  pub counts : shown_counts (held_in end) ≡ counts_shown (model.counts m.core.line)
+
+-- of a handle whose end was made by an opening, with keys
+abbrev pub RunsAsModel : Type 0
+RunsAsModel =
+    (opening : Opening) (entries : Option (List Entry)) (calls : List Answered) (first last : CEnd) → IsAllowed opening → IsMade first opening entries → Leads calls first last
+    → AreAnswered (key_at (entries_of entries)) calls (opened opening)
+    × ReadsAs last (model_run (key_at (entries_of entries)) calls (opened opening))

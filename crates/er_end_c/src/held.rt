@@ -1,0 +1,138 @@
+//! An end with its keys, and what each event at it comes to.
+
+ghost use Rattle.std.specs.Prelude.{◌≡◌, ◌≤◌, None, Some, MatchResult, option_map};
+ghost use Rattle.er_end.specs.KeptEnds.{after_start, after_octets, after_send, after_take, after_release, after_tick, after_break, used_of, refusal, waiting_in};
+ghost use Rattle.er_end_c.specs.Deeds.{refused_status};
+ghost use Rattle.er_end.specs.Shown.{refusal_view};
+ghost use Rattle.er_end_c.specs.Handles.{with_end};
+ghost use Rattle.er_end_c.specs.Calls.{finds_in};
+ghost use Rattle.er_end_c.specs.Shown.{deeds_of, taken_deeds, taken_shown};
+ghost use Rattle.er_base.specs.declared.cause.Cause.TheVariants.{LineEnded, LineFailed, LineStalled};
+
+use crate::face::CDeeds;
+use crate::keys::Keys;
+use crate::status;
+use er_end::{End, SendRefused, Taken};
+
+/// What a handle holds.
+#[derive(Drop)]
+pub struct Held {
+    /// The end.
+    pub end: End,
+    /// Where it finds keys.
+    pub keys: Keys,
+}
+
+impl Held {
+    /// The end begins.
+    pub fn start(&mut self, now: u64) -> CDeeds
+        requires { now ≤ 1000000000000000 }
+        ensures held { self.new ≡ with_end self.old (after_start now self.old.end) }
+        ensures deeds { result ≡ deeds_of 0 (after_start now self.old.end) }
+    {
+        CDeeds::of_event(0, &self.end.start(now))
+    }
+
+    /// Octets come.
+    pub fn octets(&mut self, now: u64, piece: &[u8]) -> CDeeds
+        requires { now ≤ 1000000000000000 }
+        ensures held { self.new ≡ with_end self.old (after_octets (finds_in self.old) now piece.now self.old.end) }
+        ensures deeds { result ≡ deeds_of (used_of self.old.end piece.now) (after_octets (finds_in self.old) now piece.now self.old.end) }
+    {
+        let (used, deeds) = self.end.octets(&self.keys, now, piece);
+        CDeeds::of_event(used, &deeds)
+    }
+
+    /// The user sends.
+    pub fn send(&mut self, now: u64, text: &[u8]) -> Result<CDeeds, SendRefused>
+        requires { now ≤ 1000000000000000 }
+        ensures held { self.new ≡ with_end self.old (after_send now text.now self.old.end) }
+        ensures answer { MatchResult result
+            (λ deeds. (refusal text.now self.old.end ≡ None) × (deeds ≡ deeds_of 0 (after_send now text.now self.old.end)))
+            (λ refused. refusal text.now self.old.end ≡ Some (refusal_view refused)) }
+    {
+        match self.end.send(now, text) {
+            Ok(deeds) => Ok(CDeeds::of_event(0, &deeds)),
+            Err(refused) => Err(refused),
+        }
+    }
+
+    /// The user takes the oldest message. None where none waits.
+    pub fn take(&mut self, now: u64) -> Option<CDeeds>
+        requires { now ≤ 1000000000000000 }
+        ensures held { self.new ≡ with_end self.old (after_take now self.old.end) }
+        ensures answer { result ≡ taken_deeds (waiting_in self.old.end) (after_take now self.old.end) }
+    {
+        taken_deeds(&self.end.take(now))
+    }
+
+    /// The user releases.
+    pub fn release(&mut self, now: u64, sub: u8) -> CDeeds
+        requires { now ≤ 1000000000000000 }
+        ensures held { self.new ≡ with_end self.old (after_release now sub self.old.end) }
+        ensures deeds { result ≡ deeds_of 0 (after_release now sub self.old.end) }
+    {
+        CDeeds::of_event(0, &self.end.release(now, sub))
+    }
+
+    /// The moment has come.
+    pub fn tick(&mut self, now: u64) -> CDeeds
+        requires { now ≤ 1000000000000000 }
+        ensures held { self.new ≡ with_end self.old (after_tick now self.old.end) }
+        ensures deeds { result ≡ deeds_of 0 (after_tick now self.old.end) }
+    {
+        CDeeds::of_event(0, &self.end.tick(now))
+    }
+
+    /// The line ended.
+    pub fn ended(&mut self) -> CDeeds
+        ensures held { self.new ≡ with_end self.old (after_break LineEnded self.old.end) }
+        ensures deeds { result ≡ deeds_of 0 (after_break LineEnded self.old.end) }
+    {
+        CDeeds::of_event(0, &self.end.ended())
+    }
+
+    /// The line failed.
+    pub fn fault(&mut self) -> CDeeds
+        ensures held { self.new ≡ with_end self.old (after_break LineFailed self.old.end) }
+        ensures deeds { result ≡ deeds_of 0 (after_break LineFailed self.old.end) }
+    {
+        CDeeds::of_event(0, &self.end.fault())
+    }
+
+    /// The line stalled.
+    pub fn stalled(&mut self) -> CDeeds
+        ensures held { self.new ≡ with_end self.old (after_break LineStalled self.old.end) }
+        ensures deeds { result ≡ deeds_of 0 (after_break LineStalled self.old.end) }
+    {
+        CDeeds::of_event(0, &self.end.stalled())
+    }
+}
+
+/// The status of a send that is refused.
+pub fn refused_status(refused: SendRefused) -> i32
+    ensures { result ≡ refused_status (refusal_view refused) }
+{
+    match refused {
+        SendRefused::Released(_) => status::RELEASED,
+        SendRefused::NotConnected => status::NOT_CONNECTED,
+        SendRefused::Length(_) => status::LENGTH,
+        SendRefused::Full(_) => status::FULL,
+    }
+}
+
+fn taken_deeds(taken: &Option<Taken<'_>>) -> Option<CDeeds>
+    ensures { result ≡ option_map taken_shown taken.now }
+{
+    match taken {
+        Some(taken) => {
+            let (text, out) = (taken.text, taken.out);
+            Some(CDeeds {
+                out: out.len(),
+                message: text.len(),
+                ..CDeeds::none()
+            })
+        }
+        None => None,
+    }
+}

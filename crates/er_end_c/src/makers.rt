@@ -1,0 +1,288 @@
+//! The makers of an end, and its end.
+
+ghost use Rattle.std.specs.Prelude.{◌≡◌, ◌≤◌, ◌<◌, ◌^◌, ◌&&◌, ◌++◌, ◌∷◌, [], map, true, None, Some, MatchResult, IfOk, IfSome};
+ghost use Rattle.er_settings.specs.Ranges.{AllAllowed};
+ghost use Rattle.end_model.specs.Ends.{Call, Answer};
+ghost use Rattle.key_store.specs.KeyFiles.{keys_of};
+ghost use Rattle.key_store.specs.Lists.{as_entry, listed_keys};
+ghost use Rattle.er_end_c.specs.Handles.{IsTied, held_in};
+ghost use Rattle.er_end_c.specs.Makings.{settings_from, is_number, fault_of, fault_status, key_of, held_made, made_with, made_of, entry_shown, Makes, KeysGive};
+
+use crate::face::{CKey, CSettings, MOST_MOMENT};
+use crate::fault::Fault;
+use crate::handle::{CEnd, is_open, put, shut, taken};
+use crate::held::Held;
+use crate::keys::Keys;
+use crate::status;
+use des_block::TripleKey;
+use er_end::End;
+use er_settings::Settings;
+use key_store::{KeyEntry, KeyFileFault, KeyStore};
+use std::alloc::Global;
+
+/// The greatest ETCS number.
+const MOST_NUMBER: u32 = 16_777_215;
+
+/// Makes an end that calls.
+#[unsafe(no_mangle)]
+pub extern "C" fn euroradio_call(
+    alloc: Global,
+    end: &mut CEnd,
+    settings: &CSettings,
+    me: u32,
+    peer: u32,
+    kmac: &[u64; 3],
+    rb: u64,
+    now: u64,
+) -> i32
+    requires { IsTied end.old }
+    ensures tied { IsTied end.new }
+    ensures makes { Makes
+        (fault_of end.old now (is_number me && is_number peer) settings.now)
+        (Some (held_made (Call (settings_from settings.now) me peer (key_of kmac.now) rb now) None))
+        end.old end.new result }
+{
+    let key = TripleKey {
+        first: kmac[0],
+        second: kmac[1],
+        third: kmac[2],
+    };
+    let settings = match admitted(end, now, are_numbers(me, peer), settings) {
+        Ok(settings) => settings,
+        Err(fault) => return fault.status(),
+    };
+    match calling(alloc, &settings, me, peer, key, rb, now) {
+        Some(held) => {
+            put(end, held);
+            status::OK
+        }
+        None => status::MEMORY,
+    }
+}
+
+/// Makes an end that answers, with the keys of a key file.
+#[unsafe(no_mangle)]
+pub extern "C" fn euroradio_answer(
+    alloc: Global,
+    end: &mut CEnd,
+    settings: &CSettings,
+    me: u32,
+    keys: &[u8],
+    ra: u64,
+    now: u64,
+) -> i32
+    requires { IsTied end.old }
+    ensures tied { IsTied end.new }
+    ensures makes { Makes
+        (fault_of end.old now (is_number me) settings.now)
+        (made_with (Answer (settings_from settings.now) me ra now) (keys_of keys.now))
+        end.old end.new result }
+{
+    let settings = match admitted(end, now, me <= MOST_NUMBER, settings) {
+        Ok(settings) => settings,
+        Err(fault) => return fault.status(),
+    };
+    match answering(alloc, &settings, me, keys, ra, now) {
+        Ok(held) => {
+            put(end, held);
+            status::OK
+        }
+        Err(fault) => fault.status(),
+    }
+}
+
+/// Makes an end that answers, with the keys of an array.
+#[unsafe(no_mangle)]
+pub extern "C" fn euroradio_answer_keys(
+    alloc: Global,
+    end: &mut CEnd,
+    settings: &CSettings,
+    me: u32,
+    keys: &[CKey],
+    ra: u64,
+    now: u64,
+) -> i32
+    requires { IsTied end.old }
+    ensures tied { IsTied end.new }
+    ensures makes { Makes
+        (fault_of end.old now (is_number me) settings.now)
+        (made_of (Answer (settings_from settings.now) me ra now) (listed_keys (map entry_shown keys.now)))
+        end.old end.new result }
+{
+    let settings = match admitted(end, now, me <= MOST_NUMBER, settings) {
+        Ok(settings) => settings,
+        Err(fault) => return fault.status(),
+    };
+    match answering_keys(alloc, &settings, me, keys, ra, now) {
+        Ok(held) => {
+            put(end, held);
+            status::OK
+        }
+        Err(fault) => fault.status(),
+    }
+}
+
+/// Gives an end's memory back.
+#[unsafe(no_mangle)]
+pub extern "C" fn euroradio_free(alloc: Global, end: &mut CEnd)
+    requires { IsTied end.old }
+    ensures tied { IsTied end.new }
+    ensures held { held_in end.new ≡ None }
+{
+    if let Some(held) = taken(alloc, end) {
+        shut(end);
+        drop(held);
+    }
+}
+
+fn are_numbers(me: u32, peer: u32) -> bool
+    ensures { result ≡ is_number me && is_number peer }
+{
+    me <= MOST_NUMBER && peer <= MOST_NUMBER
+}
+
+// The settings, where nothing stands against making an end.
+fn admitted(
+    end: &CEnd,
+    now: u64,
+    are_numbers: bool,
+    settings: &CSettings,
+) -> Result<Settings, Fault>
+    ensures fault { MatchResult result
+        (λ made. (fault_of end.now now are_numbers settings.now ≡ None) × (made ≡ settings_from settings.now))
+        (λ fault. fault_of end.now now are_numbers settings.now ≡ Some (fault_status fault)) }
+    ensures allowed { IfOk result (λ made. AllAllowed made) }
+    ensures moment { IfOk result (λ made. now ≤ 1000000000000000) }
+    ensures numbers { IfOk result (λ made. are_numbers ≡ true) }
+{
+    if is_open(end) {
+        return Err(Fault::Open);
+    }
+    if now > MOST_MOMENT {
+        return Err(Fault::Moment);
+    }
+    if !are_numbers {
+        return Err(Fault::Number);
+    }
+    match settings.checked() {
+        Some(settings) => Ok(settings),
+        None => Err(Fault::Setting),
+    }
+}
+
+fn boxed(alloc: Global, end: End, keys: Keys) -> Option<Box<Held>>
+    ensures { IfSome result (λ held. held.value ≡ record { end = end; keys = keys }) }
+{
+    Box::new(alloc, Held { end, keys }).ok()
+}
+
+fn calling(
+    alloc: Global,
+    settings: &Settings,
+    me: u32,
+    peer: u32,
+    key: TripleKey,
+    rb: u64,
+    now: u64,
+) -> Option<Box<Held>>
+    requires settings { AllAllowed settings.now }
+    requires me { me < 2 ^ 24 }
+    requires peer { peer < 2 ^ 24 }
+    requires moment { now ≤ 1000000000000000 }
+    ensures { IfSome result (λ held. held.value ≡ held_made (Call settings.now me peer key rb now) None) }
+{
+    match End::call(alloc, settings, me, peer, key, rb, now) {
+        Ok(end) => boxed(alloc, end, Keys { store: None }),
+        Err(_) => None,
+    }
+}
+
+fn answering(
+    alloc: Global,
+    settings: &Settings,
+    me: u32,
+    keys: &[u8],
+    ra: u64,
+    now: u64,
+) -> Result<Box<Held>, Fault>
+    requires settings { AllAllowed settings.now }
+    requires me { me < 2 ^ 24 }
+    requires moment { now ≤ 1000000000000000 }
+    ensures { let made = made_with (Answer settings.now me ra now) (keys_of keys.now) in
+        MatchResult result (λ held. made ≡ Some held.value) (λ fault. KeysGive made fault) }
+{
+    let store = match KeyStore::from_bytes(alloc, keys) {
+        Ok(store) => store,
+        Err(KeyFileFault::NoMemory(_)) => return Err(Fault::Memory),
+        Err(_) => return Err(Fault::Keys),
+    };
+    match with_keys(alloc, settings, me, store, ra, now) {
+        Some(held) => Ok(held),
+        None => Err(Fault::Memory),
+    }
+}
+
+fn answering_keys(
+    alloc: Global,
+    settings: &Settings,
+    me: u32,
+    keys: &[CKey],
+    ra: u64,
+    now: u64,
+) -> Result<Box<Held>, Fault>
+    requires settings { AllAllowed settings.now }
+    requires me { me < 2 ^ 24 }
+    requires moment { now ≤ 1000000000000000 }
+    ensures { let made = made_of (Answer settings.now me ra now) (listed_keys (map entry_shown keys.now)) in
+        MatchResult result (λ held. made ≡ Some held.value) (λ fault. KeysGive made fault) }
+{
+    let Some(entries) = entries(alloc, keys) else {
+        return Err(Fault::Memory);
+    };
+    let Some(store) = KeyStore::from_entries(entries) else {
+        return Err(Fault::Keys);
+    };
+    match with_keys(alloc, settings, me, store, ra, now) {
+        Some(held) => Ok(held),
+        None => Err(Fault::Memory),
+    }
+}
+
+// The entries of a key store.
+fn entries(alloc: Global, keys: &[CKey]) -> Option<Vec<KeyEntry>>
+    ensures { IfSome result (λ entries. map as_entry entries.items ≡ map entry_shown keys.now) }
+{
+    let mut entries = Vec::new(alloc);
+    for key in keys {
+        if !push(&mut entries, key) {
+            return None;
+        }
+    }
+    Some(entries)
+}
+
+// Whether there was room.
+fn push(entries: &mut Vec<KeyEntry>, key: &CKey) -> bool
+    ensures { result ≡ true → map as_entry entries.new.items ≡ map as_entry entries.old.items ++ entry_shown key.now ∷ [] }
+{
+    entries.push(key.entry()).is_ok()
+}
+
+fn with_keys(
+    alloc: Global,
+    settings: &Settings,
+    me: u32,
+    store: KeyStore,
+    ra: u64,
+    now: u64,
+) -> Option<Box<Held>>
+    requires settings { AllAllowed settings.now }
+    requires me { me < 2 ^ 24 }
+    requires moment { now ≤ 1000000000000000 }
+    ensures { IfSome result (λ held. held.value ≡ held_made (Answer settings.now me ra now) (Some store)) }
+{
+    match End::answer(alloc, settings, me, ra, now) {
+        Ok(end) => boxed(alloc, end, Keys { store: Some(store) }),
+        Err(_) => None,
+    }
+}

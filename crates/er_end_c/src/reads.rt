@@ -1,0 +1,180 @@
+//! The calls that read what an end is and what its last event left.
+
+ghost use Rattle.std.specs.Prelude.{◌≡◌, ◌≤◌, length, option_map, MatchOption};
+ghost use Rattle.er_end.specs.KeptEnds.{waiting_in, deadline_of};
+ghost use Rattle.er_end.specs.Inboxes.{newest_of};
+ghost use Rattle.er_end_c.specs.Handles.{IsTied, held_in};
+ghost use Rattle.er_end_c.specs.Reads.{text_in, text_of, copied, written, out_of, accepted_of, taken_of, shown_release, shown_release_status, shown_counts, found_status, waiting_count, shown_deadline, deadline_status};
+
+use crate::face::{CCounts, CDeeds};
+use crate::handle::{CEnd, put, taken};
+use crate::status;
+use std::alloc::Global;
+
+/// Copies octets that the last event sent, from the index `from` on.
+#[unsafe(no_mangle)]
+pub extern "C" fn euroradio_out(
+    alloc: Global,
+    end: &mut CEnd,
+    from: usize,
+    into: &mut [u8],
+) -> usize
+    requires { IsTied end.old }
+    ensures tied { IsTied end.new }
+    ensures held { held_in end.new ≡ held_in end.old }
+    ensures copied { into.new ≡ written (copied (text_in out_of (held_in end.old)) from (length into.old)) into.old }
+    ensures count { result ≡ length (copied (text_in out_of (held_in end.old)) from (length into.old)) }
+{
+    let Some(held) = taken(alloc, end) else {
+        return 0;
+    };
+    let count = copy(held.end.out(), from, into);
+    put(end, held);
+    count
+}
+
+/// Copies the message that the last event accepted.
+#[unsafe(no_mangle)]
+pub extern "C" fn euroradio_accepted(alloc: Global, end: &mut CEnd, into: &mut [u8]) -> usize
+    requires { IsTied end.old }
+    ensures tied { IsTied end.new }
+    ensures held { held_in end.new ≡ held_in end.old }
+    ensures copied { into.new ≡ written (copied (text_in accepted_of (held_in end.old)) 0 (length into.old)) into.old }
+    ensures count { result ≡ length (copied (text_in accepted_of (held_in end.old)) 0 (length into.old)) }
+{
+    let Some(held) = taken(alloc, end) else {
+        return 0;
+    };
+    let count = copy_some(&held.end.accepted(), into);
+    put(end, held);
+    count
+}
+
+/// Copies the message that the last event, a take, took.
+#[unsafe(no_mangle)]
+pub extern "C" fn euroradio_taken(alloc: Global, end: &mut CEnd, into: &mut [u8]) -> usize
+    requires { IsTied end.old }
+    ensures tied { IsTied end.new }
+    ensures held { held_in end.new ≡ held_in end.old }
+    ensures copied { into.new ≡ written (copied (text_in taken_of (held_in end.old)) 0 (length into.old)) into.old }
+    ensures count { result ≡ length (copied (text_in taken_of (held_in end.old)) 0 (length into.old)) }
+{
+    let Some(held) = taken(alloc, end) else {
+        return 0;
+    };
+    let count = copy(held.end.taken(), 0, into);
+    put(end, held);
+    count
+}
+
+/// The moment at which a tick is wanted.
+#[unsafe(no_mangle)]
+pub extern "C" fn euroradio_deadline(alloc: Global, end: &mut CEnd, moment: &mut u64) -> i32
+    requires { IsTied end.old }
+    ensures tied { IsTied end.new }
+    ensures held { held_in end.new ≡ held_in end.old }
+    ensures answer { result ≡ deadline_status (held_in end.old) }
+    ensures moment { moment.new ≡ shown_deadline moment.old (held_in end.old) }
+{
+    let Some(held) = taken(alloc, end) else {
+        return status::CLOSED;
+    };
+    let deadline = held.end.deadline();
+    put(end, held);
+    match deadline {
+        Some(at) => {
+            *moment = at;
+            status::OK
+        }
+        None => status::NONE,
+    }
+}
+
+/// How many accepted messages wait to be taken.
+#[unsafe(no_mangle)]
+pub extern "C" fn euroradio_waiting(alloc: Global, end: &mut CEnd) -> usize
+    requires { IsTied end.old }
+    ensures tied { IsTied end.new }
+    ensures held { held_in end.new ≡ held_in end.old }
+    ensures count { result ≡ waiting_count (held_in end.old) }
+{
+    let Some(held) = taken(alloc, end) else {
+        return 0;
+    };
+    let count = held.end.waiting();
+    put(end, held);
+    count
+}
+
+/// Whether and why the end is released.
+#[unsafe(no_mangle)]
+pub extern "C" fn euroradio_released(alloc: Global, end: &mut CEnd, deeds: &mut CDeeds) -> i32
+    requires { IsTied end.old }
+    ensures tied { IsTied end.new }
+    ensures held { held_in end.new ≡ held_in end.old }
+    ensures answer { result ≡ shown_release_status (held_in end.old) }
+    ensures deeds { deeds.new ≡ shown_release (held_in end.old) }
+{
+    *deeds = CDeeds::none();
+    let Some(held) = taken(alloc, end) else {
+        return status::CLOSED;
+    };
+    let why = held.end.released();
+    put(end, held);
+    *deeds = CDeeds::of_release(why);
+    if why.is_some() {
+        status::OK
+    } else {
+        status::NONE
+    }
+}
+
+/// The frames that the station ignored so far.
+#[unsafe(no_mangle)]
+pub extern "C" fn euroradio_counted(alloc: Global, end: &mut CEnd, counts: &mut CCounts) -> i32
+    requires { IsTied end.old }
+    ensures tied { IsTied end.new }
+    ensures held { held_in end.new ≡ held_in end.old }
+    ensures answer { result ≡ found_status (held_in end.old) }
+    ensures counts { counts.new ≡ shown_counts (held_in end.old) }
+{
+    *counts = CCounts::none();
+    let Some(held) = taken(alloc, end) else {
+        return status::CLOSED;
+    };
+    *counts = CCounts::of(held.end.counts());
+    put(end, held);
+    status::OK
+}
+
+/// The version of the library: 10,000 times the major one, 100 times the minor one, and the patch.
+#[unsafe(no_mangle)]
+pub extern "C" fn euroradio_version() -> u32
+    ensures { result ≡ 100 }
+{
+    100
+}
+
+// Copies what fits, from an index on: how many octets.
+fn copy(text: &[u8], from: usize, into: &mut [u8]) -> usize
+    ensures copied { into.new ≡ written (copied text.now from (length into.old)) into.old }
+    ensures count { result ≡ length (copied text.now from (length into.old)) }
+{
+    if from >= text.len() {
+        return 0;
+    }
+    let rest = &text[from..];
+    let count = rest.len().min(into.len());
+    into[..count].copy_from_slice(&rest[..count]);
+    count
+}
+
+fn copy_some(text: &Option<&[u8]>, into: &mut [u8]) -> usize
+    ensures copied { into.new ≡ written (copied (text_of (option_map (λ m. m.now) text.now)) 0 (length into.old)) into.old }
+    ensures count { result ≡ length (copied (text_of (option_map (λ m. m.now) text.now)) 0 (length into.old)) }
+{
+    match text {
+        Some(text) => copy(text, 0, into),
+        None => 0,
+    }
+}
