@@ -1,0 +1,5 @@
+pub mod Ranges
+pub mod Table
+pub mod Files
+pub mod Answers
+pub mod Readings

@@ -1,0 +1,56 @@
+//! The lines behind the header: each reads the words behind its first one.
+
+ghost use Rattle.std.specs.Prelude.{◌≡◌, length, map, IfOk};
+ghost use Rattle.er_base.specs.Rows.{Gives};
+ghost use Rattle.er_tap.specs.Ranges.{IsInRange};
+ghost use Rattle.er_tap.specs.Readings.{step_said};
+ghost use Rattle.er_tap.specs.Table.{line_kinds};
+
+use crate::arguments::{read_etcs_number, read_link, read_moment, read_octets};
+use crate::line_name::LineName;
+use crate::tap_step::TapStep;
+use er_base::{LineFault, Why, read_side};
+use std::alloc::Global;
+
+fn link(words: &[&[u8]]) -> Result<TapStep, LineFault>
+    requires { length words.now ≡ 4 }
+    ensures step { Gives result (step_said LineName.Link (map (λ w. w.now) words.now)) }
+    ensures range { IfOk result (λ step. IsInRange step) }
+{
+    let [link, engine, rbc, moment] = words else {
+        return Err(LineFault::Refused(Why::Count));
+    };
+    Ok(TapStep::Link {
+        link: read_link(link)?,
+        engine: read_etcs_number(engine)?,
+        rbc: read_etcs_number(rbc)?,
+        moment: read_moment(moment)?,
+    })
+}
+
+fn octets(alloc: Global, words: &[&[u8]]) -> Result<TapStep, LineFault>
+    requires { length words.now ≡ 3 }
+    ensures step { Gives result (step_said LineName.Octets (map (λ w. w.now) words.now)) }
+    ensures range { IfOk result (λ step. IsInRange step) }
+{
+    let [link, side, text] = words else {
+        return Err(LineFault::Refused(Why::Count));
+    };
+    Ok(TapStep::Octets {
+        link: read_link(link)?,
+        side: read_side(side)?,
+        text: read_octets(alloc, text)?,
+    })
+}
+
+/// What a line says whose first word names it, from the words behind it, as many as it wants.
+pub fn read_step(alloc: Global, name: LineName, words: &[&[u8]]) -> Result<TapStep, LineFault>
+    requires { length words.now ≡ length (line_kinds name) }
+    ensures step { Gives result (step_said name (map (λ w. w.now) words.now)) }
+    ensures range { IfOk result (λ step. IsInRange step) }
+{
+    match name {
+        LineName::Link => link(words),
+        LineName::Octets => octets(alloc, words),
+    }
+}

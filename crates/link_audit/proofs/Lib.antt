@@ -1,0 +1,7 @@
+mod Turning
+mod Opened
+mod Reducing
+mod Feeding
+mod Written
+mod Places
+mod Printed

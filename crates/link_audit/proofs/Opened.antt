@@ -1,0 +1,233 @@
+-- How lines open links: one line more, one that is refused, and none.
+use Rattle.std.proofs.Common.{arith, ◌≡◌, ℕ, ◌<◌, ◌≤◌, ◌+◌, ◌-◌, ◌==◌, Bool, true, false, zero, suc, if◌then◌else◌, List, [], ◌∷◌, length, drop, Option, Some, None, is_some, Err, refl, subst, sym, ap, ◌∙◌, inl, inr}
+use Rattle.std.specs.Prelude.{slice_index_or, slice_set, replicate}
+use Rattle.std.proofs.lemmas.Bool.{cases_eq, ne_eqb}
+use Rattle.std.proofs.lemmas.Bool.Decides.{eqb_tells}
+use Rattle.std.proofs.lemmas.List.{get_or-replicate, get_or-set_same, get_or-set_other, drop_all}
+use Rattle.er_tap.specs.declared.tap_line.TapLine.{TapLine}
+use Rattle.er_tap.specs.declared.tap_step.TapStep.{TapStep}
+use Rattle.er_tap.specs.declared.tap_step.TapStep.TheVariants as step
+use Rattle.er_base.specs.declared.side.Side.{Side}
+use Rattle.er_tap.specs.Ranges.{IsInRange, AreInRange}
+use Rattle.tap_model.specs.Lines.{TapOpening, TapFault, NoLinkAt, TwiceAt, has, fault_at, opened_by, fault_from, fault_of, opens_link, first_opening, opening_of}
+use Rattle.link_audit.specs.declared.opening.Opening.{Opening}
+use Rattle.link_audit.specs.declared.openings.Openings.{Openings}
+use Rattle.tap_model.specs.declared.audit_fault.AuditFault.{AuditFault}
+use Rattle.tap_model.specs.declared.audit_fault.AuditFault.TheVariants.{NoLink, LinkTwice, Sink, NoMemory}
+use Rattle.link_audit.specs.Openings.{shown, shown_of, opening_at, IsAllowed, Stands, Passes, Takes, Checks}
+
+-- ---- what is kept
+
+shown_some : (x : Option Opening) → is_some (shown_of x) ≡ is_some x
+shown_some None = refl
+shown_some (Some o) = refl
+
+pub none_opened : (n : ℕ) → 1 ≤ n → n ≤ 64 → opening_at (record { links = replicate 64 None }) n ≡ None
+unfolding opening_at
+none_opened n least most = ap shown_of (get_or-replicate 64 (n - 1) None None (omega arith))
+
+pub kept_at : (o : Openings) (n : ℕ) → shown_of (slice_index_or o.links (n - 1) None) ≡ opening_at o n
+unfolding opening_at
+kept_at o n = refl
+
+-- whether a link was opened
+is_kept : (o : Openings) (n : ℕ) → is_some (opening_at o n) ≡ is_some (slice_index_or o.links (n - 1) None)
+unfolding opening_at
+is_kept o n = shown_some (slice_index_or o.links (n - 1) None)
+
+module _ (o : Openings) (m : ℕ) (x : Opening) where
+  -- with one more
+  abbrev pub with_one : Openings
+  with_one = record { links = slice_set o.links (m - 1) (Some x) }
+
+  this_one : length o.links ≡ 64 → 1 ≤ m → m ≤ 64 → opening_at with_one m ≡ Some (shown x)
+  unfolding opening_at
+  this_one long least most = ap shown_of (get_or-set_same o.links (m - 1) (Some x) None (omega arith))
+
+  another : (n : ℕ) → 1 ≤ m → 1 ≤ n → (n ≡ m → ⊥) → opening_at with_one n ≡ opening_at o n
+  unfolding opening_at
+  another n one least other = ap shown_of (get_or-set_other o.links (m - 1) (n - 1) (Some x) None (λ e. other (omega arith)))
+
+-- ---- one line
+
+eq_self : (n : ℕ) → (n == n) ≡ true
+eq_self n = elim (eqb_tells n n) [
+  | inl same ↦ same.0
+  | inr other ↦ absurd (other.1 refl)
+]
+
+first_none : (x : Option TapOpening) → first_opening x None ≡ x
+first_none None = refl
+first_none (Some o) = refl
+
+unopened : (x : Option TapOpening) → is_some x ≡ false → x ≡ None
+unopened None e = refl
+unopened (Some o) e = absurd cc
+
+-- of a link that isn't opened
+has_none : (opened : List ℕ) (o : Openings) (m : ℕ) → Stands opened o → 1 ≤ m → m ≤ 64 → is_some (slice_index_or o.links (m - 1) None) ≡ false → has m opened ≡ false
+has_none opened o m stands least most none = stands m least most ∙ is_kept o m ∙ none
+
+has_one : (opened : List ℕ) (o : Openings) (m : ℕ) → Stands opened o → 1 ≤ m → m ≤ 64 → is_some (slice_index_or o.links (m - 1) None) ≡ true → has m opened ≡ true
+has_one opened o m stands least most one = stands m least most ∙ is_kept o m ∙ one
+
+stands_more : (opened : List ℕ) (o : Openings) (m : ℕ) (x : Opening) → length o.links ≡ 64 → 1 ≤ m → m ≤ 64 → Stands opened o → Stands (m ∷ opened) (with_one o m x)
+unfolding has
+stands_more opened o m x long least most stands n one more = elim (cases_eq n m) [
+  | inl same ↦ rw (same, eq_self m, this_one o m x long least most) refl
+  | inr other ↦ rw (ne_eqb n m other, another o m x n least one other) (stands n one more)
+]
+
+opening_more : (o : Openings) (m engine rbc at n : ℕ) → length o.links ≡ 64 → 1 ≤ m → m ≤ 64 → is_some (slice_index_or o.links (m - 1) None) ≡ false → 1 ≤ n → n ≤ 64
+    → opening_at (with_one o m (record { engine = engine; rbc = rbc; moment = at })) n ≡ first_opening (opening_at o n) (opens_link n (step.Link m engine rbc at))
+opening_more o m engine rbc at n long least most none one more = elim (cases_eq n m) [
+  | inl same ↦
+      let empty = unopened (opening_at o m) (is_kept o m ∙ none) in
+      rw (same, eq_self m, empty) (this_one o m (record { engine = engine; rbc = rbc; moment = at }) long least most)
+  | inr other ↦
+      rw (ne_eqb m n (λ e. other (sym e)), first_none (opening_at o n)) (another o m (record { engine = engine; rbc = rbc; moment = at }) n least one other)
+]
+
+pub link_passes : (o : Openings) (x : TapLine) (m engine rbc at : ℕ) → x.step ≡ step.Link m engine rbc at → length o.links ≡ 64 → IsInRange x.step
+    → is_some (slice_index_or o.links (m - 1) None) ≡ false → Passes o (with_one o m (record { engine = engine; rbc = rbc; moment = at })) x
+link_passes o x m engine rbc at is long ranged none =
+    let range = rw is at ranged in
+    record {
+      stands = λ opened stands. rw (is, has_none opened o m stands range.0.0 range.0.1 none)
+          (refl, stands_more opened o m (record { engine = engine; rbc = rbc; moment = at }) long range.0.0 range.0.1 stands);
+      openings = λ n one more. rw is (opening_more o m engine rbc at n long range.0.0 range.0.1 none one more);
+    }
+
+pub link_twice : (o : Openings) (x : TapLine) (m engine rbc at : ℕ) → x.step ≡ step.Link m engine rbc at → IsInRange x.step
+    → is_some (slice_index_or o.links (m - 1) None) ≡ true → (opened : List ℕ) → Stands opened o → fault_at opened x.line x.step ≡ Some (TwiceAt x.line m)
+link_twice o x m engine rbc at is ranged one opened stands =
+    let range = rw is at ranged in
+    rw (is, has_one opened o m stands range.0.0 range.0.1 one) refl
+
+pub octets_pass : (o : Openings) (x : TapLine) (m : ℕ) (side : Side) (text : List ℕ) → x.step ≡ step.Octets m side text → IsInRange x.step
+    → is_some (slice_index_or o.links (m - 1) None) ≡ true → Passes o o x
+octets_pass o x m side text is ranged one =
+    let range = rw is at ranged in
+    record {
+      stands = λ opened stands. rw (is, has_one opened o m stands range.0.0 range.0.1 one) (refl, stands);
+      openings = λ n least most. rw is (sym (first_none (opening_at o n)));
+    }
+
+pub no_link : (o : Openings) (x : TapLine) (m : ℕ) (side : Side) (text : List ℕ) → x.step ≡ step.Octets m side text → IsInRange x.step
+    → is_some (slice_index_or o.links (m - 1) None) ≡ false → (opened : List ℕ) → Stands opened o → fault_at opened x.line x.step ≡ Some (NoLinkAt x.line m)
+no_link o x m side text is ranged none opened stands =
+    let range = rw is at ranged in
+    rw (is, has_none opened o m stands range.0.0 range.0.1 none) refl
+
+-- ---- all lines
+
+-- lines passed, and these are left
+pub record Checked (lines left : List TapLine) (o : Openings) : Type 0 where
+  pub opened : List ℕ
+  pub stands : Stands opened o
+  pub faults : fault_from opened left ≡ fault_of lines
+  pub openings : (n : ℕ) → 1 ≤ n → n ≤ 64 → first_opening (opening_at o n) (opening_of n left) ≡ opening_of n lines
+
+pub none_checked : (lines : List TapLine) (o : Openings) → ((n : ℕ) → 1 ≤ n → n ≤ 64 → opening_at o n ≡ None) → Checked lines lines o
+unfolding has
+none_checked lines o none = record {
+  opened = [];
+  stands = λ n least most. rw (none n least most) refl;
+  faults = refl;
+  openings = λ n least most. rw (none n least most) refl;
+}
+
+first_assoc : (a b c : Option TapOpening) → first_opening (first_opening a b) c ≡ first_opening a (first_opening b c)
+first_assoc None b c = refl
+first_assoc (Some o) b c = refl
+
+pub one_checked : (lines rest : List TapLine) (x : TapLine) (old new : Openings) → Checked lines (x ∷ rest) old → Passes old new x → Checked lines rest new
+unfolding fault_from opening_of
+one_checked lines rest x old new was passes =
+    let stood = passes.stands was.opened was.stands in
+    record {
+      opened = opened_by x.step was.opened;
+      stands = stood.1;
+      faults = rw stood.0 at was.faults;
+      openings = λ n least most.
+          ap (λ (a : Option TapOpening). first_opening a (opening_of n rest)) (passes.openings n least most)
+          ∙ first_assoc (opening_at old n) (opens_link n x.step) (opening_of n rest)
+          ∙ was.openings n least most;
+    }
+
+pub one_refused : (lines rest : List TapLine) (x : TapLine) (o : Openings) (fault : TapFault) → Checked lines (x ∷ rest) o
+    → ((opened : List ℕ) → Stands opened o → fault_at opened x.line x.step ≡ Some fault) → fault_of lines ≡ Some fault
+unfolding fault_from
+one_refused lines rest x o fault was refused =
+    let here = refused was.opened was.stands in
+    let all = was.faults in
+    sym (rw here at all)
+
+pub all_checked : (lines : List TapLine) (o : Openings) → Checked lines [] o
+    → (fault_of lines ≡ None) × ((n : ℕ) → 1 ≤ n → n ≤ 64 → opening_at o n ≡ opening_of n lines)
+unfolding fault_from opening_of
+all_checked lines o was = (sym was.faults, λ n least most. sym (first_none (opening_at o n)) ∙ was.openings n least most)
+
+-- what is refused of a line is refused of all
+pub refused_checks : (lines left : List TapLine) (n : ℕ) (x : TapLine) (old new : Openings) (fault : AuditFault) → left ≡ x ∷ drop (n + 1) lines
+    → Checked lines left old → Takes old new x (Err fault) → Checks lines (Err fault)
+refused_checks lines left n x old new (NoLink line m) is was refused =
+    one_refused lines (drop (n + 1) lines) x old (NoLinkAt line m) (subst (λ (l : List TapLine). Checked lines l old) is was) refused
+refused_checks lines left n x old new (LinkTwice line m) is was refused =
+    one_refused lines (drop (n + 1) lines) x old (TwiceAt line m) (subst (λ (l : List TapLine). Checked lines l old) is was) refused
+refused_checks lines left n x old new Sink is was refused = absurd refused
+refused_checks lines left n x old new (NoMemory want) is was refused = absurd refused
+
+pub passed_checked : (lines left : List TapLine) (n : ℕ) (x : TapLine) (old new : Openings) → left ≡ x ∷ drop (n + 1) lines
+    → Checked lines left old → Passes old new x → Checked lines (drop (n + 1) lines) new
+passed_checked lines left n x old new is was passes =
+    one_checked lines (drop (n + 1) lines) x old new (subst (λ (l : List TapLine). Checked lines l old) is was) passes
+
+pub end_checked : (lines : List TapLine) (n : ℕ) (o : Openings) → length lines ≤ n → Checked lines (drop n lines) o
+    → (fault_of lines ≡ None) × ((n : ℕ) → 1 ≤ n → n ≤ 64 → opening_at o n ≡ opening_of n lines)
+end_checked lines n o past was = all_checked lines o (subst (λ (l : List TapLine). Checked lines l o) (drop_all n lines past) was)
+
+-- ---- ranges
+
+behind_in_range : (n : ℕ) (lines : List TapLine) → AreInRange lines → AreInRange (drop n lines)
+behind_in_range zero lines h = h
+behind_in_range (suc n) [] h = tt
+behind_in_range (suc n) (x ∷ lines) h = behind_in_range n lines h.1
+
+first_in_range : (lines : List TapLine) (x : TapLine) (rest : List TapLine) → lines ≡ x ∷ rest → AreInRange lines → IsInRange x.step
+first_in_range lines x rest is h = (subst AreInRange is h).0
+
+-- the line at a place
+pub line_in_range : (n : ℕ) (lines : List TapLine) (x : TapLine) → drop n lines ≡ x ∷ drop (n + 1) lines → AreInRange lines → IsInRange x.step
+line_in_range n lines x is h = first_in_range (drop n lines) x (drop (n + 1) lines) is (behind_in_range n lines h)
+
+allowed_same : (a b : TapOpening) → Some a ≡ Some b → IsAllowed a → IsAllowed b
+allowed_same a b same h = (
+  subst (λ n. n < 16777216) (ap engine_in same) h.0,
+  subst (λ n. n < 16777216) (ap rbc_in same) h.1,
+)
+  where
+    engine_in : Option TapOpening → ℕ
+    engine_in None = 0
+    engine_in (Some o) = o.engine
+
+    rbc_in : Option TapOpening → ℕ
+    rbc_in None = 0
+    rbc_in (Some o) = o.rbc
+
+allowed_if : (same : Bool) (engine rbc at : ℕ) (rest : Option TapOpening) (o : TapOpening) → engine < 16777216 → rbc < 16777216
+    → ((o : TapOpening) → rest ≡ Some o → IsAllowed o)
+    → first_opening (if same then Some (record { engine = engine; rbc = rbc; moment = at }) else None) rest ≡ Some o → IsAllowed o
+allowed_if true engine rbc at rest o e r others is =
+    allowed_same (record { engine = engine; rbc = rbc; moment = at }) o is (e, r)
+allowed_if false engine rbc at rest o e r others is = others o is
+
+opens_allowed : (n : ℕ) (said : TapStep) (rest : Option TapOpening) (o : TapOpening) → IsInRange said
+    → ((o : TapOpening) → rest ≡ Some o → IsAllowed o) → first_opening (opens_link n said) rest ≡ Some o → IsAllowed o
+opens_allowed n (step.Link m engine rbc at) rest o h others is = allowed_if (m == n) engine rbc at rest o h.1.0 h.1.1.0 others is
+opens_allowed n (step.Octets m side text) rest o h others is = others o is
+
+pub opening_allowed : (n : ℕ) (lines : List TapLine) (o : TapOpening) → AreInRange lines → opening_of n lines ≡ Some o → IsAllowed o
+unfolding opening_of
+opening_allowed n [] o h is = absurd cc
+opening_allowed n (x ∷ lines) o h is = opens_allowed n x.step (opening_of n lines) o h.0 (λ p e. opening_allowed n lines p h.1 e) is

@@ -1,0 +1,82 @@
+-- The texts of items, sides and links, one part more.
+use Rattle.std.proofs.Common.{arith, ◌≡◌, ◌≤◌, ◌<◌, ◌+◌, ◌-◌, ℕ, zero, suc, List, [], ◌∷◌, ◌++◌, length, drop, slice_get, Option, Some, None, refl, ◌∙◌, ap}
+use Rattle.std.proofs.lemmas.List.{length-append}
+use Rattle.er_base.specs.declared.side.Side.{Side}
+use Rattle.er_base.specs.LineTexts.{line_end, line_text}
+use Rattle.er_tap.specs.declared.tap_line.TapLine.{TapLine}
+use Rattle.end_model.specs.Steps.{Finds}
+use Rattle.tap_model.specs.Verdicts.{Known, Judged, judged, judged_from}
+use Rattle.tap_model.specs.Lines.{opening_of}
+use Rattle.tap_model.specs.Texts.{item_words, side_text, link_text, links_text}
+use Rattle.link_audit.proofs.Places.{judged_late}
+
+-- ---- a line
+
+end_some : (words : List (List ℕ)) → 0 < length (line_end words)
+unfolding line_end
+end_some [] = omega arith
+end_some (word ∷ words) = omega arith
+
+-- no line is empty
+pub line_some : (word : List ℕ) (words : List (List ℕ)) → 0 < length (line_text (word ∷ words))
+unfolding line_text
+line_some word words = let e = end_some words in let l = length-append word (line_end words) in omega (arith, e, l)
+
+-- ---- a side
+
+same_some : (a b : List ℕ) → Some a ≡ Some b → a ≡ b
+same_some a b e = ap text_in e
+  where
+    text_in : Option (List ℕ) → List ℕ
+    text_in None = []
+    text_in (Some x) = x
+
+-- how the place goes on: it stays at the third
+pub data GoesOn (place : ℕ) : ℕ → Type 0 where
+  More : place < 2 → GoesOn place (place + 1)
+  Stays : 2 ≤ place → GoesOn place place
+
+module _ (n : ℕ) (known : Known) (side : Side) where
+  next_of : (place next : ℕ) (items : List (List ℕ)) → GoesOn place next → judged_from known side (place + 1) items ≡ judged_from known side next items
+  next_of place next items (More few) = refl
+  next_of place next items (Stays late) = judged_late known side (place + 1) place items (omega (arith, late)) late
+
+  pub side_next : (place : ℕ) (items : List (List ℕ)) (item : List ℕ) → slice_get items 0 ≡ Some item
+      → side_text n side (judged_from known side place items)
+      ≡ line_text (item_words n side (judged known side place item)) ++ side_text n side (judged_from known side (place + 1) (drop 1 items))
+  unfolding side_text judged_from
+  side_next place [] item is = absurd cc
+  side_next place (first ∷ items) item is = rw (same_some first item is) refl
+
+  pub side_more : (place next : ℕ) (items : List (List ℕ)) (item : List ℕ) → slice_get items 0 ≡ Some item → GoesOn place next
+      → side_text n side (judged_from known side place items)
+      ≡ line_text (item_words n side (judged known side place item)) ++ side_text n side (judged_from known side next (drop 1 items))
+  side_more place next items item is goes =
+      side_next place items item is
+      ∙ ap (λ (all : List Judged). line_text (item_words n side (judged known side place item)) ++ side_text n side all) (next_of place next (drop 1 items) goes)
+
+  pub side_none : (place : ℕ) (items : List (List ℕ)) → slice_get items 0 ≡ None → side_text n side (judged_from known side place items) ≡ []
+  unfolding side_text judged_from
+  side_none place [] is = refl
+  side_none place (first ∷ items) is = absurd cc
+
+-- by what is known, and by what is heard
+pub side_known : (n : ℕ) (side : Side) (known k : Known) (items heard : List (List ℕ)) → known ≡ k → items ≡ heard
+    → side_text n side (judged_from known side 0 items) ≡ side_text n side (judged_from k side 0 heard)
+side_known n side known k items heard e f = rw (e, f) refl
+
+-- ---- all links
+
+pub links_more : (finds : Finds) (lines : List TapLine) (n : ℕ) → n ≤ 64
+    → links_text finds lines n (65 - n) ≡ link_text finds lines n (opening_of n lines) ++ links_text finds lines (n + 1) (65 - (n + 1))
+unfolding links_text
+links_more finds lines n most =
+    let here : 65 - n ≡ suc (64 - n) = omega (arith, most) in
+    let next : 65 - (n + 1) ≡ 64 - n = omega arith in
+    rw (here, next) refl
+
+pub links_none : (finds : Finds) (lines : List TapLine) (n : ℕ) → 64 < n → links_text finds lines n (65 - n) ≡ []
+unfolding links_text
+links_none finds lines n past =
+    let none : 65 - n ≡ zero = omega (arith, past) in
+    rw none refl

@@ -1,0 +1,40 @@
+-- One item more, one that isn't written, and the end.
+use Rattle.std.proofs.Common.{arith, sym}
+use Rattle.link_audit.proofs.Written.{leads_then, leads_fault, leads_end}
+use Rattle.link_audit.proofs.Printed.{More, Stays, side_next, side_more, side_none}
+use Rattle.link_audit.proofs.run.write_items.Goals as goal
+
+pub loop-item-preserved-then-place-lt2 : goal.loop-item-preserved-then-place-lt2
+loop-item-preserved-then-place-lt2 g c =
+    let item = sym (rw c.in-Some.is at c.first.ensures) in
+    let few = c.if-place-lt2.true in
+    record {
+      leads =
+          rw c.advance.ensures
+          (leads_then _ _ _ _ _ _ _ _ (side_more c.args.link c.args.known.now c.args.side c.loop-item.place _ c.loop-item.items c.in-Some.item.now item (More few))
+          c.loop-item.invariant.leads _ _ c.in-Ok.ensures.later c.in-Ok.ensures.writes);
+      place = omega (arith, few);
+    }
+
+pub loop-item-preserved : goal.loop-item-preserved
+loop-item-preserved g c =
+    let item = sym (rw c.in-Some.is at c.first.ensures) in
+    let late = c.if-place-lt2.false in
+    record {
+      leads =
+          rw c.advance.ensures
+          (leads_then _ _ _ _ _ _ _ _ (side_more c.args.link c.args.known.now c.args.side c.loop-item.place _ c.loop-item.items c.in-Some.item.now item (Stays (omega (arith, late))))
+          c.loop-item.invariant.leads _ _ c.in-Ok.ensures.later c.in-Ok.ensures.writes);
+      place = c.loop-item.invariant.place;
+    }
+
+pub returns-in-Err-clause-writes : goal.returns-in-Err-clause-writes
+returns-in-Err-clause-writes g c =
+    let item = sym (rw c.in-Some.is at c.first.ensures) in
+    leads_fault _ _ _ _ _ _ _ _ (side_next c.args.link c.args.known.now c.args.side c.loop-item.place c.loop-item.items c.in-Some.item.now item)
+    c.loop-item.invariant.leads _ _ c.in-Err.fault c.in-Err.ensures.writes
+
+pub returns-clause-writes : goal.returns-clause-writes
+returns-clause-writes g c =
+    leads_end _ _ _ _ _ _ (side_none c.args.link c.args.known.now c.args.side c.loop-item.place c.loop-item.items (sym (rw c.in_default.is at c.first.ensures)))
+    c.loop-item.invariant.leads

@@ -1,0 +1,27 @@
+-- Representation: the rules of a verdict one by one; no claim rests on it.
+use Rattle.std.specs.Prelude.{◌==◌, Bool, true, Ok, Err}
+use Rattle.sapdu.specs.Spelling.{Pdu, Au1, Au2, Au3, Ar, Dt, Di, Fits}
+use Rattle.tap_model.specs.Verdicts.{Known, Read}
+
+-- whether the safety feature is 1, where an SaPDU has one
+abbrev pub has_feature : Pdu → Bool
+has_feature (Au1 id feature rb) = feature == 1
+has_feature (Au2 id feature ra mac) = feature == 1
+has_feature (Au3 mac) = true
+has_feature (Ar mac) = true
+has_feature (Dt user mac) = true
+has_feature (Di reason sub) = true
+
+-- whether an SaPDU that names its sender names the link's
+abbrev pub has_identity : Known → Pdu → Bool
+has_identity known (Au1 id feature rb) = id == known.engine
+has_identity known (Au2 id feature ra mac) = id == known.rbc
+has_identity known (Au3 mac) = true
+has_identity known (Ar mac) = true
+has_identity known (Dt user mac) = true
+has_identity known (Di reason sub) = true
+
+-- what was read has a spelling
+abbrev pub ReadFits : Read → Type 0
+ReadFits (Ok read) = Fits read.0
+ReadFits (Err fault) = Unit {0}

@@ -1,0 +1,5 @@
+pub mod Turns
+pub mod Streams
+pub mod Openings
+pub mod Judging
+pub mod Writes

@@ -1,0 +1,48 @@
+-- Representation: what is kept of the links that lines open; no claim rests on it.
+use Rattle.std.specs.Prelude.{ℕ, ◌≡◌, ◌-◌, ◌<◌, ◌≤◌, List, Option, Some, None, is_some, Result, Ok, Err, slice_index_or}
+use Rattle.er_tap.specs.declared.tap_line.TapLine.{TapLine}
+use Rattle.tap_model.specs.declared.audit_fault.AuditFault.{AuditFault}
+use Rattle.tap_model.specs.declared.audit_fault.AuditFault.TheVariants.{NoLink, LinkTwice, Sink, NoMemory}
+use Rattle.tap_model.specs.Lines.{TapOpening, NoLinkAt, TwiceAt, has, fault_at, opened_by, fault_of, opens_link, first_opening, opening_of}
+use Rattle.link_audit.specs.declared.opening.Opening.{Opening}
+use Rattle.link_audit.specs.declared.openings.Openings.{Openings}
+
+-- how a link was opened
+abbrev pub shown : Opening → TapOpening
+shown o = record { engine = o.engine; rbc = o.rbc; moment = o.moment }
+
+abbrev pub shown_of : Option Opening → Option TapOpening
+shown_of None = None
+shown_of (Some o) = Some (shown o)
+
+unfoldable pub opening_at : Openings → ℕ → Option TapOpening
+opening_at o n = shown_of (slice_index_or o.links (n - 1) None)
+
+-- its ETCS numbers are in their range
+abbrev pub IsAllowed : TapOpening → Type 0
+IsAllowed o = (o.engine < 16777216) × (o.rbc < 16777216)
+
+-- of each link: whether it is among those that were opened
+abbrev pub Stands : (opened : List ℕ) → Openings → Type 0
+Stands opened o = (n : ℕ) → 1 ≤ n → n ≤ 64 → has n opened ≡ is_some (opening_at o n)
+
+-- a line stands behind those that it needs
+pub record Passes (old new : Openings) (x : TapLine) : Type 0 where
+  pub stands : (opened : List ℕ) → Stands opened old → (fault_at opened x.line x.step ≡ None) × Stands (opened_by x.step opened) new
+  pub openings : (n : ℕ) → 1 ≤ n → n ≤ 64 → opening_at new n ≡ first_opening (opening_at old n) (opens_link n x.step)
+
+-- whether it does
+abbrev pub Takes : Openings → Openings → TapLine → Result (Unit {0}) AuditFault → Type 0
+Takes old new x (Ok done) = Passes old new x
+Takes old new x (Err (NoLink line n)) = (opened : List ℕ) → Stands opened old → fault_at opened x.line x.step ≡ Some (NoLinkAt line n)
+Takes old new x (Err (LinkTwice line n)) = (opened : List ℕ) → Stands opened old → fault_at opened x.line x.step ≡ Some (TwiceAt line n)
+Takes old new x (Err Sink) = ⊥
+Takes old new x (Err (NoMemory want)) = ⊥
+
+-- whether all lines do
+abbrev pub Checks : List TapLine → Result Openings AuditFault → Type 0
+Checks lines (Ok o) = (fault_of lines ≡ None) × ((n : ℕ) → 1 ≤ n → n ≤ 64 → opening_at o n ≡ opening_of n lines)
+Checks lines (Err (NoLink line n)) = fault_of lines ≡ Some (NoLinkAt line n)
+Checks lines (Err (LinkTwice line n)) = fault_of lines ≡ Some (TwiceAt line n)
+Checks lines (Err Sink) = ⊥
+Checks lines (Err (NoMemory want)) = ⊥

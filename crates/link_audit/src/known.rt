@@ -1,0 +1,127 @@
+//! What is known of a link: its ETCS numbers, and its session, where there is one.
+
+ghost use Rattle.std.specs.Prelude.{◌≡◌};
+ghost use Rattle.sapdu.specs.Spelling.{read_of};
+ghost use Rattle.safety_automaton.specs.Keys.{key_at};
+ghost use Rattle.link_audit.specs.Openings.{IsAllowed, shown};
+ghost use Rattle.tap_model.specs.Verdicts.{ra_in, rb_in, number_of, first_number, session_with, known_of};
+
+use crate::items::Items;
+use crate::opening::Opening;
+use cbc_mac::MacKey;
+use safety_automaton::KeyFinder;
+use sapdu::{SaPdu, read};
+use session_keys::derive;
+use std::marker::Model;
+
+/// The random numbers of a session, and the keys that they give.
+#[derive(Drop)]
+pub struct Session {
+    pub(crate) ra: u64,
+    pub(crate) rb: u64,
+    pub(crate) keys: MacKey,
+}
+
+impl Model for Session {
+    ghost use Rattle.tap_model.specs.Verdicts as verdicts;
+
+    ghost Value = { verdicts.Session };
+
+    ghost view = { λ s. record { ra = s.ra; rb = s.rb; keys = s.keys } };
+}
+
+/// What is known of a link.
+#[derive(Drop)]
+pub struct Known {
+    pub(crate) engine: u32,
+    pub(crate) rbc: u32,
+    pub(crate) session: Option<Session>,
+}
+
+impl Model for Known {
+    ghost use Rattle.std.specs.Prelude.{◌<◌};
+    ghost use Rattle.tap_model.specs.Verdicts as verdicts;
+
+    ghost Value = { verdicts.Known };
+
+    ghost view = { λ k. record { engine = k.engine; rbc = k.rbc; session = k.session } };
+
+    ghost invariant = { λ k. (k.engine < 16777216) × (k.rbc < 16777216) };
+}
+
+// Ra of an item that reads as AU2.
+fn ra_of(item: &[u8]) -> Option<u64>
+    ensures { result ≡ number_of ra_in (read_of item.now) }
+{
+    match read(item) {
+        Ok((SaPdu::Au2 { ra, .. }, _)) => Some(ra),
+        _ => None,
+    }
+}
+
+// Rb of an item that reads as AU1.
+fn rb_of(item: &[u8]) -> Option<u64>
+    ensures { result ≡ number_of rb_in (read_of item.now) }
+{
+    match read(item) {
+        Ok((SaPdu::Au1 { rb, .. }, _)) => Some(rb),
+        _ => None,
+    }
+}
+
+// Ra of the first item of the radio block centre's side.
+fn first_ra(items: &Items<'_>) -> Option<u64>
+    ensures { result ≡ first_number ra_in items.now }
+{
+    match items.first() {
+        Some(item) => ra_of(item),
+        None => None,
+    }
+}
+
+// Rb of the first item of the engine's side.
+fn first_rb(items: &Items<'_>) -> Option<u64>
+    ensures { result ≡ first_number rb_in items.now }
+{
+    match items.first() {
+        Some(item) => rb_of(item),
+        None => None,
+    }
+}
+
+// The session of a link, where a KMAC holds at its moment and both random numbers are known.
+fn session_of<K: KeyFinder>(
+    keys: &K,
+    opening: &Opening,
+    ra: Option<u64>,
+    rb: Option<u64>,
+) -> Option<Session>
+    ensures { result ≡ session_with (key_at (K.entries keys.now) opening.now.moment opening.now.engine opening.now.rbc) ra rb }
+{
+    let kmac = keys.find(opening.engine, opening.rbc, opening.moment)?;
+    let ra = ra?;
+    let rb = rb?;
+    Some(Session {
+        ra,
+        rb,
+        keys: MacKey::new(&derive(&kmac, ra, rb)),
+    })
+}
+
+/// What is known of a link that was opened so, by the first items of both sides.
+pub fn known_of<K: KeyFinder>(
+    keys: &K,
+    opening: &Opening,
+    of_e: &Items<'_>,
+    of_r: &Items<'_>,
+) -> Known
+    requires { IsAllowed (shown opening.now) }
+    ensures { result
+        ≡ known_of opening.now.engine opening.now.rbc (key_at (K.entries keys.now) opening.now.moment opening.now.engine opening.now.rbc) of_e.now of_r.now }
+{
+    Known {
+        engine: opening.engine,
+        rbc: opening.rbc,
+        session: session_of(keys, opening, first_ra(of_r), first_rb(of_e)),
+    }
+}

@@ -1,0 +1,20 @@
+//! The audit of tapped links: what each side's safety layer said, and which of it was good.
+//!
+//! Each stream is gone through once, with the deframer, the joiner and the readers that the stack has, and what is kept of it doesn't grow with
+//! it. What is heard of a stream, the verdicts and the text are defined in `tap_model`; nothing here decides more than they do.
+#![tactic(auto)]
+
+mod ear;
+mod items;
+mod judging;
+mod known;
+pub mod laws;
+mod opening;
+mod openings;
+mod printing;
+mod run;
+mod stream;
+mod texts;
+mod turned;
+
+pub use run::audit;

@@ -1,0 +1,82 @@
+//! The line of an item.
+
+ghost use Rattle.std.specs.Prelude.{◌≡◌, ◌++◌, [], ◌∷◌, codes, OnOk};
+ghost use Rattle.std.specs.Fmt.{decimal};
+ghost use Rattle.er_base.specs.Hexadecimal.{hex_of};
+ghost use Rattle.er_base.specs.LineTexts.{line_text};
+ghost use Rattle.er_base.specs.Sides.{side_word};
+ghost use Rattle.sapdu.specs.Reading.{view, viewed};
+ghost use Rattle.tap_model.specs.VerdictWords.{verdict_word};
+ghost use Rattle.tap_model.specs.Texts.{kind_of, item_words};
+
+use er_base::PrintedWord::{Decimal, Hexadecimal, Plain};
+use er_base::{NoMemory, Side, put_line};
+use sapdu::{SaFault, SaPdu};
+use tap_model::AuditVerdict;
+
+// The word of a kind.
+fn kind_word(pdu: &SaPdu<'_>) -> &'static [u8]
+    ensures { result.now ≡ kind_of (view pdu.now) }
+{
+    match pdu {
+        SaPdu::Au1 { .. } => b"au1",
+        SaPdu::Au2 { .. } => b"au2",
+        SaPdu::Au3 { .. } => b"au3",
+        SaPdu::Ar { .. } => b"ar",
+        SaPdu::Dt { .. } => b"dt",
+        SaPdu::Di { .. } => b"di",
+    }
+}
+
+// Appends the line of an item without user octets.
+fn put_short(
+    link: u8,
+    side: Side,
+    kind: &[u8],
+    verdict: AuditVerdict,
+    out: &mut Vec<u8>,
+) -> Result<(), NoMemory>
+    ensures { OnOk result
+        (out.new.items ≡ out.old.items ++ line_text (decimal link ∷ side_word side ∷ kind.now ∷ verdict_word verdict ∷ [])) }
+{
+    let words = [Plain(side.word()), Plain(kind), Plain(verdict.word())];
+    put_line(&Decimal(link as u64), &words, out)
+}
+
+// Appends the line of a DT.
+fn put_data(
+    link: u8,
+    side: Side,
+    verdict: AuditVerdict,
+    user: &[u8],
+    out: &mut Vec<u8>,
+) -> Result<(), NoMemory>
+    ensures { OnOk result
+        (out.new.items ≡ out.old.items ++ line_text (decimal link ∷ side_word side ∷ codes "dt" ∷ verdict_word verdict ∷ hex_of user.now ∷ [])) }
+{
+    let words = [
+        Plain(side.word()),
+        Plain(b"dt"),
+        Plain(verdict.word()),
+        Hexadecimal(user),
+    ];
+    put_line(&Decimal(link as u64), &words, out)
+}
+
+/// Appends the line of an item.
+pub fn put_item(
+    link: u8,
+    side: Side,
+    read: &Result<(SaPdu<'_>, bool), SaFault>,
+    verdict: AuditVerdict,
+    out: &mut Vec<u8>,
+) -> Result<(), NoMemory>
+    ensures { OnOk result
+        (out.new.items ≡ out.old.items ++ line_text (item_words link side (record { read = viewed read.now; verdict = verdict }))) }
+{
+    match read {
+        Err(_) => put_short(link, side, b"-", verdict, out),
+        Ok((SaPdu::Dt { user, .. }, _)) => put_data(link, side, verdict, user, out),
+        Ok((pdu, _)) => put_short(link, side, kind_word(pdu), verdict, out),
+    }
+}

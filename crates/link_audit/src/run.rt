@@ -1,0 +1,172 @@
+//! The audit of all links.
+
+ghost use Rattle.std.specs.Prelude.{ℕ, ◌≡◌, ◌≤◌, Some};
+ghost use Rattle.er_base.specs.LineTexts.{line_text};
+ghost use Rattle.er_tap.specs.Ranges.{AreInRange, CanBeRead};
+ghost use Rattle.safety_automaton.specs.Keys.{key_at};
+ghost use Rattle.tap_model.specs.Verdicts.{judged, judged_from};
+ghost use Rattle.tap_model.specs.Lines.{opening_of};
+ghost use Rattle.tap_model.specs.Texts.{item_words, side_text, link_text, audit_text};
+ghost use Rattle.tap_model.specs.Audits.{Audits};
+ghost use Rattle.link_audit.specs.Openings.{IsAllowed, shown, opening_at};
+ghost use Rattle.link_audit.specs.Writes.{Writes};
+
+use crate::items::Items;
+use crate::judging::judge;
+use crate::known::{Known, known_of};
+use crate::opening::Opening;
+use crate::openings::{Openings, openings_in};
+use crate::printing::put_item;
+use er_base::Side;
+use er_tap::{Tap, TapLine};
+use link_trait::Sink;
+use safety_automaton::KeyFinder;
+use sapdu::read;
+use std::alloc::Global;
+use tap_model::AuditFault;
+
+/// The most links.
+const MOST_LINKS: u8 = 64;
+
+// Writes the line of an item.
+fn write_item<S: Sink>(
+    known: &Known,
+    link: u8,
+    side: Side,
+    place: u8,
+    item: &[u8],
+    line: &mut Vec<u8>,
+    sink: &mut S,
+) -> Result<(), AuditFault>
+    ensures writes { Writes (S.state sink.old).held (S.state sink.new).held (S.state sink.old).faults (S.state sink.new).faults
+        (line_text (item_words link side (judged known.now side place item.now))) result }
+    ensures later { (S.state sink.old).faults ≤ (S.state sink.new).faults }
+{
+    let read = read(item);
+    let verdict = judge(known, side, place, &read);
+    line.clear();
+    put_item(link, side, &read, verdict, line)?;
+    match sink.write(line.as_slice()) {
+        Ok(()) => Ok(()),
+        Err(_failed) => Err(AuditFault::Sink),
+    }
+}
+
+// Writes the lines of a side.
+fn write_items<S: Sink>(
+    known: &Known,
+    link: u8,
+    side: Side,
+    items: &mut Items<'_>,
+    line: &mut Vec<u8>,
+    sink: &mut S,
+) -> Result<(), AuditFault>
+    ensures writes { Writes (S.state sink.old).held (S.state sink.new).held (S.state sink.old).faults (S.state sink.new).faults
+        (side_text link side (judged_from known.now side 0 items.old)) result }
+    ensures later { (S.state sink.old).faults ≤ (S.state sink.new).faults }
+{
+    let mut place = 0;
+    while let Some(item) = items.first() {
+        match write_item(known, link, side, place, item, line, sink) {
+            Ok(()) => {}
+            Err(fault) => return Err(fault),
+        }
+        items.advance();
+        if place < 2 {
+            place += 1;
+        }
+    }
+    Ok(())
+}
+
+// Writes the lines of a link, those of the engine's side first.
+fn audit_link<K: KeyFinder, S: Sink>(
+    keys: &K,
+    lines: &[TapLine],
+    link: u8,
+    opening: &Opening,
+    line: &mut Vec<u8>,
+    sink: &mut S,
+) -> Result<(), AuditFault>
+    requires { IsAllowed (shown opening.now) }
+    ensures writes { Writes (S.state sink.old).held (S.state sink.new).held (S.state sink.old).faults (S.state sink.new).faults
+        (link_text (key_at (K.entries keys.now)) lines.now link (Some (shown opening.now))) result }
+    ensures later { (S.state sink.old).faults ≤ (S.state sink.new).faults }
+{
+    let mut of_e = Items::new(lines, link, Side::E);
+    let mut of_r = Items::new(lines, link, Side::R);
+    let known = known_of(keys, opening, &of_e, &of_r);
+    match write_items(&known, link, Side::E, &mut of_e, line, sink) {
+        Ok(()) => write_items(&known, link, Side::R, &mut of_r, line, sink),
+        Err(fault) => Err(fault),
+    }
+}
+
+// Writes the lines of a link, where it was opened.
+fn audit_number<K: KeyFinder, S: Sink>(
+    keys: &K,
+    lines: &[TapLine],
+    openings: &Openings,
+    link: u8,
+    line: &mut Vec<u8>,
+    sink: &mut S,
+) -> Result<(), AuditFault>
+    requires least { 1 ≤ link }
+    requires most { link ≤ 64 }
+    requires range { AreInRange lines.now }
+    requires openings { opening_at openings.now link ≡ opening_of link lines.now }
+    ensures writes { Writes (S.state sink.old).held (S.state sink.new).held (S.state sink.old).faults (S.state sink.new).faults
+        (link_text (key_at (K.entries keys.now)) lines.now link (opening_of link lines.now)) result }
+    ensures later { (S.state sink.old).faults ≤ (S.state sink.new).faults }
+{
+    match openings.of(link) {
+        Some(opening) => audit_link(keys, lines, link, &opening, line, sink),
+        None => Ok(()),
+    }
+}
+
+// Writes the lines of all links that were opened.
+fn audit_links<K: KeyFinder, S: Sink>(
+    keys: &K,
+    lines: &[TapLine],
+    openings: &Openings,
+    line: &mut Vec<u8>,
+    sink: &mut S,
+) -> Result<(), AuditFault>
+    requires range { AreInRange lines.now }
+    requires openings { (n : ℕ) → 1 ≤ n → n ≤ 64 → opening_at openings.now n ≡ opening_of n lines.now }
+    ensures writes { Writes (S.state sink.old).held (S.state sink.new).held (S.state sink.old).faults (S.state sink.new).faults
+        (audit_text (key_at (K.entries keys.now)) lines.now) result }
+    ensures later { (S.state sink.old).faults ≤ (S.state sink.new).faults }
+{
+    let mut link = 1;
+    while link <= MOST_LINKS {
+        match audit_number(keys, lines, openings, link, line, sink) {
+            Ok(()) => link += 1,
+            Err(fault) => return Err(fault),
+        }
+    }
+    Ok(())
+}
+
+/// Prints the verdict on each item that is heard of the tapped links: links rising, the engine's side first, a line for each item, one write for
+/// each line.
+///
+/// KMACs are looked up among the keys, each at the moment of its link. The first line that names a link which no line before it opened, or
+/// opens one twice, is refused before anything is written.
+pub fn audit<K: KeyFinder, S: Sink>(
+    alloc: Global,
+    keys: &K,
+    tap: &Tap,
+    sink: &mut S,
+) -> Result<(), AuditFault>
+    requires { CanBeRead tap.now }
+    ensures audits { Audits (key_at (K.entries keys.now)) tap.now.lines (S.state sink.old).held (S.state sink.new).held (S.state sink.old).faults (S.state sink.new).faults result }
+    ensures later { (S.state sink.old).faults ≤ (S.state sink.new).faults }
+{
+    let lines = tap.lines.as_slice();
+    match openings_in(lines) {
+        Ok(openings) => audit_links(keys, lines, &openings, &mut Vec::new(alloc), sink),
+        Err(fault) => Err(fault),
+    }
+}

@@ -1,0 +1,10 @@
+pub mod Noting
+pub mod Sorting
+pub mod Stations
+pub mod Verdicts
+pub mod Following
+pub mod Going
+pub mod Events
+pub mod Runs
+pub mod Resting
+pub mod Hearing

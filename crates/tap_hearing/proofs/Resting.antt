@@ -1,0 +1,83 @@
+-- An end that is released: no event gives its safety side octets, or its station a payload.
+use Rattle.std.proofs.Common.{◌≡◌, ◌∙◌, ℕ, ◌-◌, List, [], ◌∷◌, ◌++◌, length, Option, Some, None, refl, ap}
+use Rattle.std.specs.Prelude.{◌==◌, is_some, if◌then◌else◌}
+use Rattle.er_base.specs.declared.release.Release.{Release}
+use Rattle.er_base.specs.declared.cause.Cause.{Cause}
+use Rattle.er_base.specs.declared.cause.Cause.TheVariants.{LineEnded, LineFailed, LineStalled}
+use Rattle.hdlc_frames.specs.Framing.{Verdict}
+use Rattle.station_model.specs.Events.{news}
+use Rattle.end_model.specs.Outcomes.{SendRefusal, RefusedReleased}
+use Rattle.end_model.specs.Steps.{Finds, begins, begins_at, concludes, comes, starts, refusal_of, refusal_at, is_connected, sends_unless, uses, leaves, ticks, breaks}
+use Rattle.end_model.specs.Layers.{Core, model}
+use Rattle.end_model.specs.Ends.{Event, Start, Come, Send, Take, Leave, Tick, Ended, Fault, Stalled, End, Moment, hears_each, step, run}
+use Rattle.tap_model.specs.Given.{received_by, received_of_each, received_unless, received_at, received}
+use Rattle.tap_hearing.proofs.Noting.{Noted, noted, noted_if, concludes_noted}
+use Rattle.tap_hearing.proofs.Runs.{Rests}
+
+noted_where : (r : Option Release) (why : Release) (x y : Core) → r ≡ Some why → noted (if is_some r then x else y) ≡ noted x
+noted_where None why x y e = absurd cc
+noted_where (Some other) why x y e = refl
+
+then_rests : (n : Noted) (g : List (List ℕ)) (m : Noted) (h : List (List ℕ)) (p : Noted) → Rests n g m → Rests m h p → Rests n (g ++ h) p
+then_rests n g m h p a b = record {
+  released = b.released ∙ a.released;
+  none = ap (λ (z : List (List ℕ)). z ++ h) a.none ∙ b.none;
+  taken = b.taken ∙ a.taken;
+}
+
+module _ (x : Core) (why : Release) (is : x.released ≡ Some why) (now : ℕ) where
+  abbrev b : Core
+  b = begins_at model now x
+
+  still : (y : Core) → noted y ≡ noted b → Rests (noted x) (received_by y) (noted y)
+  still y e = record { released = ap (λ (n : Noted). n.released) e; none = ap (λ (n : Noted). n.received) e; taken = ap (λ (n : Noted). n.line.taken) e }
+
+  comes_rest : (finds : Finds) (v : Verdict) → Rests (noted x) (received_by (comes model finds now v x)) (noted (comes model finds now v x))
+  comes_rest finds v = still (comes model finds now v x) (noted_where x.released why b _ is)
+
+  refused : (r : Option SendRefusal) (refusal : SendRefusal) (user : List ℕ) → r ≡ Some refusal
+      → Rests (noted x) (received_unless r (sends_unless model r now user x)) (noted (sends_unless model r now user x))
+  refused None refusal user e = absurd cc
+  refused (Some other) refusal user e = record { released = refl; none = refl; taken = refl }
+
+  used_rests : Rests (noted x) (received_by (uses model now x)) (noted (uses model now x))
+  used_rests =
+      let z : Core = record b { upper = model.uses b.upper } in
+      still (uses model now x) (noted_if (length x.upper.accepted - x.upper.used == 0) b (concludes model z) (noted b) refl (concludes_noted z))
+
+  breaks_rest : (cause : Cause) → Rests (noted x) (received_by (breaks model cause x)) (noted (breaks model cause x))
+  breaks_rest cause = still (breaks model cause x) (noted_where x.released why (begins model x) _ is)
+
+pub each_rests : (finds : Finds) (now : ℕ) (vs : List Verdict) (x : Core) (why : Release) → x.released ≡ Some why
+    → Rests (noted x) (received_of_each finds now vs x) (noted (hears_each finds now vs x))
+each_rests finds now [] x why is = record { released = refl; none = refl; taken = refl }
+each_rests finds now (v ∷ vs) x why is =
+    let y : Core = comes model finds now v x in
+    let a : Rests (noted x) (received_by y) (noted y) = comes_rest x why is now finds v in
+    then_rests (noted x) (received_by y) (noted y) (received_of_each finds now vs y) (noted (hears_each finds now vs y)) a (each_rests finds now vs y why (a.released ∙ is))
+
+pub event_rests : (now : ℕ) (event : Event) (m : End) (why : Release) → m.core.released ≡ Some why
+    → Rests (noted m.core) (received_at now event m) (noted (step now event m).0.core)
+event_rests now Start m why is = still m.core why is now (starts model now m.core) (noted_where m.core.released why (begins_at model now m.core) _ is)
+event_rests now (Come finds octets) m why is =
+    let b : Core = begins_at model now m.core in
+    let a : Rests (noted m.core) [] (noted b) = record { released = refl; none = refl; taken = refl } in
+    let vs : List Verdict = news m.stream octets in
+    then_rests (noted m.core) [] (noted b) (received_of_each finds now vs b) (noted (hears_each finds now vs b)) a (each_rests finds now vs b why is)
+event_rests now (Send user) m why is =
+    let x : Core = m.core in
+    refused x why is now (refusal_of model user x) (RefusedReleased why) user
+    (ap (λ (r : Option Release). refusal_at r (is_connected x.safe.safety.phase) user (model.waiting x.upper)) is)
+event_rests now Take m why is = used_rests m.core why is now
+event_rests now (Leave sub) m why is = still m.core why is now (leaves model now sub m.core) (noted_where m.core.released why (begins_at model now m.core) _ is)
+event_rests now Tick m why is = still m.core why is now (ticks model now m.core) (noted_where m.core.released why (begins_at model now m.core) _ is)
+event_rests now Ended m why is = breaks_rest m.core why is now LineEnded
+event_rests now Fault m why is = breaks_rest m.core why is now LineFailed
+event_rests now Stalled m why is = breaks_rest m.core why is now LineStalled
+
+pub run_rests : (events : List Moment) (m : End) (why : Release) → m.core.released ≡ Some why → Rests (noted m.core) (received events m) (noted (run events m).core)
+run_rests [] m why is = record { released = refl; none = refl; taken = refl }
+run_rests (e ∷ events) m why is =
+    let n : End = (step e.now e.event m).0 in
+    let a : Rests (noted m.core) (received_at e.now e.event m) (noted n.core) = event_rests e.now e.event m why is in
+    then_rests (noted m.core) (received_at e.now e.event m) (noted n.core) (received events n) (noted (run events n).core) a (run_rests events n why (a.released ∙ is))

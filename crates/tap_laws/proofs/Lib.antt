@@ -1,0 +1,9 @@
+pub mod Stages
+pub mod Growing
+pub mod Progressing
+pub mod Running
+pub mod Judging
+pub mod Living
+pub mod Finding
+pub mod Agreeing
+pub mod Pairs

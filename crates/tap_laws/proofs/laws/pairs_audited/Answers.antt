@@ -1,0 +1,14 @@
+use Rattle.tap_laws.proofs.Pairs.{pairs_audited}
+use Rattle.tap_laws.proofs.laws.pairs_audited.Goals as goal
+
+pub returns : goal.returns
+returns c =
+    pairs_audited (record {
+      wrapped = c.wrapping.ensures;
+      prefix = c.prefix.ensures;
+      heard_is = c.given_is_heard.ensures;
+      streams = c.octets_are_heard.ensures.stream;
+      sides = c.sides_progress.ensures.progress;
+      live = c.sides_progress.ensures.live;
+      runs = c.ends_are_runs.ensures;
+    })

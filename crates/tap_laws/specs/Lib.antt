@@ -1,0 +1,4 @@
+pub mod Progress
+pub mod Runs
+pub mod Greetings
+pub mod Pairs

@@ -1,0 +1,9 @@
+pub mod Hearing
+pub mod Given
+pub mod VerdictWords
+pub mod Verdicts
+pub mod Lines
+pub mod Texts
+pub mod Audits
+pub mod Ears
+pub mod KnownAnswers
