@@ -42,14 +42,15 @@ judge() {
 for row in tests/rows/*/; do
   work=$(mktemp -d)
   cp -r "$row". "$work"
-  case $row in */example-*) cp examples/* "$work" ;; esac
+  case $row in */example-*) find examples -maxdepth 1 -type f -exec cp {} "$work" \; ;; esac
   mapfile -t words < "$row/args"
   judge "row $(basename "$row")" "$work" "${words[@]}"
   rm -rf "$work"
 done
 
-# Each file of examples/ has a row of its own.
+# Each file of examples/ has a row of its own; the folders have programs, which other scripts try.
 for example in examples/*; do
+  [ -f "$example" ] || continue
   name=$(basename "$example")
   if ! grep -qx "$name" "tests/rows/example-${name%.*}/args" 2> /dev/null; then
     failed=$((failed + 1))

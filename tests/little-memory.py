@@ -1,0 +1,87 @@
+"""One growth of memory after the other is refused to a `serve` that serves trains: each time it must end with want of memory, and what it printed must
+be a beginning of a recording. A growth by more than is needed may be refused without harm, since the needed one is asked for then."""
+
+import os
+import socket
+import subprocess
+import sys
+import time
+
+program, shim, work, which = sys.argv[1:]
+KEYS = """version = 1
+
+[[key]]
+engine = 5
+rbc = 9
+kmac = "0123456789abcdef23456789abcdef01456789abcdef0123"
+"""
+LAST = b"! memory\n"
+SAMPLE = [1, 2, 3, 5, 8, 13, 21, 34, 55, 89, 144, 233, 377, 610]
+keys = os.path.join(work, "keys")
+mark = os.path.join(work, "refused")
+trace = os.path.join(work, "trace")
+with open(keys, "w") as f:
+    f.write(KEYS)
+
+
+def free_port():
+    with socket.socket() as s:
+        s.bind(("127.0.0.1", 0))
+        return s.getsockname()[1]
+
+
+def is_listening(port):
+    try:
+        socket.create_connection(("127.0.0.1", port), timeout=1).close()
+    except OSError:
+        return False
+    return True
+
+
+def served(number):
+    """How a server to which this growth is refused ended, what it printed, and whether the growth came at all."""
+    if os.path.exists(mark):
+        os.remove(mark)
+    port = free_port()
+    address = f"127.0.0.1:{port}"
+    environment = dict(os.environ, LD_PRELOAD=shim, REFUSE=str(number), REFUSED=mark)
+    server = subprocess.Popen([program, "serve", keys, address, "9", "60"], stdout=subprocess.PIPE, env=environment)
+    for _ in range(200):
+        if server.poll() is not None or is_listening(port):
+            break
+        time.sleep(0.01)
+    trains = 0
+    while server.poll() is None and trains < 40:
+        subprocess.run([program, "call", keys, address, "5", "9", "200"], stdout=subprocess.DEVNULL, timeout=60)
+        trains += 1
+    text, _ = server.communicate(timeout=60)
+    return server.returncode, text, os.path.exists(mark)
+
+
+def is_beginning(text):
+    """Whether a text is a beginning of what a replay of it prints."""
+    if text == b"":
+        return True
+    with open(trace, "wb") as f:
+        f.write(text)
+    replay = subprocess.run([program, "replay", keys, trace], capture_output=True, timeout=60)
+    return replay.returncode == 0 and replay.stdout.startswith(text)
+
+
+refused = borne = failed = 0
+for number in SAMPLE if which == "sample" else range(1, 100_000):
+    status, text, came = served(number)
+    if not came:
+        if status != 0 or not is_beginning(text):
+            failed += 1
+            print(f"failed: nothing was refused, and yet status {status}, {text[-200:]}")
+        break
+    refused += 1
+    if status == 0 and is_beginning(text):
+        borne += 1
+        continue
+    if status != 7 or not text.endswith(LAST) or not is_beginning(text[: -len(LAST)]):
+        failed += 1
+        print(f"failed: growth {number} refused: status {status}, {text[-200:]}")
+print(f"{refused} growths refused, {borne} borne, {failed} failed")
+sys.exit(1 if failed or refused == borne else 0)
