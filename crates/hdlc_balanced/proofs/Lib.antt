@@ -1,3 +1,2 @@
-pub mod Sends
-pub mod Follow
+pub mod Takes
 pub mod Alikes

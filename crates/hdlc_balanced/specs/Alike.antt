@@ -7,6 +7,7 @@ use Rattle.station_model.specs.Frames.{modulo}
 use Rattle.station_model.specs.Stations.{Station, Deed, no_deed}
 use Rattle.station_model.specs.Calls.{starts, receives, hands, finishes, ticks, closes}
 use Rattle.hdlc_balanced.specs.Kept.{Kept, kept_of, texts}
+pub use Rattle.station_core.specs.Kept.{Ranged}
 
 -- a number of payloads taken that shows V(R)
 abbrev pub taken_number : Kept → ℕ
@@ -62,13 +63,6 @@ pub record StepsAlike : Type 0 where
 -- what is kept between two calls is kept of the station that `model_of` makes, and as it is kept of any other
 abbrev pub KeptIsModelled : Type 0
 KeptIsModelled = (s : Station) → Sound s → s.said ≡ [] → s.deed ≡ no_deed → Alike (model_of (kept_of s)) s
-
--- the ranges of what is kept
-pub record Ranged (k : Kept) : Type 0 where
-  pub small_acked : k.acked < modulo k.extended
-  pub small_got : k.got < modulo k.extended
-  pub none_got : k.begun ≡ false → k.got ≡ 0
-  pub all_sent : k.ahead ≤ length k.ring
 
 -- a call did this to the station that `model_of` makes, and told this
 pub record Does (new : Kept) (out out' : Stored) (told : Deed) (t : Station) : Type 0 where

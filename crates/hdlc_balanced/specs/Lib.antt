@@ -1,4 +1,3 @@
-pub mod Rings
 pub mod Kept
 pub mod Told
 pub mod Alike

@@ -1,22 +1,9 @@
 -- Contract: how a clause speaks of what a call of the code tells: as the deed of the model.
-use Rattle.std.specs.Prelude.{ℕ, true, false, List, Option, Some, None, option_map}
-use Rattle.er_base.specs.declared.release.Release.{Release}
-use Rattle.station_model.specs.Stations.{Deed, no_deed}
+use Rattle.std.specs.Prelude.{option_map}
+use Rattle.station_model.specs.Stations.{Deed}
 use Rattle.hdlc_balanced.specs.declared.deeds.LinkDeed.{LinkDeed}
-use Rattle.hdlc_balanced.specs.declared.deeds.Told.{Told}
-use Rattle.hdlc_balanced.specs.declared.deeds.Told.TheVariants.{Nothing, CameUp, Took, Released}
+pub use Rattle.station_core.specs.Told.{told_as, released_as}
 
 -- a deed, whatever lends its payload
 abbrev pub deed_of : LinkDeed → Deed
 deed_of d = record { up = d.up; payload = option_map (λ p. p.now) d.payload; released = d.released }
-
--- what a rule tells of a frame with this information
-abbrev pub told_as : List ℕ → Told → Deed
-told_as information Nothing = no_deed
-told_as information CameUp = record { up = true; payload = None; released = None }
-told_as information Took = record { up = false; payload = Some information; released = None }
-told_as information (Released release) = record { up = false; payload = None; released = Some release }
-
--- what a call tells that can tell a release alone
-abbrev pub released_as : Option Release → Deed
-released_as release = record { up = false; payload = None; released = release }

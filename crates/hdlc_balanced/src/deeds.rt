@@ -4,6 +4,7 @@ ghost use Rattle.std.specs.Prelude.{◌≡◌};
 ghost use Rattle.station_model.specs.Stations.{no_deed};
 
 use er_base::Release;
+use station_core::Told;
 
 /// What a frame that came brought.
 #[derive(Clone, Copy, Debug, PartialEq, Eq)]
@@ -14,22 +15,6 @@ pub struct LinkDeed<'f> {
     pub payload: Option<&'f [u8]>,
     /// Why the station was released, where it was.
     pub released: Option<Release>,
-}
-
-/// A payload that wasn't handed down, since 16 wait.
-#[derive(Clone, Copy, Debug, PartialEq, Eq)]
-pub struct Full {
-    /// The number of payloads that wait to be sent for the first time: 16.
-    pub waiting: usize,
-}
-
-/// What a rule told.
-#[derive(Clone, Copy, Debug, PartialEq, Eq)]
-pub(crate) enum Told {
-    Nothing,
-    CameUp,
-    Took,
-    Released { release: Release },
 }
 
 impl<'f> LinkDeed<'f> {

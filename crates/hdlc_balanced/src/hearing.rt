@@ -1,4 +1,4 @@
-//! What a station does at a frame that comes.
+//! What a station with go-back does at a frame that comes.
 
 ghost use Rattle.std.specs.Prelude.{◌≡◌, ◌+◌, ◌-◌, ◌*◌, ◌%◌, ◌<◌, ◌≤◌, ℕ, List, length, option_map, IfSome, Some, None, true, false};
 ghost use Rattle.er_base.specs.Stored.{Stored, HasRoom};
@@ -8,79 +8,15 @@ ghost use Rattle.hdlc_frames.specs.Shown.{shown};
 ghost use Rattle.station_model.specs.Frames.{modulo};
 ghost use Rattle.station_model.specs.Stations.{no_deed, one_more};
 ghost use Rattle.station_model.specs.Sending.{releases, refuses_frame};
-ghost use Rattle.station_model.specs.Receiving.{
-  strays,
-  is_known_address,
-  is_addressed,
-  is_some_octets,
-  is_error,
-  errs,
-  named,
-  acknowledges,
-  by_number,
-  accepts,
-  rejects,
-  takes,
-  marks_busy,
-  repeats_rejected,
-  comes_up,
-  agrees,
-  sets_up_again,
-  row_idle,
-  row_setting,
-  row_up,
-  row,
-  hears_control,
-  hears_frame,
-  hears,
-};
+ghost use Rattle.station_model.specs.Receiving.{is_addressed, is_error, named, by_number, rejects, takes, marks_busy, repeats_rejected, sets_up_again, row_up, row, hears_control, hears_frame, hears};
+ghost use Rattle.hdlc_balanced.specs.Kept.{Follows, Tells, Within};
+ghost use Rattle.hdlc_balanced.specs.Told.{deed_of, told_as};
 
-use crate::deeds::{LinkDeed, Told};
-use crate::sending::{address_of, modulo_of};
-use crate::station::Station;
-use er_base::{Cause, Release, Room};
-use hdlc_frames::{Control, Found, control, control_extended};
+use crate::deeds::LinkDeed;
+use er_base::Room;
+use hdlc_frames::{Control, Found};
+use station_core::{StationCore, Told, has_octets, is_addressed, is_known};
 use station_model::Phase;
-
-// A count grows by one and stays at its greatest value.
-fn one_more(count: u64) -> u64
-    ensures { result ≡ one_more count }
-{
-    if count < u64::MAX { count + 1 } else { count }
-}
-
-// Whether an address is that of a station.
-fn is_known(address: u8) -> bool
-    ensures { result ≡ is_known_address address }
-{
-    address == address_of(true) || address == address_of(false)
-}
-
-// Whether a control stands under an address that it may bear.
-fn is_addressed(calling: bool, address: u8, control: Control) -> bool
-    ensures { result ≡ is_addressed calling address control }
-{
-    match control {
-        Control::Info { .. } => address == address_of(calling),
-        Control::Rr { .. } => true,
-        Control::Rnr { .. } => true,
-        Control::Rej { .. } => true,
-        Control::Srej { .. } => true,
-        Control::Sabm { .. } => address == address_of(calling),
-        Control::Sabme { .. } => address == address_of(calling),
-        Control::Disc { .. } => address == address_of(calling),
-        Control::Ua => address == address_of(!calling),
-        Control::Dm => address == address_of(!calling),
-        Control::Frmr => address == address_of(!calling),
-    }
-}
-
-// Whether information has an octet.
-fn has_octets(information: &[u8]) -> bool
-    ensures { result ≡ is_some_octets information.now }
-{
-    information.len() > 0
-}
 
 // Whether a frame is an error at any phase.
 fn is_error(calling: bool, control: Control, information: &[u8]) -> bool
@@ -101,466 +37,200 @@ fn is_error(calling: bool, control: Control, information: &[u8]) -> bool
     }
 }
 
-// How far a number is above another one, modulo the modulo.
-fn above(extended: bool, from: u8, to: u8) -> u8
-    requires from { from < modulo extended }
-    requires to { to < modulo extended }
-    ensures sum { (from + result) % modulo extended ≡ to }
-    ensures small { result < modulo extended }
+// The frame isn't the next one.
+fn reject(station: &mut StationCore, out: &mut Room)
+    requires { HasRoom out.old 2064 }
+    ensures follows { Follows station.old out.old station.new out.new rejects }
+    ensures within { Within station.old out.old station.new out.new 1 }
+    ensures ahead { station.new.ahead ≡ station.old.ahead }
 {
-    if from <= to {
-        to - from
+    if station.has_gap() {
+        station.say_ready(out);
     } else {
-        modulo_of(extended) - from + to
+        station.mark_gap(true);
+        station.say_reject(out);
     }
 }
 
-impl Station {
-    ghost use Rattle.hdlc_balanced.specs.Kept.{Kept, kept_of, Follows, Tells, Shown, Within};
-    ghost use Rattle.hdlc_balanced.specs.Told.{deed_of, told_as};
-    ghost use Rattle.station_model.specs.Stations.{Station as StationModel};
-
-    // A frame is counted and ignored.
-    fn count_stray(&mut self)
-        ensures follows { (out : Stored) → Follows self.old out self.new out strays }
-        ensures same { self.new ≡ record self.old { counts = self.new.counts } }
-    {
-        self.counts.stray = one_more(self.counts.stray);
+fn take(station: &mut StationCore, ns: u8, out: &mut Room) -> Told
+    requires { HasRoom out.old 2064 }
+    ensures tells { (payload : List ℕ) → Tells station.old out.old station.new out.new (told_as payload result) (takes ns payload) }
+    ensures within { Within station.old out.old station.new out.new 1 }
+    ensures ahead { station.new.ahead ≡ station.old.ahead }
+{
+    if station.got() == ns {
+        station.accept();
+        return Told::Took;
     }
+    reject(station, out);
+    Told::Nothing
+}
 
-    // The station is Down for this cause.
-    pub(crate) fn let_go(&mut self, cause: Cause) -> Release
-        ensures tells { (out : Stored) → Tells self.old out self.new out (record { up = false; payload = None; released = Some result }) (releases cause) }
-        ensures ahead { self.new.ahead ≡ self.old.ahead }
-        ensures window { self.new.window ≡ self.old.window }
-    {
-        self.phase = Phase::Down;
-        self.timer = None;
-        cause.release()
+// ---- the rows of a station that is up
+
+fn hear_info(station: &mut StationCore, ns: u8, nr: u8, out: &mut Room) -> Told
+    requires below { nr < modulo station.old.extended }
+    requires room { HasRoom out.old 2064 }
+    ensures tells { (payload : List ℕ) → Tells station.old out.old station.new out.new (told_as payload result) (by_number nr (takes ns payload)) }
+    ensures within { Within station.old out.old station.new out.new 1 }
+{
+    let Some(up) = station.named(nr) else {
+        return station.refuse(out);
+    };
+    station.acknowledge(up);
+    take(station, ns, out)
+}
+
+// Frames are sent again at a REJ.
+fn repeat_rejected(station: &mut StationCore, out: &mut Room)
+    requires { HasRoom out.old (station.old.ahead * 2064) }
+    ensures follows { Follows station.old out.old station.new out.new repeats_rejected }
+    ensures within { Within station.old out.old station.new out.new station.old.ahead }
+    ensures ahead { station.new.ahead ≡ station.old.ahead }
+{
+    if station.ahead() > 0 {
+        station.send_again(out);
+        station.start_timer();
     }
+}
 
-    // A frame that the station may not accept: it answers DM.
-    fn refuse(&mut self, out: &mut Room) -> Told
-        requires { HasRoom out.old 2064 }
-        ensures tells { (information : List ℕ) → Tells self.old out.old self.new out.new (told_as information result) refuses_frame }
-        ensures within { Within self.old out.old self.new out.new 1 }
-    {
-        self.say_disconnected(out);
-        let release = self.let_go(Cause::FrameError);
-        Told::Released { release }
+fn hear_reject(station: &mut StationCore, nr: u8, out: &mut Room) -> Told
+    requires below { nr < modulo station.old.extended }
+    requires room { HasRoom out.old ((station.old.window + 1) * 2064) }
+    ensures tells { (information : List ℕ) → Tells station.old out.old station.new out.new (told_as information result) (by_number nr (λ t. repeats_rejected (marks_busy false t))) }
+    ensures within { Within station.old out.old station.new out.new (station.new.ahead + 1) }
+{
+    let Some(up) = station.named(nr) else {
+        return station.refuse(out);
+    };
+    station.acknowledge(up);
+    station.mark_busy(false);
+    station.bounds();
+    repeat_rejected(station, out);
+    Told::Nothing
+}
+
+// The set-up frame at a station that is up.
+fn set_up_again(station: &mut StationCore, poll: bool, out: &mut Room) -> Told
+    requires { HasRoom out.old 2064 }
+    ensures tells { (information : List ℕ) → Tells station.old out.old station.new out.new (told_as information result) (sets_up_again poll) }
+    ensures within { Within station.old out.old station.new out.new 1 }
+{
+    if station.has_begun() {
+        return station.refuse(out);
     }
+    station.mark_gap(false);
+    station.say_agreed(poll, out);
+    Told::Nothing
+}
 
-    // A frame that is an error at any phase, or whose control is unknown.
-    fn err(&mut self, out: &mut Room) -> Told
-        requires { HasRoom out.old 2064 }
-        ensures tells { (information : List ℕ) → Tells self.old out.old self.new out.new (told_as information result) (λ s. errs s.phase s) }
-        ensures within { Within self.old out.old self.new out.new 1 }
-    {
-        match self.phase {
-            Phase::Idle => self.err_idle(out),
-            Phase::Setting => self.refuse(out),
-            Phase::Up => self.refuse(out),
-            Phase::Down => Told::Nothing,
+fn hear_up(station: &mut StationCore, control: Control, out: &mut Room) -> Told
+    requires below { IsBelow (modulo station.old.extended) control }
+    requires room { HasRoom out.old ((station.old.window + 1) * 2064) }
+    ensures tells { (information : List ℕ) → Tells station.old out.old station.new out.new (told_as information result) (λ s. row_up s control information) }
+    ensures within { Within station.old out.old station.new out.new (station.new.ahead + 1) }
+{
+    match control {
+        Control::Info { ns, nr } => hear_info(station, ns, nr, out),
+        Control::Rr { nr } => station.hear_ready(nr, false, out),
+        Control::Rnr { nr } => station.hear_ready(nr, true, out),
+        Control::Rej { nr } => hear_reject(station, nr, out),
+        Control::Srej { .. } => station.refuse(out),
+        Control::Sabm { poll } => set_up_again(station, poll, out),
+        Control::Sabme { poll } => set_up_again(station, poll, out),
+        Control::Disc { poll } => station.disconnect(poll, out),
+        Control::Ua => station.stray(),
+        Control::Dm => station.drop_link(),
+        Control::Frmr => station.drop_link(),
+    }
+}
+
+// ---- a frame that comes
+
+// The row of a control, by the phase.
+fn row(station: &mut StationCore, control: Control, out: &mut Room) -> Told
+    requires below { IsBelow (modulo station.old.extended) control }
+    requires room { HasRoom out.old ((station.old.window + 1) * 2064) }
+    ensures tells { (information : List ℕ) → Tells station.old out.old station.new out.new (told_as information result) (λ s. row s.phase s control information) }
+    ensures within { Within station.old out.old station.new out.new (station.new.ahead + 1) }
+{
+    station.bounds();
+    match station.phase() {
+        Phase::Idle => station.hear_idle(control, out),
+        Phase::Setting => station.hear_setting(control, out),
+        Phase::Up => hear_up(station, control, out),
+        Phase::Down => Told::Nothing,
+    }
+}
+
+// A frame whose control was read.
+fn hear_control(
+    station: &mut StationCore,
+    address: u8,
+    control: Control,
+    information: &[u8],
+    out: &mut Room,
+) -> Told
+    requires below { IsBelow (modulo station.old.extended) control }
+    requires room { HasRoom out.old ((station.old.window + 1) * 2064) }
+    ensures tells { Tells station.old out.old station.new out.new (told_as information.now result) (hears_control address (Some (control, information.now))) }
+    ensures within { Within station.old out.old station.new out.new (station.new.ahead + 1) }
+{
+    let calling = station.is_calling();
+    if !is_addressed(calling, address, control) {
+        return station.stray();
+    }
+    if is_error(calling, control, information) {
+        return station.err(out);
+    }
+    row(station, control, out)
+}
+
+fn hear_frame<'f>(
+    station: &mut StationCore,
+    address: u8,
+    body: &'f [u8],
+    out: &mut Room,
+) -> LinkDeed<'f>
+    requires { HasRoom out.old ((station.old.window + 1) * 2064) }
+    ensures tells { Tells station.old out.old station.new out.new (deed_of result) (hears_frame address body.now) }
+    ensures within { Within station.old out.old station.new out.new (station.new.ahead + 1) }
+{
+    if !is_known(address) {
+        let told = station.stray();
+        return LinkDeed::of(told, body);
+    }
+    let Some((control, information)) = station.read(body) else {
+        let told = station.err(out);
+        return LinkDeed::of(told, body);
+    };
+    let told = hear_control(station, address, control, information, out);
+    LinkDeed::of(told, information)
+}
+
+// What a deframer found.
+pub(crate) fn hear<'f>(station: &mut StationCore, found: &Found<'f>, out: &mut Room) -> LinkDeed<'f>
+    requires { HasRoom out.old ((station.old.window + 1) * 2064) }
+    ensures tells { Tells station.old out.old station.new out.new (deed_of result) (hears (shown found.now)) }
+    ensures within { Within station.old out.old station.new out.new (station.new.ahead + 1) }
+{
+    match found {
+        Found::Frame(frame) => hear_frame(station, frame.address, frame.body, out),
+        Found::BadFcs => {
+            station.count_bad_fcs();
+            LinkDeed::nothing()
         }
-    }
-
-    fn err_idle(&mut self, out: &mut Room) -> Told
-        requires { HasRoom out.old 2064 }
-        ensures tells { (information : List ℕ) → Tells self.old out.old self.new out.new (told_as information result) (errs Phase.Idle) }
-        ensures within { Within self.old out.old self.new out.new 1 }
-    {
-        if self.calling {
-            return self.refuse(out);
+        Found::TooShort => {
+            station.count_short();
+            LinkDeed::nothing()
         }
-        self.count_stray();
-        Told::Nothing
-    }
-
-    // ---- N(R)
-
-    // How far above V(A) the number is that is shown as r, if it is one from V(A) to V(S).
-    fn named(&self, r: u8) -> Option<u8>
-        requires { r < modulo self.now.extended }
-        ensures named { Shown self.now (λ s. named s.extended s.acked (s.sent - s.acked) r ≡ option_map (λ up. s.acked + up) result) }
-        ensures near { IfSome result (λ up. up ≤ self.now.ahead) }
-    {
-        let up = above(self.extended, self.acked, r);
-        if up <= self.ahead { Some(up) } else { None }
-    }
-
-    // The first payloads are acknowledged.
-    fn acknowledge(&mut self, up: u8)
-        requires { up ≤ self.old.ahead }
-        ensures follows { (out : Stored) → Follows self.old out self.new out (λ s. acknowledges (s.acked + up) s) }
-        ensures ahead { self.new.ahead + up ≡ self.old.ahead }
-        ensures window { self.new.window ≡ self.old.window }
-        ensures extended { self.new.extended ≡ self.old.extended }
-    {
-        self.acked = (self.acked + up) % modulo_of(self.extended);
-        self.ahead -= up;
-        self.ring.drop_first(up as usize);
-        if up > 0 {
-            self.expiries = 0;
-            self.timer = if self.ahead > 0 {
-                Some(self.moment + self.t1)
-            } else {
-                None
-            };
+        Found::TooLong => {
+            station.count_long();
+            LinkDeed::nothing()
         }
-    }
-
-    // ---- N(S)
-
-    // The next payload is taken.
-    fn accept(&mut self)
-        ensures tells { (payload : List ℕ) (out : Stored) → Tells self.old out self.new out (record { up = false; payload = Some payload; released = None }) (accepts payload) }
-        ensures ahead { self.new.ahead ≡ self.old.ahead }
-        ensures window { self.new.window ≡ self.old.window }
-    {
-        self.got = (self.got + 1) % modulo_of(self.extended);
-        self.begun = true;
-        self.gap = false;
-        self.owed = true;
-    }
-
-    // The gap mark.
-    fn mark_gap(&mut self, gap: bool)
-        ensures follows { (out : Stored) → Follows self.old out self.new out (λ s. record s { gap = gap }) }
-        ensures same { self.new ≡ record self.old { gap = gap } }
-    {
-        self.gap = gap;
-    }
-
-    // The frame isn't the next one.
-    fn reject(&mut self, out: &mut Room)
-        requires { HasRoom out.old 2064 }
-        ensures follows { Follows self.old out.old self.new out.new rejects }
-        ensures within { Within self.old out.old self.new out.new 1 }
-        ensures ahead { self.new.ahead ≡ self.old.ahead }
-    {
-        if self.gap {
-            self.say_ready(out);
-        } else {
-            self.mark_gap(true);
-            self.say_reject(out);
+        Found::Aborted => {
+            station.count_aborted();
+            LinkDeed::nothing()
         }
-    }
-
-    fn take(&mut self, ns: u8, out: &mut Room) -> Told
-        requires { HasRoom out.old 2064 }
-        ensures tells { (payload : List ℕ) → Tells self.old out.old self.new out.new (told_as payload result) (takes ns payload) }
-        ensures within { Within self.old out.old self.new out.new 1 }
-        ensures ahead { self.new.ahead ≡ self.old.ahead }
-    {
-        if self.got == ns {
-            self.accept();
-            return Told::Took;
-        }
-        self.reject(out);
-        Told::Nothing
-    }
-
-    // ---- the rows of a station that is up
-
-    fn hear_info(&mut self, ns: u8, nr: u8, out: &mut Room) -> Told
-        requires below { nr < modulo self.old.extended }
-        requires room { HasRoom out.old 2064 }
-        ensures tells { (payload : List ℕ) → Tells self.old out.old self.new out.new (told_as payload result) (by_number nr (takes ns payload)) }
-        ensures within { Within self.old out.old self.new out.new 1 }
-    {
-        let Some(up) = self.named(nr) else {
-            return self.refuse(out);
-        };
-        self.acknowledge(up);
-        self.take(ns, out)
-    }
-
-    fn mark_busy(&mut self, busy: bool)
-        ensures follows { (out : Stored) → Follows self.old out self.new out (marks_busy busy) }
-        ensures same { self.new ≡ record self.old { busy = busy } }
-    {
-        self.busy = busy;
-    }
-
-    // RR and RNR.
-    fn hear_ready(&mut self, nr: u8, busy: bool, out: &mut Room) -> Told
-        requires below { nr < modulo self.old.extended }
-        requires room { HasRoom out.old 2064 }
-        ensures tells { (information : List ℕ) → Tells self.old out.old self.new out.new (told_as information result) (by_number nr (marks_busy busy)) }
-        ensures within { Within self.old out.old self.new out.new 1 }
-    {
-        let _ = &self.calling;
-        let Some(up) = self.named(nr) else {
-            return self.refuse(out);
-        };
-        self.acknowledge(up);
-        self.mark_busy(busy);
-        Told::Nothing
-    }
-
-    // Frames are sent again at a REJ.
-    fn repeat_rejected(&mut self, out: &mut Room)
-        requires { HasRoom out.old (self.old.ahead * 2064) }
-        ensures follows { Follows self.old out.old self.new out.new repeats_rejected }
-        ensures within { Within self.old out.old self.new out.new self.old.ahead }
-        ensures ahead { self.new.ahead ≡ self.old.ahead }
-    {
-        let _ = &self.calling;
-        if self.ahead > 0 {
-            self.send_again(out);
-            self.start_timer();
-        }
-    }
-
-    fn hear_reject(&mut self, nr: u8, out: &mut Room) -> Told
-        requires below { nr < modulo self.old.extended }
-        requires room { HasRoom out.old ((self.old.window + 1) * 2064) }
-        ensures tells { (information : List ℕ) → Tells self.old out.old self.new out.new (told_as information result) (by_number nr (λ t. repeats_rejected (marks_busy false t))) }
-        ensures within { Within self.old out.old self.new out.new (self.new.ahead + 1) }
-    {
-        let _ = &self.calling;
-        let Some(up) = self.named(nr) else {
-            return self.refuse(out);
-        };
-        self.acknowledge(up);
-        self.mark_busy(false);
-        self.repeat_rejected(out);
-        Told::Nothing
-    }
-
-    // The set-up frame at a station that is up.
-    fn set_up_again(&mut self, poll: bool, out: &mut Room) -> Told
-        requires { HasRoom out.old 2064 }
-        ensures tells { (information : List ℕ) → Tells self.old out.old self.new out.new (told_as information result) (sets_up_again poll) }
-        ensures within { Within self.old out.old self.new out.new 1 }
-    {
-        if self.begun {
-            return self.refuse(out);
-        }
-        self.mark_gap(false);
-        self.say_agreed(poll, out);
-        Told::Nothing
-    }
-
-    // DISC is answered with UA.
-    fn disconnect(&mut self, poll: bool, out: &mut Room) -> Told
-        requires { HasRoom out.old 2064 }
-        ensures tells { (information : List ℕ) → Tells self.old out.old self.new out.new (told_as information result) (λ s. releases Cause.PeerDisconnected (agrees poll s)) }
-        ensures within { Within self.old out.old self.new out.new 1 }
-    {
-        self.say_agreed(poll, out);
-        self.drop_link()
-    }
-
-    // The peer disconnected.
-    fn drop_link(&mut self) -> Told
-        ensures tells { (information : List ℕ) (out : Stored) → Tells self.old out self.new out (told_as information result) (releases Cause.PeerDisconnected) }
-        ensures ahead { self.new.ahead ≡ self.old.ahead }
-        ensures window { self.new.window ≡ self.old.window }
-    {
-        let release = self.let_go(Cause::PeerDisconnected);
-        Told::Released { release }
-    }
-
-    // A stray frame.
-    fn stray(&mut self) -> Told
-        ensures tells { (information : List ℕ) (out : Stored) → Tells self.old out self.new out (told_as information result) strays }
-        ensures same { self.new ≡ record self.old { counts = self.new.counts } }
-    {
-        self.count_stray();
-        Told::Nothing
-    }
-
-    fn hear_up(&mut self, control: Control, out: &mut Room) -> Told
-        requires below { IsBelow (modulo self.old.extended) control }
-        requires room { HasRoom out.old ((self.old.window + 1) * 2064) }
-        ensures tells { (information : List ℕ) → Tells self.old out.old self.new out.new (told_as information result) (λ s. row_up s control information) }
-        ensures within { Within self.old out.old self.new out.new (self.new.ahead + 1) }
-    {
-        let _ = &self.calling;
-        match control {
-            Control::Info { ns, nr } => self.hear_info(ns, nr, out),
-            Control::Rr { nr } => self.hear_ready(nr, false, out),
-            Control::Rnr { nr } => self.hear_ready(nr, true, out),
-            Control::Rej { nr } => self.hear_reject(nr, out),
-            Control::Srej { .. } => self.refuse(out),
-            Control::Sabm { poll } => self.set_up_again(poll, out),
-            Control::Sabme { poll } => self.set_up_again(poll, out),
-            Control::Disc { poll } => self.disconnect(poll, out),
-            Control::Ua => self.stray(),
-            Control::Dm => self.drop_link(),
-            Control::Frmr => self.drop_link(),
-        }
-    }
-
-    // ---- the rows of a station that isn't up yet
-
-    // The link came up.
-    fn come_up(&mut self)
-        ensures tells { (out : Stored) → Tells self.old out self.new out (record { up = true; payload = None; released = None }) comes_up }
-        ensures ahead { self.new.ahead ≡ self.old.ahead }
-        ensures window { self.new.window ≡ self.old.window }
-    {
-        self.phase = Phase::Up;
-    }
-
-    // The set-up frame at a called station.
-    fn set_up(&mut self, poll: bool, out: &mut Room) -> Told
-        requires { HasRoom out.old 2064 }
-        ensures tells { (information : List ℕ) → Tells self.old out.old self.new out.new (told_as information result) (λ s. agrees poll (comes_up s)) }
-        ensures within { Within self.old out.old self.new out.new 1 }
-    {
-        self.come_up();
-        self.say_agreed(poll, out);
-        Told::CameUp
-    }
-
-    fn hear_idle(&mut self, control: Control, out: &mut Room) -> Told
-        requires { HasRoom out.old 2064 }
-        ensures tells { (information : List ℕ) → Tells self.old out.old self.new out.new (told_as information result) (λ s. row_idle s control information) }
-        ensures within { Within self.old out.old self.new out.new 1 }
-    {
-        let _ = &self.calling;
-        match control {
-            Control::Info { .. } => self.stray(),
-            Control::Rr { .. } => self.stray(),
-            Control::Rnr { .. } => self.stray(),
-            Control::Rej { .. } => self.stray(),
-            Control::Srej { .. } => self.stray(),
-            Control::Sabm { poll } => self.set_up(poll, out),
-            Control::Sabme { poll } => self.set_up(poll, out),
-            Control::Disc { .. } => self.stray(),
-            Control::Ua => self.stray(),
-            Control::Dm => self.stray(),
-            Control::Frmr => self.stray(),
-        }
-    }
-
-    // T1 stops.
-    fn stop_timer(&mut self)
-        ensures follows { (out : Stored) → Follows self.old out self.new out (λ s. record s { timer = None; expiries = 0 }) }
-        ensures same { self.new ≡ record self.old { timer = None; expiries = 0 } }
-    {
-        self.timer = None;
-        self.expiries = 0;
-    }
-
-    // UA at a calling station that asked for the set-up.
-    fn agreed(&mut self) -> Told
-        ensures tells { (information : List ℕ) (out : Stored) → Tells self.old out self.new out (told_as information result) (λ s. comes_up (record s { timer = None; expiries = 0 })) }
-        ensures ahead { self.new.ahead ≡ self.old.ahead }
-        ensures window { self.new.window ≡ self.old.window }
-    {
-        self.stop_timer();
-        self.come_up();
-        Told::CameUp
-    }
-
-    fn hear_setting(&mut self, control: Control, out: &mut Room) -> Told
-        requires { HasRoom out.old 2064 }
-        ensures tells { (information : List ℕ) → Tells self.old out.old self.new out.new (told_as information result) (λ s. row_setting s control information) }
-        ensures within { Within self.old out.old self.new out.new 1 }
-    {
-        let _ = &self.calling;
-        match control {
-            Control::Info { .. } => self.stray(),
-            Control::Rr { .. } => self.stray(),
-            Control::Rnr { .. } => self.stray(),
-            Control::Rej { .. } => self.stray(),
-            Control::Srej { .. } => self.refuse(out),
-            Control::Sabm { .. } => self.refuse(out),
-            Control::Sabme { .. } => self.refuse(out),
-            Control::Disc { poll } => self.disconnect(poll, out),
-            Control::Ua => self.agreed(),
-            Control::Dm => self.drop_link(),
-            Control::Frmr => self.drop_link(),
-        }
-    }
-
-    // ---- a frame that comes
-
-    // The row of a control, by the phase.
-    fn row(&mut self, control: Control, out: &mut Room) -> Told
-        requires below { IsBelow (modulo self.old.extended) control }
-        requires room { HasRoom out.old ((self.old.window + 1) * 2064) }
-        ensures tells { (information : List ℕ) → Tells self.old out.old self.new out.new (told_as information result) (λ s. row s.phase s control information) }
-        ensures within { Within self.old out.old self.new out.new (self.new.ahead + 1) }
-    {
-        match self.phase {
-            Phase::Idle => self.hear_idle(control, out),
-            Phase::Setting => self.hear_setting(control, out),
-            Phase::Up => self.hear_up(control, out),
-            Phase::Down => Told::Nothing,
-        }
-    }
-
-    // A frame whose control was read.
-    fn hear_control(
-        &mut self,
-        address: u8,
-        control: Control,
-        information: &[u8],
-        out: &mut Room,
-    ) -> Told
-        requires below { IsBelow (modulo self.old.extended) control }
-        requires room { HasRoom out.old ((self.old.window + 1) * 2064) }
-        ensures tells { Tells self.old out.old self.new out.new (told_as information.now result) (hears_control address (Some (control, information.now))) }
-        ensures within { Within self.old out.old self.new out.new (self.new.ahead + 1) }
-    {
-        let _ = &self.calling;
-        if !is_addressed(self.calling, address, control) {
-            return self.stray();
-        }
-        if is_error(self.calling, control, information) {
-            return self.err(out);
-        }
-        self.row(control, out)
-    }
-
-    // Reads the control of a body.
-    fn read<'f>(&self, body: &'f [u8]) -> Option<(Control, &'f [u8])>
-        ensures value { option_map (λ r. (r.0, r.1.now)) result ≡ control_of (modulo self.now.extended) body.now }
-        ensures below { IfSome result (λ r. IsBelow (modulo self.now.extended) r.0) }
-    {
-        if self.extended {
-            control_extended(body)
-        } else {
-            control(body)
-        }
-    }
-
-    fn hear_frame<'f>(&mut self, address: u8, body: &'f [u8], out: &mut Room) -> LinkDeed<'f>
-        requires { HasRoom out.old ((self.old.window + 1) * 2064) }
-        ensures tells { Tells self.old out.old self.new out.new (deed_of result) (hears_frame address body.now) }
-        ensures within { Within self.old out.old self.new out.new (self.new.ahead + 1) }
-    {
-        let _ = &self.calling;
-        if !is_known(address) {
-            self.count_stray();
-            return LinkDeed::nothing();
-        }
-        let Some((control, information)) = self.read(body) else {
-            let told = self.err(out);
-            return LinkDeed::of(told, body);
-        };
-        let told = self.hear_control(address, control, information, out);
-        LinkDeed::of(told, information)
-    }
-
-    // What a deframer found.
-    pub(crate) fn hear<'f>(&mut self, found: &Found<'f>, out: &mut Room) -> LinkDeed<'f>
-        requires { HasRoom out.old ((self.old.window + 1) * 2064) }
-        ensures tells { Tells self.old out.old self.new out.new (deed_of result) (hears (shown found.now)) }
-        ensures within { Within self.old out.old self.new out.new (self.new.ahead + 1) }
-    {
-        let _ = &self.calling;
-        match found {
-            Found::Frame(frame) => return self.hear_frame(frame.address, frame.body, out),
-            Found::BadFcs => self.counts.bad_fcs = one_more(self.counts.bad_fcs),
-            Found::TooShort => self.counts.short = one_more(self.counts.short),
-            Found::TooLong => self.counts.long = one_more(self.counts.long),
-            Found::Aborted => self.counts.aborted = one_more(self.counts.aborted),
-        }
-        LinkDeed::nothing()
     }
 }

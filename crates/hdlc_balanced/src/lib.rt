@@ -2,19 +2,17 @@
 //!
 //! [`Station`] does what a station of `station_model` does: its contracts say of each call which step of the model it is.
 //! The model has whole lists and numbers without a bound; the code keeps numbers modulo the modulo and one ring of
-//! payloads that its maker reserves (`specs/Kept.antt`). Only the two makers take memory.
+//! payloads that its maker reserves (`specs/Kept.antt`). What doesn't depend on go-back is `station_core`'s. Only the two makers take memory.
 #![tactic(auto)]
 
 mod deeds;
 mod hearing;
 pub mod laws;
-mod ring;
-mod sending;
 mod station;
 #[cfg(test)]
 mod tests;
-mod timing;
 
-pub use deeds::{Full, LinkDeed};
+pub use deeds::LinkDeed;
 pub use station::Station;
+pub use station_core::Full;
 pub use station_model::Counts;

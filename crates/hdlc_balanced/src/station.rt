@@ -4,75 +4,32 @@ ghost use Rattle.std.specs.Prelude.{◌≡◌, ◌+◌, ◌-◌, ◌*◌, ◌<�
 ghost use Rattle.er_base.specs.Stored.{Stored, HasRoom};
 ghost use Rattle.er_settings.specs.Ranges.{AllAllowed};
 ghost use Rattle.hdlc_frames.specs.Shown.{shown};
-ghost use Rattle.station_model.specs.Stations.{made, is_down, is_up, sees, no_deed};
-ghost use Rattle.station_model.specs.Sending.{waiting, can_send, starts_timer};
+ghost use Rattle.station_model.specs.Stations.{made, no_deed};
+ghost use Rattle.station_model.specs.Sending.{waiting};
 ghost use Rattle.station_model.specs.Calls.{starts, receives, hands, finishes, ticks, closes, may_send, deadline};
 
-use crate::deeds::{Full, LinkDeed};
-use crate::ring::Ring;
+use crate::deeds::LinkDeed;
+use crate::hearing::hear;
 use er_base::{NoMemory, Release, Room};
 use er_settings::Settings;
-use er_settings::laws::allowed_are_bounded;
 use hdlc_frames::Found;
-use station_model::{Counts, Phase};
+use station_core::{Full, StationCore};
+use station_model::Counts;
 use std::alloc::Global;
 use std::marker::Model;
-
-/// How many payloads may wait to be sent for the first time.
-pub(crate) const WAITING: u8 = 16;
 
 /// A combined station. It is made by [`Station::calling`] or [`Station::called`]; after a release no call does anything.
 #[derive(Drop)]
 pub struct Station {
-    pub(crate) calling: bool,
-    pub(crate) extended: bool,
-    pub(crate) window: u8,
-    pub(crate) n2: u8,
-    pub(crate) t1: u64,
-    pub(crate) phase: Phase,
-    pub(crate) acked: u8,
-    pub(crate) ahead: u8,
-    pub(crate) got: u8,
-    pub(crate) begun: bool,
-    pub(crate) gap: bool,
-    pub(crate) busy: bool,
-    pub(crate) owed: bool,
-    pub(crate) expiries: u8,
-    pub(crate) timer: Option<u64>,
-    pub(crate) moment: u64,
-    pub(crate) counts: Counts,
-    pub(crate) ring: Ring,
+    pub(crate) core: StationCore,
 }
 
 impl Model for Station {
-    ghost use Rattle.std.specs.Prelude.{length};
-    ghost use Rattle.hdlc_balanced.specs.Kept.{Kept, InRange};
+    ghost use Rattle.hdlc_balanced.specs.Kept.{Kept};
 
     ghost Value = { Kept };
 
-    ghost view = { λ s. record {
-      calling = s.calling;
-      extended = s.extended;
-      window = s.window;
-      n2 = s.n2;
-      t1 = s.t1;
-      phase = s.phase;
-      ring = s.ring.items;
-      acked = s.acked;
-      ahead = s.ahead;
-      got = s.got;
-      begun = s.begun;
-      gap = s.gap;
-      busy = s.busy;
-      owed = s.owed;
-      expiries = s.expiries;
-      timer = s.timer;
-      moment = s.moment;
-      counts = s.counts;
-    } };
-
-    ghost invariant = { λ s. InRange s.extended s.window s.n2 s.t1 s.acked s.ahead s.got s.expiries s.moment
-        (length s.ring.items) s.ring.slots s.begun };
+    ghost view = { λ s. s.core };
 }
 
 impl Station {
@@ -85,7 +42,8 @@ impl Station {
         requires { AllAllowed settings.now }
         ensures { IfOk result (λ k. k ≡ kept_of (made true (settings.now.modulo == 128) settings.now.window settings.now.n2 settings.now.t1)) }
     {
-        Station::new(alloc, true, settings)
+        let core = StationCore::new(alloc, true, settings)?;
+        Ok(Station { core })
     }
 
     /// The called station of a link.
@@ -93,41 +51,8 @@ impl Station {
         requires { AllAllowed settings.now }
         ensures { IfOk result (λ k. k ≡ kept_of (made false (settings.now.modulo == 128) settings.now.window settings.now.n2 settings.now.t1)) }
     {
-        Station::new(alloc, false, settings)
-    }
-
-    fn new(alloc: Global, calling: bool, settings: &Settings) -> Result<Station, NoMemory>
-        requires { AllAllowed settings.now }
-        ensures { IfOk result (λ k. k ≡ kept_of (made calling (settings.now.modulo == 128) settings.now.window settings.now.n2 settings.now.t1)) }
-    {
-        allowed_are_bounded();
-        let ring = Ring::with_slots(alloc, (settings.window + WAITING) as usize)?;
-        Ok(Station {
-            calling,
-            extended: settings.modulo == 128,
-            window: settings.window,
-            n2: settings.n2,
-            t1: settings.t1,
-            phase: Phase::Idle,
-            ring,
-            acked: 0,
-            ahead: 0,
-            got: 0,
-            begun: false,
-            gap: false,
-            busy: false,
-            owed: false,
-            expiries: 0,
-            timer: None,
-            moment: 0,
-            counts: Counts {
-                bad_fcs: 0,
-                short: 0,
-                long: 0,
-                aborted: 0,
-                stray: 0,
-            },
-        })
+        let core = StationCore::new(alloc, false, settings)?;
+        Ok(Station { core })
     }
 
     /// A calling station that was just made sends the set-up frame, and T1 starts (`now` in milliseconds). Any other one, a
@@ -140,12 +65,8 @@ impl Station {
         ensures does { Does self.new out.old out.new no_deed (starts now (model_of self.old)) }
         ensures within { Within self.old out.old self.new out.new 1 }
     {
-        let _ = &self.calling;
-        if self.is_down() {
-            return;
-        }
-        self.see(now);
-        self.start_at(out);
+        self.core.bounds();
+        self.core.start(now, out);
     }
 
     /// What a deframer found comes in: the station answers it, and then sends the payloads that may be sent.
@@ -156,13 +77,13 @@ impl Station {
         ensures does { Does self.new out.old out.new (deed_of result) (receives now (shown found.now) (model_of self.old)) }
         ensures within { Within self.old out.old self.new out.new (self.old.window + 1) }
     {
-        let _ = &self.calling;
-        if self.is_down() {
+        self.core.bounds();
+        if self.core.is_down() {
             return LinkDeed::nothing();
         }
-        self.see(now);
-        let deed = self.hear(found, out);
-        self.send_waiting(out);
+        self.core.see(now);
+        let deed = hear(&mut self.core, found, out);
+        self.core.send_waiting(out);
         deed
     }
 
@@ -184,30 +105,8 @@ impl Station {
         ensures grows { self.old.ahead ≤ self.new.ahead }
         ensures sent { length out.new.items + self.old.ahead * 2064 ≤ length out.old.items + self.new.ahead * 2064 }
     {
-        let _ = &self.calling;
-        let waiting = self.waits();
-        if waiting == WAITING {
-            return Err(Full {
-                waiting: waiting as usize,
-            });
-        }
-        if !self.is_down() {
-            self.see(now);
-            self.keep(payload);
-            self.send_waiting(out);
-        }
-        Ok(())
-    }
-
-    // A payload joins those that wait.
-    fn keep(&mut self, payload: &[u8])
-        requires few { length self.old.ring < self.old.ahead + 16 }
-        requires fits { length payload.now ≤ 1026 }
-        ensures follows { (out : Stored) → Follows self.old out self.new out (λ s. record s { handed = s.handed ++ payload.now ∷ [] }) }
-        ensures ahead { self.new.ahead ≡ self.old.ahead }
-        ensures window { self.new.window ≡ self.old.window }
-    {
-        self.ring.push(payload);
+        self.core.bounds();
+        self.core.hand(now, payload, out)
     }
 
     /// Sends the answer that is still owed for I frames that were taken. It follows each event.
@@ -217,10 +116,8 @@ impl Station {
         ensures does { Does self.new out.old out.new no_deed (finishes (model_of self.old)) }
         ensures within { Within self.old out.old self.new out.new 1 }
     {
-        let _ = &self.calling;
-        if !self.is_down() {
-            self.answer(out);
-        }
+        self.core.bounds();
+        self.core.finish(out);
     }
 
     /// It is this moment: T1 may expire, at most once. Answers why the station was released, where it was.
@@ -231,14 +128,8 @@ impl Station {
         ensures does { Does self.new out.old out.new (released_as result) (ticks now (model_of self.old)) }
         ensures within { Within self.old out.old self.new out.new (self.old.window + 1) }
     {
-        let _ = &self.calling;
-        if self.is_down() {
-            return None;
-        }
-        self.see(now);
-        let release = self.expire_if_due(out);
-        self.send_waiting(out);
-        release
+        self.core.bounds();
+        self.core.tick(now, out)
     }
 
     /// The layer above ends the link: DISC where it was being set up or is up, and the station is Down. It tells no release:
@@ -249,12 +140,8 @@ impl Station {
         ensures does { Does self.new out.old out.new no_deed (closes (model_of self.old)) }
         ensures within { Within self.old out.old self.new out.new 1 }
     {
-        let _ = &self.calling;
-        if self.is_down() {
-            return;
-        }
-        self.close_at(out);
-        self.go_down();
+        self.core.bounds();
+        self.core.close(out);
     }
 
     /// The moment at which the station wants a tick: that at which T1 expires, where T1 runs.
@@ -262,7 +149,7 @@ impl Station {
         ensures shown { Shown self.now (λ s. result ≡ deadline s) }
         ensures kept { result ≡ self.now.timer }
     {
-        self.timer
+        self.core.deadline()
     }
 
     /// The number of payloads that wait to be sent for the first time, 16 at the most.
@@ -271,7 +158,7 @@ impl Station {
         ensures few { result ≤ 16 }
         ensures kept { result + self.now.ahead ≡ length self.now.ring }
     {
-        self.waits() as usize
+        self.core.waiting()
     }
 
     /// Whether a payload that is handed down now is sent at once.
@@ -280,15 +167,8 @@ impl Station {
         ensures kept { result ≡ may_send (model_of self.now) }
         ensures free { result ≡ true → length self.now.ring ≡ self.now.ahead }
     {
-        let _ = &self.calling;
-        self.sends_at_once()
-    }
-
-    fn sends_at_once(&self) -> bool
-        ensures shown { Shown self.now (λ s. result ≡ may_send s) }
-        ensures free { result ≡ true → length self.now.ring ≡ self.now.ahead }
-    {
-        self.can_send() && self.waits() == 0
+        self.core.bounds();
+        self.core.may_send()
     }
 
     /// The frames that were ignored so far, by their kind.
@@ -296,6 +176,6 @@ impl Station {
         ensures shown { Shown self.now (λ s. result ≡ s.counts) }
         ensures kept { result ≡ self.now.counts }
     {
-        self.counts
+        self.core.counts()
     }
 }

@@ -105,7 +105,7 @@ fn flags_and_escapes_are_carried(rt: HostRuntime) -> Result<(), Fail> {
     let mut told = Vec::new(rt.alloc());
     event(rt.alloc(), &mut station, b"s", &mut told)?;
     event(rt.alloc(), &mut station, b"f0173", &mut told)?;
-    let mut out = Room::with_capacity(rt.alloc(), station.window as usize * 2064)?;
+    let mut out = Room::with_capacity(rt.alloc(), station.core.window() as usize * 2064)?;
     assert!(rt; carries(&mut station, &mut out));
     Ok(())
 }
@@ -134,7 +134,7 @@ fn event(
     word: &[u8],
     told: &mut Vec<u8>,
 ) -> Result<(), Fail> {
-    let mut out = Room::with_capacity(alloc, (station.window as usize + 1) * 2064)?;
+    let mut out = Room::with_capacity(alloc, (station.core.window() as usize + 1) * 2064)?;
     act(alloc, station, word, &mut out, told)?;
     tell_octets(out.held(), told)?;
     let mut answer = Room::with_capacity(alloc, 2064)?;

@@ -1,0 +1,14 @@
+use Rattle.std.proofs.Common.{None, ap, sym, subst, ◌∙◌, rules}
+use Rattle.station_model.specs.Stations.{no_deed, sees, is_down}
+use Rattle.station_model.specs.Sending.{expires_if_due, sends_waiting}
+use Rattle.station_model.specs.Calls.{ticks}
+use Rattle.station_core.specs.Kept.{Kept}
+use Rattle.station_core.specs.Told.{released_as}
+use Rattle.station_core.specs.Following.{stands_no}
+use Rattle.station_core.proofs.station.StationCore.tick.Goals as goal
+
+pub returns-clause-tells : goal.returns-clause-tells
+returns-clause-tells c = λ s before h. stands_no _ before _ _ (is_down s.phase) s (sends_waiting (expires_if_due (sees c.args.now s))) (sym (ap (λ (k : Kept). is_down k.phase) h.is) ∙ sym c.is_down.ensures ∙ c.if-is_down.false) (c.send_waiting.ensures.follows _ before _ (c.expire_if_due-release.ensures.tells _ before (c.see.ensures.follows _ s before no_deed h)))
+
+pub returns-then-is_down-clause-tells : goal.returns-then-is_down-clause-tells
+returns-then-is_down-clause-tells c = search rules

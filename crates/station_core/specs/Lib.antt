@@ -1,0 +1,4 @@
+pub mod Rings
+pub mod Kept
+pub mod Told
+pub mod Following
