@@ -7,7 +7,7 @@ use Rattle.key_store.specs.KeyFiles.{is_at_once, place_at_once, twice_or, first_
 use Rattle.key_store.specs.Ranges.{IsInRange, AreInRange}
 
 -- two that are so are found so
-at_once_tells : (a b : Entry) → AreAtOnce a b → is_at_once a b ≡ true
+pub at_once_tells : (a b : Entry) → AreAtOnce a b → is_at_once a b ≡ true
 at_once_tells a b h =
     and_from ((a.engine == b.engine) && (a.rbc == b.rbc) && nat_le a.first b.last) (nat_le b.first a.last)
     (and_from ((a.engine == b.engine) && (a.rbc == b.rbc)) (nat_le a.first b.last)
@@ -16,7 +16,7 @@ at_once_tells a b h =
     (le-leb b.first a.last (omega (arith, h.from_first, h.to_last)))
 
 -- and two that are found so are so: at the later one of their first moments
-tells_at_once : (a b : Entry) → IsInRange a → IsInRange b → is_at_once a b ≡ true → AreAtOnce a b
+pub tells_at_once : (a b : Entry) → IsInRange a → IsInRange b → is_at_once a b ≡ true → AreAtOnce a b
 tells_at_once a b p q h =
     let three = and_parts ((a.engine == b.engine) && (a.rbc == b.rbc) && nat_le a.first b.last) (nat_le b.first a.last) h in
     let two = and_parts ((a.engine == b.engine) && (a.rbc == b.rbc)) (nat_le a.first b.last) three.0 in
@@ -80,7 +80,7 @@ none_with : (earlier : List Entry) (entry : Entry) (entries : List Entry) → Ar
 none_with [] entry entries h = tt
 none_with (other ∷ others) entry entries h = (h.0.0, none_with others entry entries h.1)
 
-no_twice_or : (place : Option ℕ) (second : ℕ) (further : Option (ℕ × ℕ)) → twice_or place second further ≡ None → (place ≡ None) × (further ≡ None)
+pub no_twice_or : (place : Option ℕ) (second : ℕ) (further : Option (ℕ × ℕ)) → twice_or place second further ≡ None → (place ≡ None) × (further ≡ None)
 no_twice_or None second further h = (refl, h)
 no_twice_or (Some first) second further h = absurd (none-some (first, second) (sym h))
 

@@ -5,3 +5,4 @@ pub mod Answers
 pub mod Kept
 pub mod Written
 pub mod Lists
+pub mod Spans

@@ -1,9 +1,9 @@
-//! The entries of a key file, one by one, and the first two that are of one pair at one moment.
+//! The entries of a key file, one by one.
 
 ghost use Rattle.std.specs.Prelude.{true, ◌≡◌, ◌+◌, ◌<◌, ◌≤◌, ◌^◌, [], ◌∷◌, ◌++◌, length, map, IfOk, IfSome, OnOk};
 ghost use Rattle.toml.specs.View.{view, items_view};
 ghost use Rattle.key_store.specs.declared.key_file_fault.KeyFileFault.TheVariants as fault;
-ghost use Rattle.key_store.specs.KeyFiles.{some_or, number_in_field, kmac_spelled, kmac_in_field, moments_in, entry_in, entries_in, three_keys, place_at_once, first_twice};
+ghost use Rattle.key_store.specs.KeyFiles.{some_or, number_in_field, kmac_spelled, kmac_in_field, moments_in, entry_in, entries_in, three_keys};
 ghost use Rattle.key_store.specs.Ranges.{IsKey, IsInRange, AreInRange};
 ghost use Rattle.key_store.specs.Kept.{entry_of, Gives};
 ghost use Rattle.key_store.specs.Lists.{are_in_range};
@@ -166,32 +166,6 @@ pub fn read_entries(
         push(&mut entries, read)?;
     }
     Ok(entries)
-}
-
-// The place, from 1, of the first of these entries that is of one pair with another and has a moment in common with it.
-#[tactic(auto, unfolding(crate::specs::KeyFiles::place_at_once))]
-fn place_at_once(entries: &[KeyEntry], entry: &KeyEntry) -> Option<usize>
-    ensures { result ≡ place_at_once 0 (map entry_of entries.now) (entry_of entry.now) }
-{
-    for (before, other) in entries.iter().enumerate() {
-        if other.is_at_once(entry) {
-            return Some(before + 1);
-        }
-    }
-    None
-}
-
-/// The least entry that has an earlier one of the same pair with a moment in common, behind the least such earlier one.
-#[tactic(auto, unfolding(crate::specs::KeyFiles::first_twice))]
-pub fn first_twice(entries: &[KeyEntry]) -> Option<(usize, usize)>
-    ensures { result ≡ first_twice [] (map entry_of entries.now) }
-{
-    for (before, entry) in entries.iter().enumerate() {
-        if let Some(first) = place_at_once(&entries[..before], entry) {
-            return Some((first, before + 1));
-        }
-    }
-    None
 }
 
 /// Whether the numbers of each entry are in their ranges.

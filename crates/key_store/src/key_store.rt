@@ -6,8 +6,9 @@ ghost use Rattle.key_store.specs.Lists.{as_entry, listed_keys};
 use crate::document::{listed_keys, read_document, read_version};
 use crate::key_entry::KeyEntry;
 use crate::key_file_fault::KeyFileFault;
-use crate::key_reader::{are_in_range, first_twice, read_entries};
+use crate::key_reader::{are_in_range, read_entries};
 use crate::key_writer::key_text;
+use crate::twice::{first_twice, has_none_twice};
 use des_block::TripleKey;
 use er_base::NoMemory;
 use safety_automaton::KeyFinder;
@@ -45,7 +46,7 @@ impl KeyStore {
         let document = read_document(alloc, bytes)?;
         let version = read_version(&document)?;
         let entries = read_entries(alloc, version, listed_keys(&document)?)?;
-        match first_twice(entries.as_slice()) {
+        match first_twice(alloc, entries.as_slice())? {
             Some((first, second)) => Err(KeyFileFault::Twice { first, second }),
             None => Ok(KeyStore { entries }),
         }
@@ -59,10 +60,10 @@ impl KeyStore {
         if !are_in_range(entries.as_slice()) {
             return None;
         }
-        match first_twice(entries.as_slice()) {
-            Some(_) => None,
-            None => Some(KeyStore { entries }),
+        if !has_none_twice(*entries.allocator(), entries.as_slice()) {
+            return None;
         }
+        Some(KeyStore { entries })
     }
 
     /// A key file of version 2 with these entries, one by one in their order.

@@ -1,5 +1,5 @@
 -- All so far are in range.
-use Rattle.std.proofs.Common.{◌≡◌, map, take, drop}
+use Rattle.std.proofs.Common.{◌≡◌, map, drop}
 use Rattle.key_store.specs.Kept.{entry_of}
 use Rattle.key_store.specs.Ranges.{AreInRange}
 use Rattle.key_store.specs.Lists.{are_in_range}

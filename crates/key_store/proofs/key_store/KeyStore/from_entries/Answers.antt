@@ -1,9 +1,10 @@
 -- Where no two entries were found to be of one pair and one moment, they are distinct.
 use Rattle.std.proofs.Common.{sym, ◌∙◌}
+use Rattle.key_store.proofs.Spans.{none_of}
 use Rattle.key_store.proofs.Twices.{distinct_where_none}
 use Rattle.key_store.proofs.key_store.KeyStore.from_entries.Goals as goal
 
 pub invariant_of-result : goal.invariant_of-result
 invariant_of-result c =
     let range = rw c.as_slice.ensures.value at c.are_in_range.ensures.range in
-    (distinct_where_none _ (sym (rw c.as_slice-2.ensures.value at c.first_twice.ensures) ∙ c.in-None.is), range c.if-not-are_in_range.false)
+    (distinct_where_none _ (none_of _ (sym (rw c.as_slice-2.ensures.value at c.has_none_twice.ensures) ∙ c.if-not-has_none_twice.false)), range c.if-not-are_in_range.false)

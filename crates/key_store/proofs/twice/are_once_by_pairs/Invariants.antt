@@ -2,7 +2,7 @@
 use Rattle.std.proofs.Common.{◌≡◌, [], map, take, drop}
 use Rattle.key_store.specs.KeyFiles.{first_twice}
 use Rattle.key_store.specs.Kept.{entry_of}
-use Rattle.key_store.proofs.key_reader.first_twice.Given as goal
+use Rattle.key_store.proofs.twice.are_once_by_pairs.Given as goal
 
 abbrev pub invariant-loop-before : goal.invariant-loop-before
 invariant-loop-before l =

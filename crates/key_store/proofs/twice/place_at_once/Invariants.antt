@@ -2,7 +2,7 @@
 use Rattle.std.proofs.Common.{◌≡◌, map, drop}
 use Rattle.key_store.specs.KeyFiles.{place_at_once}
 use Rattle.key_store.specs.Kept.{entry_of}
-use Rattle.key_store.proofs.key_reader.place_at_once.Given as goal
+use Rattle.key_store.proofs.twice.place_at_once.Given as goal
 
 abbrev pub invariant-loop-before : goal.invariant-loop-before
 invariant-loop-before l =
