@@ -1,7 +1,8 @@
 -- The user of a safe connection (this profile): its mind, what it hears, and the relation that says, by the kind of its mind, what
--- it says and which mind it has then.
-use Rattle.std.specs.Prelude.{◌≡◌, ℕ, ◌+◌, ◌-◌, ◌^◌, ◌==◌, Bool, List, [], ◌∷◌, length, Option, None, Some, nat_lt, if◌then◌else◌}
+-- it says and which mind it has then. What it heard so far is an optional meaning: a user may tell it.
+use Rattle.std.specs.Prelude.{◌≡◌, ℕ, ◌+◌, ◌-◌, ◌^◌, ◌==◌, Bool, List, [], ◌∷◌, ◌++◌, length, Option, None, Some, nat_lt, if◌then◌else◌}
 use Rattle.std.specs.Fmt.{decimal}
+use Rattle.end_model.specs.Outcomes.{SendRefusal}
 use Rattle.er_users.specs.Saying.{Spoken}
 
 -- the kinds of users; the last are those that a caller makes
@@ -12,21 +13,33 @@ pub data Kind : Type 0 where
   Silent : Kind
   Callers : Kind
 
--- a user as plain data: its kind, a count, a list of texts
+-- what a user hears: that the connection was made, with the peer's number; a message; that a text of its own was refused, and why; that it
+-- was released
+pub data Heard : Type 0 where
+  Connected : (peer : ℕ) → Heard
+  Message : (text : List ℕ) → Heard
+  Refused : (text : List ℕ) (why : SendRefusal) → Heard
+  Released : (reason sub : ℕ) (by_peer : Bool) → Heard
+
+-- a user as plain data: its kind, a count, a list of texts, and what it tells that it heard, in order, where it tells that
 pub record Mind : Type 0 where
   pub kind : Kind
   pub count : ℕ
   pub texts : List (List ℕ)
+  pub told : Option (List Heard)
 
--- the mind of a kind as it is made
+-- the mind of a kind as it is made: the four kinds tell nothing
 abbrev pub mind_of : Kind → List (List ℕ) → Mind
-mind_of kind texts = record { kind = kind; count = 0; texts = texts }
+mind_of kind texts = record { kind = kind; count = 0; texts = texts; told = None }
 
--- what a user hears: that the connection was made, with the peer's number; a message; that it was released
-pub data Heard : Type 0 where
-  Connected : (peer : ℕ) → Heard
-  Message : (text : List ℕ) → Heard
-  Released : (reason sub : ℕ) (by_peer : Bool) → Heard
+-- what is told behind something that was heard: a user that tells what it heard tells this behind it, and one that doesn't never begins to
+abbrev pub tells_more : Option (List Heard) → Heard → Option (List Heard)
+tells_more None heard = None
+tells_more (Some before) heard = Some (before ++ heard ∷ [])
+
+-- the same mind, which heard this
+abbrev pub noting : Heard → Mind → Mind
+noting heard mind = record mind { told = tells_more mind.told heard }
 
 -- the mind that a user has behind what it heard, and its replies: texts, and the sub-reason with which it leaves
 pub record Said : Type 0 where
@@ -54,12 +67,14 @@ counting mind = record mind { count = counted mind.count }
 abbrev pub echo : Mind → Heard → Said
 echo mind (Connected peer) = quiet mind
 echo mind (Message text) = says mind (text ∷ [])
+echo mind (Refused text why) = quiet mind
 echo mind (Released reason sub by_peer) = quiet mind
 
 -- a Tally says how many messages it heard, this one included
 abbrev pub tally : Mind → Heard → Said
 tally mind (Connected peer) = quiet mind
 tally mind (Message text) = says (counting mind) (decimal (counted mind.count) ∷ [])
+tally mind (Refused text why) = quiet mind
 tally mind (Released reason sub by_peer) = quiet mind
 
 -- a Lister says its texts when it is connected, and leaves with sub-reason 0 at the message that makes the count of messages equal
@@ -71,15 +86,27 @@ lister mind (Message text) = record {
   texts = [];
   leave = if counted mind.count == length mind.texts then Some 0 else None;
 }
+lister mind (Refused text why) = quiet mind
 lister mind (Released reason sub by_peer) = quiet mind
 
--- what a user says to what it hears, by its kind. A kind of a caller's own says anything, and has any mind then: `free`
+-- a kind of a caller's own says anything, and has any mind then: `free`. To a refusal nobody replies, and no mind changes
+abbrev pub callers : Mind → Heard → Said → Said
+callers mind (Connected peer) free = free
+callers mind (Message text) free = free
+callers mind (Refused text why) free = quiet mind
+callers mind (Released reason sub by_peer) free = free
+
+-- and it tells that it heard this, where it tells what it hears
+abbrev pub telling : Mind → Heard → Said → Said
+telling mind heard a = record a { mind = record a.mind { told = tells_more mind.told heard } }
+
+-- what a user says to what it hears, by its kind
 unfoldable pub said : Kind → Mind → Heard → Said → Said
-said Echo mind heard free = echo mind heard
-said Tally mind heard free = tally mind heard
-said Lister mind heard free = lister mind heard
-said Silent mind heard free = quiet mind
-said Callers mind heard free = free
+said Echo mind heard free = telling mind heard (echo mind heard)
+said Tally mind heard free = telling mind heard (tally mind heard)
+said Lister mind heard free = telling mind heard (lister mind heard)
+said Silent mind heard free = telling mind heard (quiet mind)
+said Callers mind heard free = telling mind heard (callers mind heard free)
 
 -- a user of this mind that hears this has that mind then, and these are its replies
 abbrev pub Hears : Mind → Heard → Mind → Spoken → Type 0

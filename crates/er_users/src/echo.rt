@@ -4,6 +4,7 @@ ghost use Rattle.er_users.specs.Users.{Echo as a_kind, mind_of};
 
 use crate::replies::Replies;
 use crate::user::SafeUser;
+use er_end::SendRefused;
 use std::marker::Model;
 
 /// A user that says each message back.
@@ -38,6 +39,9 @@ impl SafeUser for Echo {
     fn message(&mut self, text: &[u8], out: &mut Replies) {
         out.say(text);
     }
+
+    #[tactic(auto, unfolding(crate::specs::Users::said))]
+    fn refused(&mut self, _text: &[u8], _why: &SendRefused) {}
 
     #[tactic(auto, unfolding(crate::specs::Users::said))]
     fn released(&mut self, _reason: u8, _sub: u8, _by_peer: bool) {}

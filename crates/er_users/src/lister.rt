@@ -1,10 +1,11 @@
 // A user that says a list of texts.
-ghost use Rattle.std.specs.Prelude.{◌≡◌, ◌≤◌, ◌++◌, map, take, length, All, vec_len};
+ghost use Rattle.std.specs.Prelude.{◌≡◌, ◌≤◌, ◌++◌, map, take, length, All, vec_len, None};
 ghost use Rattle.er_users.specs.Saying.{IsText, Spoken, nothing};
 ghost use Rattle.er_users.specs.Users.{Lister as a_kind, mind_of};
 
 use crate::replies::Replies;
 use crate::user::SafeUser;
+use er_end::SendRefused;
 use std::marker::Model;
 
 /// A user that says its texts when it is connected, and leaves with sub-reason 0 at the message that makes the count of
@@ -16,13 +17,13 @@ pub struct Lister {
 }
 
 impl Model for Lister {
-    ghost use Rattle.std.specs.Prelude.{◌≤◌, map, All, vec_len};
+    ghost use Rattle.std.specs.Prelude.{◌≤◌, map, All, vec_len, None};
     ghost use Rattle.er_users.specs.Saying.{IsText};
     ghost use Rattle.er_users.specs.Users.{Mind, Lister as a_kind};
 
     ghost Value = { Mind };
 
-    ghost view = { λ l. record { kind = a_kind; count = l.count; texts = map (λ text. text.items) l.texts.items } };
+    ghost view = { λ l. record { kind = a_kind; count = l.count; texts = map (λ text. text.items) l.texts.items; told = None } };
 
     ghost invariant = { λ l. (vec_len l.texts ≤ 8) × All IsText (map (λ text. text.items) l.texts.items) };
 }
@@ -52,7 +53,7 @@ fn say_all(texts: &[Vec<u8>], out: &mut Replies)
 }
 
 impl SafeUser for Lister {
-    ghost mind = { λ mind. record mind { kind = a_kind } };
+    ghost mind = { λ mind. record mind { kind = a_kind; told = None } };
 
     #[tactic(auto, unfolding(crate::specs::Users::said))]
     fn connected(&mut self, _peer: u32, out: &mut Replies) {
@@ -66,6 +67,9 @@ impl SafeUser for Lister {
             out.leave(0);
         }
     }
+
+    #[tactic(auto, unfolding(crate::specs::Users::said))]
+    fn refused(&mut self, _text: &[u8], _why: &SendRefused) {}
 
     #[tactic(auto, unfolding(crate::specs::Users::said))]
     fn released(&mut self, _reason: u8, _sub: u8, _by_peer: bool) {}

@@ -1,9 +1,10 @@
 // A user that counts.
-ghost use Rattle.std.specs.Prelude.{◌≡◌, []};
+ghost use Rattle.std.specs.Prelude.{◌≡◌, [], None};
 ghost use Rattle.er_users.specs.Users.{Tally as a_kind, mind_of};
 
 use crate::replies::Replies;
 use crate::user::SafeUser;
+use er_end::SendRefused;
 use itoa::Buffer;
 use std::marker::Model;
 
@@ -15,12 +16,12 @@ pub struct Tally {
 }
 
 impl Model for Tally {
-    ghost use Rattle.std.specs.Prelude.{[]};
+    ghost use Rattle.std.specs.Prelude.{[], None};
     ghost use Rattle.er_users.specs.Users.{Mind, Tally as a_kind};
 
     ghost Value = { Mind };
 
-    ghost view = { λ t. record { kind = a_kind; count = t.count; texts = [] } };
+    ghost view = { λ t. record { kind = a_kind; count = t.count; texts = []; told = None } };
 }
 
 impl Tally {
@@ -33,7 +34,7 @@ impl Tally {
 }
 
 impl SafeUser for Tally {
-    ghost mind = { λ mind. record mind { kind = a_kind } };
+    ghost mind = { λ mind. record mind { kind = a_kind; told = None } };
 
     #[tactic(auto, unfolding(crate::specs::Users::said))]
     fn connected(&mut self, _peer: u32, _out: &mut Replies) {}
@@ -44,6 +45,9 @@ impl SafeUser for Tally {
         let mut digits = Buffer::new();
         out.say(digits.format(self.count).as_bytes());
     }
+
+    #[tactic(auto, unfolding(crate::specs::Users::said))]
+    fn refused(&mut self, _text: &[u8], _why: &SendRefused) {}
 
     #[tactic(auto, unfolding(crate::specs::Users::said))]
     fn released(&mut self, _reason: u8, _sub: u8, _by_peer: bool) {}

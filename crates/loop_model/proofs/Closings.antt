@@ -42,7 +42,7 @@ steady r = record {
   given = λ m s g allowed fits. tt;
   stalls = λ m s g allowed fits. tt;
   heard = λ s mind. tt;
-  parts = λ s at gone. tt;
+  parts = λ s told at gone. tt;
 }
 
 bare : Bare Opens

@@ -34,7 +34,7 @@ steady r = record {
   given = λ m s g allowed fits. refl;
   stalls = λ m s g allowed fits. refl;
   heard = λ s mind. refl;
-  parts = λ s at gone. refl;
+  parts = λ s told at gone. refl;
 }
 
 bare : Bare NoTurn

@@ -196,7 +196,7 @@ unheard r = record {
   given = λ m s g allowed fits. ap (λ z. z || false) (none_written s.end g allowed);
   stalls = λ m s g allowed fits. ap (λ z. z || false) (none_written s.end g allowed);
   heard = λ s mind. refl;
-  parts = λ s at gone. refl;
+  parts = λ s told at gone. refl;
 }
 
 usual : Usual IsUnheard
@@ -295,7 +295,7 @@ module _ (plan : Plan) where
         let k = end_after model_ends r m s.end g in
         ap (λ z. (happens plan.settings (key_at plan.keys) m (written_as model_ends k Stalls) z).0) (leads_one m s.end g p) ∙ leads_one m k Stalls tt;
     heard = λ s mind. refl;
-    parts = λ s at gone. refl;
+    parts = λ s told at gone. refl;
   }
 
   leads_bare : Bare Leads
@@ -731,7 +731,7 @@ module _ (r : Rules) where
         (drops_one s t (entry_of model_ends r m s g) (breaks g) refl (stall_breaks s.end g) (λ e. none_written s.end g allowed))
         (drops_one t _ (entry_of model_ends r m (record s { end = k }) Stalls) true (sym (or_true t.broken)) (λ e. refl) (λ e. refl));
     heard = λ s mind. drops_same s _ (λ e. e);
-    parts = λ s at gone. drops_same s _ (λ e. e);
+    parts = λ s told at gone. drops_same s _ (λ e. e);
   }
 
   drops_handled : (m : ℕ) (s : Session ModelEnd) (g : Given) (says : Says) → (s.broken ≡ true → is_octets (written_as model_ends s.end g) ≡ false)

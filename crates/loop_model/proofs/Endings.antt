@@ -63,7 +63,7 @@ steady r = record {
   given = λ m s g allowed fits. rw (no_end s.end g allowed) refl;
   stalls = λ m s g allowed fits. rw (no_end s.end g allowed) refl;
   heard = λ s mind. refl;
-  parts = λ s at gone. refl;
+  parts = λ s told at gone. refl;
 }
 
 usual : Usual IsNoEnd

@@ -17,7 +17,7 @@ use Rattle.link_trait.specs.declared.wires.WriteAnswer.{WriteAnswer}
 use Rattle.link_trait.specs.declared.wires.WriteAnswer.TheVariants as write
 use Rattle.loop_model.specs.Journals.{Entry}
 use Rattle.loop_model.specs.Outs.{Out, runs, acts, exactly, first_of}
-use Rattle.loop_model.specs.Sessions.{Rules, Session, Given, Begins, Hears, Takes, Ticks, Ends, Faults, Stalls, is_released, most_output, end_after, outcomes_of, entry_of, octets_in, joined, fed, heard_in, hears, silence, dealt, waiting, takes_all, parts, Says, nothing_said, handled, poured, pours}
+use Rattle.loop_model.specs.Sessions.{Rules, Session, Given, Begins, Hears, Sends, Takes, Leaves, Ticks, Ends, Faults, Stalls, is_released, most_output, end_after, outcomes_of, entry_of, octets_in, joined, fed, replied, refused_in, refusal_heard, notes, heard_in, hears, silence, dealt, waiting, takes_all, parts, Says, nothing_said, handled, poured, pours}
 use Rattle.loop_model.specs.Visits.{most_read, Flow, Going, PutOff, Failing, after_write, writes_if, writes_once, writes, Wrote, fault_unless, flowed, written_unless, written, settled, rests, rests_behind, Visit, Tick, Read, Write, Expire, Met, is_due, came, read_once, served, visited}
 use Rattle.loop_model.specs.Loops.{Plan, rules_of, Loop, begun, answering, Caller, calling, Course, Turn, run, Dialled, dials}
 use Rattle.loop_model.specs.Parts.{of, calls_at}
@@ -73,10 +73,28 @@ module _ (r : Rules) (m : ℕ) where
   fed_same s g =
       elim (cases_Bool (nat_lt most_output (length s.output + length (octets_in (outcomes_of model_ends r m s.end g))))) [ inl p ↦ rw p (refl, refl) | inr p ↦ rw p (refl, refl) ]
 
-  runs_same : (gs : List Given) (s : Session ModelEnd) → Same s (runs (fed model_ends r m) s gs).0
+  notes_same : (heard : Option Heard) (mind : Option Mind) → is_some (notes heard mind) ≡ is_some mind
+  notes_same heard None = refl
+  notes_same heard (Some mind) = refl
+
+  replied_same : (s : Session ModelEnd) (g : Given) → Same s (replied model_ends r m s g).0
+  unfolding Same
+  replied_same s (Begins engine rbc rb) = fed_same s (Begins engine rbc rb)
+  replied_same s (Hears octets) = fed_same s (Hears octets)
+  replied_same s (Sends text) =
+      ((fed_same s (Sends text)).0, notes_same (refusal_heard text (refused_in (outcomes_of model_ends r m s.end (Sends text)))) s.mind)
+  replied_same s Takes = fed_same s Takes
+  replied_same s (Leaves sub) = fed_same s (Leaves sub)
+  replied_same s Ticks = fed_same s Ticks
+  replied_same s Ends = fed_same s Ends
+  replied_same s Faults = fed_same s Faults
+  replied_same s Stalls = fed_same s Stalls
+
+  runs_same : (gs : List Given) (s : Session ModelEnd) → Same s (runs (replied model_ends r m) s gs).0
   unfolding Same runs
   runs_same [] s = (refl, refl)
-  runs_same (g ∷ gs) s = same_then s (fed model_ends r m s g).0 (runs (fed model_ends r m) (fed model_ends r m s g).0 gs).0 (fed_same s g) (runs_same gs (fed model_ends r m s g).0)
+  runs_same (g ∷ gs) s =
+      same_then s (replied model_ends r m s g).0 (runs (replied model_ends r m) (replied model_ends r m s g).0 gs).0 (replied_same s g) (runs_same gs (replied model_ends r m s g).0)
 
   dealt_same : (s : Session ModelEnd) (g : Given) (free : Said) → Same s (dealt model_ends r m s g free).0
   unfolding Same dealt
@@ -348,7 +366,7 @@ module _ (steps : StepsAlike) (made : MadeStands) (shows : ShowsAlike) (stays : 
         marked_more s _ xs (entry_of model_ends rules m s g ∷ entry_of model_ends rules m (record s { end = k }) Stalls ∷ []) h ((printings.q_steady steps made plan allowed).stalls m s g p fits).1 (λ q. out)
         (λ e live gone. mark_some (entry_of model_ends rules m s g ∷ entry_of model_ends rules m (record s { end = k }) Stalls ∷ []) e live (gone ∙ out) ∙ sym out);
     heard = λ s mind. marks_nothing s (record s { mind = mind }) refl;
-    parts = λ s at gone. marks_nothing s (record s { mind = None; closing = Some at }) refl;
+    parts = λ s told at gone. marks_nothing s (record s { mind = None; told = told; closing = Some at }) refl;
   }
 
   marks_calls : Calls rules Marks

@@ -62,7 +62,7 @@ steady r = record {
   given = λ m s g allowed fits. subst (λ z. one_if z + 0 ≤ 0) (sym (no_fault s.end g allowed)) (omega arith);
   stalls = λ m s g allowed fits. subst (λ z. one_if z + (0 + 0) ≤ 0) (sym (no_fault s.end g allowed)) (omega arith);
   heard = λ s mind. omega arith;
-  parts = λ s at gone. omega arith;
+  parts = λ s told at gone. omega arith;
 }
 
 usual : Usual IsNoFault

@@ -213,7 +213,7 @@ module _ (steps : StepsAlike) (made : MadeStands) (shows : ShowsAlike) (stays : 
         (plain s _ xs (entry_of model_ends r m s g ∷ entry_of model_ends r m (record s { end = k }) Stalls ∷ []) cs h ((printings.q_steady steps made plan allowed).stalls m s g (of_end g p) fits).1
         (two_none (entry_of model_ends r m s g) (entry_of model_ends r m (record s { end = k }) Stalls) (no_fault s.end g p) refl) (λ q. breaks_released stays breaks_release r m k Stalls refl));
     heard = λ s mind. nothing s (record s { mind = mind }) refl;
-    parts = λ s at gone. nothing s (record s { mind = None; closing = Some at }) refl;
+    parts = λ s told at gone. nothing s (record s { mind = None; told = told; closing = Some at }) refl;
   }
 
   -- a call that doesn't fail

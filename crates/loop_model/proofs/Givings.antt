@@ -132,7 +132,7 @@ steady r = record {
       breaks_off s (record s { end = end_after model_ends r m (end_after model_ends r m s.end g) Stalls; broken = true })
       (entry_of model_ends r m s g ∷ entry_of model_ends r m (record s { end = end_after model_ends r m s.end g }) Stalls ∷ []) refl;
   heard = λ s mind. waits s (record s { mind = mind }) [] (sym (append-nil s.output)) (λ p. p);
-  parts = λ s at gone. waits s (record s { mind = None; closing = Some at }) [] (sym (append-nil s.output)) (λ p. p);
+  parts = λ s told at gone. waits s (record s { mind = None; told = told; closing = Some at }) [] (sym (append-nil s.output)) (λ p. p);
 }
 
 take_and_drop : (n : ℕ) (xs : List ℕ) → take n xs ++ drop n xs ≡ xs

@@ -132,7 +132,7 @@ unheard r = record {
   given = λ m s g allowed fits. ap (λ z. z ++ []) (none_heard s.end g allowed);
   stalls = λ m s g allowed fits. ap (λ z. z ++ []) (none_heard s.end g allowed);
   heard = λ s mind. refl;
-  parts = λ s at gone. refl;
+  parts = λ s told at gone. refl;
 }
 
 usual_unheard : Usual IsUnheard
@@ -164,7 +164,7 @@ breaking r = record {
   given = λ m s g allowed fits calm whole. or_none s.broken (breaks g) whole allowed;
   stalls = λ m s g allowed fits calm whole. absurd (true≢false (or_second (is_stalled (written model_ends s.end g)) true calm));
   heard = λ s mind calm whole. whole;
-  parts = λ s at gone calm whole. whole;
+  parts = λ s told at gone calm whole. whole;
 }
 
 usual_whole : Usual IsWhole
@@ -191,7 +191,7 @@ module _ (stays : ReleaseStays) (breaks_release : BreaksRelease) (uses : Uses) (
     given = λ m s g allowed fits p. (not_released m s.end g p, or_none (is_stalled (written model_ends s.end g)) false (calm s.end g (not_breaking m s.end g p)) refl);
     stalls = λ m s g allowed fits p. absurd (true≢false (sym (breaks_released stays breaks_release r m (end_after model_ends r m s.end g) Stalls refl) ∙ p));
     heard = λ s mind p. (p, refl);
-    parts = λ s at gone p. absurd (true≢false (sym gone ∙ p));
+    parts = λ s told at gone p. absurd (true≢false (sym gone ∙ p));
   }
 
   any_usual : Usual (λ g. Unit {0})

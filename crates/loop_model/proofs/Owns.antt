@@ -81,7 +81,7 @@ steady_both r Allowed P Q p q = record {
   given = λ m s g allowed fits. (p.given m s g allowed fits, q.given m s g allowed fits);
   stalls = λ m s g allowed fits. (p.stalls m s g allowed fits, q.stalls m s g allowed fits);
   heard = λ s mind. (p.heard s mind, q.heard s mind);
-  parts = λ s at gone. (p.parts s at gone, q.parts s at gone);
+  parts = λ s told at gone. (p.parts s told at gone, q.parts s told at gone);
 }
 
 pub calls_both : (r : Rules) (P Q : Session ModelEnd → Session ModelEnd → List Entry → List Call → Type 0) → Calls r P → Calls r Q → Calls r (Both P Q)
@@ -168,7 +168,7 @@ own_steady r = record {
       own_two s (record s { end = end_after model_ends r m (end_after model_ends r m s.end g) Stalls; broken = true }) (entry_of model_ends r m s g)
       (entry_of model_ends r m (record s { end = end_after model_ends r m s.end g }) Stalls) refl refl refl;
   heard = λ s mind. own_same s (record s { mind = mind }) refl;
-  parts = λ s at gone. own_same s (record s { mind = None; closing = Some at }) refl;
+  parts = λ s told at gone. own_same s (record s { mind = None; told = told; closing = Some at }) refl;
 }
 
 pub own_bare : Bare Own

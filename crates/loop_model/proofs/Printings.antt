@@ -151,7 +151,7 @@ module _ (steps : StepsAlike) (made : MadeStands) (plan : Plan) (allowed : AllAl
         on s.end k (end_after model_ends (rules_of plan) m k Stalls) (entry_of model_ends (rules_of plan) m s g ∷ [])
         (entry_of model_ends (rules_of plan) m (record s { end = k }) Stalls ∷ []) (one m s.number s.end g p) (one m s.number k Stalls tt);
     heard = λ s mind. stays s.end;
-    parts = λ s at gone. stays s.end;
+    parts = λ s told at gone. stays s.end;
   }
 
   bare : Bare Goes

@@ -59,7 +59,7 @@ steady r = record {
   given = λ m s g allowed fits. calm_none;
   stalls = λ m s g allowed fits. calm_none;
   heard = λ s mind. calm_none;
-  parts = λ s at gone. calm_none;
+  parts = λ s told at gone. calm_none;
 }
 
 bare : Bare Calm

@@ -83,7 +83,7 @@ plainly r m = record {
     (record { moment = refl; conn = refl; role = of_end s.end g allowed }, (record { moment = refl; conn = refl; role = refl }, tt)),
   );
   heard = λ s mind. (refl, tt);
-  parts = λ s at gone. (refl, tt);
+  parts = λ s told at gone. (refl, tt);
 }
 
 plain_bare : (m : ℕ) → Bare (Plainly m)
@@ -161,7 +161,7 @@ belonging r = record {
   given = λ m s g allowed fits. rw (of_end s.end g allowed) refl;
   stalls = λ m s g allowed fits. rw (of_end s.end g allowed) refl;
   heard = λ s mind. refl;
-  parts = λ s at gone. refl;
+  parts = λ s told at gone. refl;
 }
 
 belonging_bare : Bare Belonging

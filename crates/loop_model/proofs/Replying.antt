@@ -20,6 +20,7 @@ use Rattle.loop_model.specs.Loops.{Plan, rules_of, Loop, most_live, with_session
 use Rattle.loop_model.specs.Parts.{session_of, of, opened_in, Rises, newest}
 use Rattle.loop_model.specs.Laws.{IsServing, IsDialling}
 use Rattle.loop_model.specs.Points.{speech_of, user_of, AreDeclined, IsSpoken, UsersReply}
+use Rattle.loop_model.specs.Told.{IsHeard, UsersHear}
 use Rattle.loop_model.proofs.Projections.{of-append, opened_in-append as opens-append, rises_first, rises_rest, newest-append}
 use Rattle.loop_model.proofs.Steadies.{Calls, AllLeft, all_left_of, Left as LeftBy, Stays, Closed, steady_handled, left_served}
 use Rattle.loop_model.proofs.Lives.{Own, Keeps, LeftAt, own_left, Moved, Absent, Found, moved, Knows, knows_none, knows_moved, knows_turned, accepted_above, knows_opened, knows_away}
@@ -28,7 +29,8 @@ use Rattle.loop_model.proofs.Owns.{Both, calls_both, own_steady}
 use Rattle.loop_model.proofs.Momentwise.{Momentwise, moment_run}
 use Rattle.loop_model.proofs.Orders.{own_calls}
 use Rattle.loop_model.proofs.Replaying.{ArePlain, plain_visit, begins, any_usual, CallsSo, served_so}
-use Rattle.loop_model.proofs.Speaking.{Ready, Speaks, Spoke, leads-append, speaks_calls, called_speaks}
+use Rattle.loop_model.proofs.Speaking.{Ready, Speaks, speaks_calls, called_speaks, ready_told}
+use Rattle.loop_model.specs.Speeches.{Spoke, leads-append}
 
 -- ---- which user
 
@@ -115,13 +117,13 @@ unfolding of
 one_of conn x = refl
 
 new_ready : (plan : Plan) (l : Loop ModelEnd) (conn : ℕ) (mind : Mind) → Ready (begun conn (answering model_ends plan l) mind)
-new_ready plan l conn mind = record { waits = refl; gone = λ e. absurd (no mind e) }
+new_ready plan l conn mind = record { waits = refl; gone = λ e. absurd (no mind e); there = λ k e. refl }
   where
     no : (mind : Mind) → Some mind ≡ None → ⊥
     no mind e = cc
 
 call_ready : (plan : Plan) (caller : Caller) (l : Loop ModelEnd) (conn : ℕ) (mind : Mind) → Ready (begun conn (calling model_ends plan caller l) mind)
-call_ready plan caller l conn mind = record { waits = refl; gone = λ e. absurd (no mind e) }
+call_ready plan caller l conn mind = record { waits = refl; gone = λ e. absurd (no mind e); there = λ k e. refl }
   where
     no : (mind : Mind) → Some mind ≡ None → ⊥
     no mind e = cc
@@ -163,7 +165,7 @@ module _ (waits : WaitsMove) (bring : OctetsBring) (stays : ReleaseStays) (break
     -- a connection whose user is this one
     SaidBy : Option (Session ModelEnd) → Option Mind → List Entry → Type 0
     SaidBy None user xs = IsSpoken user xs
-    SaidBy (Some s) user xs = (mind : Mind) × (user ≡ Some mind) × Ready s × Spoke (rules_of plan) mind s.mind xs
+    SaidBy (Some s) user xs = (mind : Mind) × (user ≡ Some mind) × Ready s × Spoke model_ends (rules_of plan) mind s xs
 
     record Said (l : Loop ModelEnd) (js : List Entry) (bs : List Call) : Type 0 where
       known : Known js bs l.sessions
@@ -294,17 +296,22 @@ module _ (waits : WaitsMove) (bring : OctetsBring) (stays : ReleaseStays) (break
     spoken_at None user xs h = h
     spoken_at (Some s) user xs (mind, e, ready, p) = subst (λ z. IsSpoken z xs) (sym e) (p.last, p.leads)
 
-    run_spoken : (c : Course ModelEnd) (turns : List Turn) → IsServing plan c turns → c.loop.users ≡ users
-        → (conn : ℕ) → IsSpoken (user_of conn (run model_ends plan c turns).entries users) (of conn (run model_ends plan c turns).entries)
+    heard_by : (o : Option (Session ModelEnd)) (user : Option Mind) (xs : List Entry) → SaidBy o user xs → IsHeard o user xs
+    unfolding SaidBy
+    heard_by None user xs h = tt
+    heard_by (Some s) user xs (mind, e, ready, p) = (mind, e, ready_told (rules_of plan) mind s xs ready p)
+
+    run_said : (c : Course ModelEnd) (turns : List Turn) → IsServing plan c turns → c.loop.users ≡ users
+        → (conn : ℕ) → SaidBy (session_of conn (run model_ends plan c turns).state.loop.sessions) (user_of conn (run model_ends plan c turns).entries users)
+        (of conn (run model_ends plan c turns).entries)
     unfolding Goes SaidBy opened_in session_of user_of of left_behind
-    run_spoken c turns h e conn =
+    run_said c turns h e conn =
         let start : Said c.loop [] [] = record {
           known = rw h.none (knows_none plan Q q_calls own K E keeps);
           left = sym e;
           said = λ n. rw h.none tt;
         } in
-        let o = run model_ends plan c turns in
-        spoken_at (session_of conn o.state.loop.sessions) (user_of conn o.entries users) (of conn o.entries) ((moment_run plan Goes wise c turns [] [] h.rises start).said conn)
+        (moment_run plan Goes wise c turns [] [] h.rises start).said conn
 
     -- ---- a dial
 
@@ -396,7 +403,8 @@ module _ (waits : WaitsMove) (bring : OctetsBring) (stays : ReleaseStays) (break
 
     dial_on : (caller : Caller) (d : Course ModelEnd) (conn : ℕ) (address : List ℕ) (a : Met) (turns : List Turn) → d.loop.sessions ≡ [] → d.loop.users ≡ users
         → Rises 0 (opened_in (Dials address (Some conn) ∷ ((opens model_ends plan caller d conn a).calls ++ (run model_ends plan (opens model_ends plan caller d conn a).state turns).calls)))
-        → (n : ℕ) → IsSpoken (user_of n ((opens model_ends plan caller d conn a).entries ++ (run model_ends plan (opens model_ends plan caller d conn a).state turns).entries) users)
+        → (n : ℕ) → SaidBy (session_of n (run model_ends plan (opens model_ends plan caller d conn a).state turns).state.loop.sessions)
+        (user_of n ((opens model_ends plan caller d conn a).entries ++ (run model_ends plan (opens model_ends plan caller d conn a).state turns).entries) users)
         (of n ((opens model_ends plan caller d conn a).entries ++ (run model_ends plan (opens model_ends plan caller d conn a).state turns).entries))
     unfolding Goes called
     dial_on caller d conn address a turns none is rises n =
@@ -411,23 +419,56 @@ module _ (waits : WaitsMove) (bring : OctetsBring) (stays : ReleaseStays) (break
           left = f.left;
           said = f.said;
         } in
-        let went = moment_run plan Goes wise o.state turns o.entries bs (rises_rest 0 (opened_in bs) (opened_in e.calls) s) start in
-        spoken_at (session_of n e.state.loop.sessions) (user_of n (o.entries ++ e.entries) users) (of n (o.entries ++ e.entries)) (went.said n)
+        (moment_run plan Goes wise o.state turns o.entries bs (rises_rest 0 (opened_in bs) (opened_in e.calls) s) start).said n
 
     dial_to : (conn : Option ℕ) (caller : Caller) (c : Course ModelEnd) (address : List ℕ) (a : Dialled) → c.loop.sessions ≡ [] → c.loop.users ≡ users
         → Rises 0 (opened_in (dials_to model_ends conn plan caller c address a).calls)
-        → (n : ℕ) → IsSpoken (user_of n (dials_to model_ends conn plan caller c address a).entries users) (of n (dials_to model_ends conn plan caller c address a).entries)
-    unfolding user_of of
-    dial_to None caller c address a none is rises n = tt
+        → (n : ℕ) → SaidBy (session_of n (dials_to model_ends conn plan caller c address a).state.loop.sessions)
+        (user_of n (dials_to model_ends conn plan caller c address a).entries users) (of n (dials_to model_ends conn plan caller c address a).entries)
+    unfolding SaidBy session_of user_of of
+    dial_to None caller c address a none is rises n = rw none tt
     dial_to (Some conn) caller c address a none is rises n = dial_on caller (asks a.first c) conn address a.met a.turns none is rises n
+
+    dial_said : (caller : Caller) (c : Course ModelEnd) (address : List ℕ) (a : Dialled) → IsDialling plan caller c address a → c.loop.users ≡ users
+        → (n : ℕ) → SaidBy (session_of n (dials model_ends plan caller c address a).state.loop.sessions)
+        (user_of n (dials model_ends plan caller c address a).entries users) (of n (dials model_ends plan caller c address a).entries)
+    unfolding dials
+    dial_said caller c address a h is n = dial_to a.conn caller c address a h.none is h.rises n
+
+    run_spoken : (c : Course ModelEnd) (turns : List Turn) → IsServing plan c turns → c.loop.users ≡ users
+        → (conn : ℕ) → IsSpoken (user_of conn (run model_ends plan c turns).entries users) (of conn (run model_ends plan c turns).entries)
+    run_spoken c turns h e conn =
+        let o = run model_ends plan c turns in
+        spoken_at (session_of conn o.state.loop.sessions) (user_of conn o.entries users) (of conn o.entries) (run_said c turns h e conn)
+
+    run_heard : (c : Course ModelEnd) (turns : List Turn) → IsServing plan c turns → c.loop.users ≡ users
+        → (conn : ℕ) → IsHeard (session_of conn (run model_ends plan c turns).state.loop.sessions) (user_of conn (run model_ends plan c turns).entries users)
+        (of conn (run model_ends plan c turns).entries)
+    run_heard c turns h e conn =
+        let o = run model_ends plan c turns in
+        heard_by (session_of conn o.state.loop.sessions) (user_of conn o.entries users) (of conn o.entries) (run_said c turns h e conn)
 
     dial_spoken : (caller : Caller) (c : Course ModelEnd) (address : List ℕ) (a : Dialled) → IsDialling plan caller c address a → c.loop.users ≡ users
         → (n : ℕ) → IsSpoken (user_of n (dials model_ends plan caller c address a).entries users) (of n (dials model_ends plan caller c address a).entries)
-    unfolding dials
-    dial_spoken caller c address a h is n = dial_to a.conn caller c address a h.none is h.rises n
+    dial_spoken caller c address a h is n =
+        let o = dials model_ends plan caller c address a in
+        spoken_at (session_of n o.state.loop.sessions) (user_of n o.entries users) (of n o.entries) (dial_said caller c address a h is n)
+
+    dial_heard : (caller : Caller) (c : Course ModelEnd) (address : List ℕ) (a : Dialled) → IsDialling plan caller c address a → c.loop.users ≡ users
+        → (n : ℕ) → IsHeard (session_of n (dials model_ends plan caller c address a).state.loop.sessions) (user_of n (dials model_ends plan caller c address a).entries users)
+        (of n (dials model_ends plan caller c address a).entries)
+    dial_heard caller c address a h is n =
+        let o = dials model_ends plan caller c address a in
+        heard_by (session_of n o.state.loop.sessions) (user_of n o.entries users) (of n o.entries) (dial_said caller c address a h is n)
 
 pub users_reply : WaitsMove → OctetsBring → ReleaseStays → BreaksRelease → ReleasedWantNone → ReleasedTellNone → UsersReply
 users_reply waits bring stays breaks_release wants_none tells_none = record {
   serving = λ plan c turns h. run_spoken waits bring stays breaks_release wants_none tells_none plan c.loop.users c turns h refl;
   dialling = λ plan caller c address a h. dial_spoken waits bring stays breaks_release wants_none tells_none plan c.loop.users caller c address a h refl;
+}
+
+pub users_hear : WaitsMove → OctetsBring → ReleaseStays → BreaksRelease → ReleasedWantNone → ReleasedTellNone → UsersHear
+users_hear waits bring stays breaks_release wants_none tells_none = record {
+  serving = λ plan c turns h. run_heard waits bring stays breaks_release wants_none tells_none plan c.loop.users c turns h refl;
+  dialling = λ plan caller c address a h. dial_heard waits bring stays breaks_release wants_none tells_none plan c.loop.users caller c address a h refl;
 }

@@ -11,7 +11,7 @@ use Rattle.er_users.specs.Users.{Mind, Heard, Said, said}
 use Rattle.link_trait.specs.Wires.{Call, Reading, Gave, NotNow, End, Failed, Reads}
 use Rattle.loop_model.specs.Journals.{Entry}
 use Rattle.loop_model.specs.Outs.{runs, exactly, first_of}
-use Rattle.loop_model.specs.Sessions.{Rules, Session, Given, Begins, Hears, Sends, Takes, Leaves, Ticks, Ends, Faults, Stalls, event_of, most_output, is_released, end_after, outcomes_of, octets_in, breaks, joined, fed, heard_in, leave_of, sends_of, hears, silence, dealt, waiting, takes_all, parts, Says, nothing_said, handled, poured, pours}
+use Rattle.loop_model.specs.Sessions.{Rules, Session, Given, Begins, Hears, Sends, Takes, Leaves, Ticks, Ends, Faults, Stalls, event_of, most_output, is_released, end_after, outcomes_of, octets_in, breaks, joined, fed, replied, heard_in, leave_of, sends_of, hears, silence, dealt, waiting, takes_all, parts, Says, nothing_said, handled, poured, pours}
 use Rattle.loop_model.specs.Visits.{most_read, came}
 use Rattle.loop_model.proofs.Steadies.{Steady, Quiet, Calls, runs_lift}
 use Rattle.loop_model.proofs.Owns.{Bare, AllGiven, usual_calls}
@@ -58,14 +58,14 @@ module _ (waits : WaitsMove) (bring : OctetsBring) (r : Rules) where
       ]
 
   sends_waits : (m : ℕ) (s : Session ModelEnd) (texts : List (List ℕ)) (leave : Option ℕ)
-      → waiting_in (runs (fed model_ends r m) s (sends_of texts ++ leave_of leave)).0.end ≡ waiting_in s.end
+      → waiting_in (runs (replied model_ends r m) s (sends_of texts ++ leave_of leave)).0.end ≡ waiting_in s.end
   unfolding runs
   sends_waits m s [] None = refl
   sends_waits m s [] (Some sub) = fed_waits m s (Leaves sub) refl
-  sends_waits m s (text ∷ texts) leave = sends_waits m (fed model_ends r m s (Sends text)).0 texts leave ∙ fed_waits m s (Sends text) refl
+  sends_waits m s (text ∷ texts) leave = sends_waits m (replied model_ends r m s (Sends text)).0 texts leave ∙ fed_waits m s (Sends text) refl
 
   replies_waits : (m : ℕ) (s : Session ModelEnd) (mind : Option Mind) (heard : Option Heard) (free : Said)
-      → waiting_in (runs (fed model_ends r m) s (hears mind heard free).1).0.end ≡ waiting_in s.end
+      → waiting_in (runs (replied model_ends r m) s (hears mind heard free).1).0.end ≡ waiting_in s.end
   unfolding runs
   replies_waits m s None heard free = refl
   replies_waits m s (Some mind) None free = refl
@@ -163,7 +163,7 @@ module _ (stays : ReleaseStays) (breaks_release : BreaksRelease) (r : Rules) whe
       closing = λ p. breaks_released m (end_after model_ends r m s.end g) Stalls refl;
     };
     heard = λ s mind h. record { broken = h.broken; closing = h.closing };
-    parts = λ s at gone h. record { broken = h.broken; closing = λ p. gone };
+    parts = λ s told at gone h. record { broken = h.broken; closing = λ p. gone };
   }
 
   sounds_bare : Bare Sounds
@@ -196,5 +196,5 @@ module _ (stays : ReleaseStays) (breaks_release : BreaksRelease) (r : Rules) whe
     given = λ m s g allowed fits p. stays_released m s.end g p;
     stalls = λ m s g allowed fits p. breaks_released m (end_after model_ends r m s.end g) Stalls refl;
     heard = λ s mind p. p;
-    parts = λ s at gone p. gone;
+    parts = λ s told at gone p. gone;
   }

@@ -203,7 +203,7 @@ steady r = record {
         now = ap (λ z. waiting_then z (count_of y)) here ∙ silent_behind (length s.output) y b none;
       };
   heard = λ s mind. told_nothing s (record s { mind = mind }) refl;
-  parts = λ s at gone. told_nothing s (record s { mind = None; closing = Some at }) refl;
+  parts = λ s told at gone. told_nothing s (record s { mind = None; told = told; closing = Some at }) refl;
 }
 
 -- ---- events at a released session
@@ -296,7 +296,7 @@ module _ (stays : ReleaseStays) (breaks_release : BreaksRelease) (r : Rules) whe
         let none : length new ≡ 0 = ap length (released_none r m s.end g s.end.core.released refl gone p) in
         absurd (true≢false (sym fits ∙ ap (λ z. nat_lt most_output (length s.output + z)) none ∙ none_more (length s.output) b));
     heard = λ s mind. silent_nothing s (record s { mind = mind }) refl refl;
-    parts = λ s at gone. silent_nothing s (record s { mind = None; closing = Some at }) refl refl;
+    parts = λ s told at gone. silent_nothing s (record s { mind = None; told = told; closing = Some at }) refl refl;
   }
 
   -- a fault, with what follows it, where any number of octets waits
@@ -441,7 +441,7 @@ bounds r = record {
       subst (λ z. z ≤ most_output) (sym (length-append s.output new)) (ltb-false most_output (length s.output + length new) fits);
   stalls = λ m s g allowed fits b. b;
   heard = λ s mind b. b;
-  parts = λ s at gone b. b;
+  parts = λ s told at gone b. b;
 }
 
 less_few : (n : ℕ) (xs : List ℕ) → length xs ≤ most_output → length (drop n xs) ≤ most_output

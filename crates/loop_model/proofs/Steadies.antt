@@ -5,13 +5,13 @@ use Rattle.std.proofs.Common.{◌≡◌, ℕ, ◌+◌, inl, inr, Bool, true, fal
 use Rattle.std.specs.Prelude.{nat_lt, ◌==◌, is_some}
 use Rattle.std.proofs.lemmas.Bool.{cases_Bool}
 use Rattle.er_base.specs.declared.release.Release.{Release}
-use Rattle.er_users.specs.Users.{Mind, Heard, Said, said}
+use Rattle.er_users.specs.Users.{Mind, Heard, Released, Said, said, tells_more}
 use Rattle.link_trait.specs.Wires.{Call, Reading, Gave, NotNow, End, Failed, Reads, Writes, Closes}
 use Rattle.link_trait.specs.declared.wires.WriteAnswer.{WriteAnswer}
 use Rattle.link_trait.specs.declared.wires.WriteAnswer.TheVariants as write
 use Rattle.loop_model.specs.Journals.{Entry}
 use Rattle.loop_model.specs.Outs.{Out, still, next, makes, runs, acts, exactly, first_of}
-use Rattle.loop_model.specs.Sessions.{Rules, Session, Given, Hears, Sends, Takes, Leaves, Ticks, Faults, Stalls, most_output, is_released, end_after, outcomes_of, entry_of, octets_in, breaks, joined, fed, heard_in, leave_of, sends_of, hears, silence, dealt, waiting, takes_all, parts, parted, Says, nothing_said, handled, poured, pours}
+use Rattle.loop_model.specs.Sessions.{Rules, Session, Given, Hears, Sends, Takes, Leaves, Ticks, Faults, Stalls, most_output, is_released, end_after, outcomes_of, entry_of, octets_in, breaks, joined, fed, replied, refused_in, refusal_heard, notes, heard_in, leave_of, sends_of, hears, silence, dealt, waiting, takes_all, parts, parted, Says, nothing_said, handled, poured, pours}
 use Rattle.loop_model.specs.Visits.{most_read, Flow, Going, PutOff, Failing, after_write, writes_once, writes, Wrote, fault_unless, flowed, written_unless, written, settled, rests, Visit, Tick, Read, Write, Expire, Met, is_due, came, read_once, rests_behind, served, visited}
 
 -- ---- parts that print, parts that act
@@ -47,7 +47,7 @@ pub record SteadyAt (r : Rules) (m : ℕ) (Allowed : Given → Type 0) (Q : Sess
       → Q s (record s { end = end_after model_ends r m (end_after model_ends r m s.end g) Stalls; broken = true })
       (entry_of model_ends r m s g ∷ entry_of model_ends r m (record s { end = end_after model_ends r m s.end g }) Stalls ∷ []) []
   pub heard : (s : Session ModelEnd) (mind : Option Mind) → Q s (record s { mind = mind }) [] []
-  pub parts : (s : Session ModelEnd) (at : ℕ) → is_released model_ends s ≡ true → Q s (record s { mind = None; closing = Some at }) [] []
+  pub parts : (s : Session ModelEnd) (told : Option (List Heard)) (at : ℕ) → is_released model_ends s ≡ true → Q s (record s { mind = None; told = told; closing = Some at }) [] []
 
 -- at every moment
 pub record Steady (r : Rules) (Allowed : Given → Type 0) (Q : Session ModelEnd → Session ModelEnd → List Entry → List Call → Type 0) : Type 0 where
@@ -61,7 +61,7 @@ pub record Steady (r : Rules) (Allowed : Given → Type 0) (Q : Session ModelEnd
       → Q s (record s { end = end_after model_ends r m (end_after model_ends r m s.end g) Stalls; broken = true })
       (entry_of model_ends r m s g ∷ entry_of model_ends r m (record s { end = end_after model_ends r m s.end g }) Stalls ∷ []) []
   pub heard : (s : Session ModelEnd) (mind : Option Mind) → Q s (record s { mind = mind }) [] []
-  pub parts : (s : Session ModelEnd) (at : ℕ) → is_released model_ends s ≡ true → Q s (record s { mind = None; closing = Some at }) [] []
+  pub parts : (s : Session ModelEnd) (told : Option (List Heard)) (at : ℕ) → is_released model_ends s ≡ true → Q s (record s { mind = None; told = told; closing = Some at }) [] []
 
 -- the events that follow others are allowed
 pub record Usual (Allowed : Given → Type 0) : Type 0 where
@@ -76,16 +76,24 @@ module _ (r : Rules) (m : ℕ) (Allowed : Given → Type 0) (Q : Session ModelEn
       let b = nat_lt most_output (length s.output + length (octets_in (outcomes_of model_ends r m s.end g))) in
       elim (cases_Bool b) [ inl p ↦ rw p (q.stalls s g allowed p) | inr p ↦ rw p (q.given s g allowed p) ]
 
+  -- a text, and what the user hears of it
+  said_at : (s : Session ModelEnd) (text : List ℕ) → Q s (replied model_ends r m s (Sends text)).0 (replied model_ends r m s (Sends text)).1 []
+  said_at s text =
+      let a = fed model_ends r m s (Sends text) in
+      subst (λ z. Q s (replied model_ends r m s (Sends text)).0 z []) (append-nil a.1)
+      (q.then_ _ _ _ _ _ _ _ (fed_at s (Sends text) (usual.sends text))
+      (q.heard a.0 (notes (refusal_heard text (refused_in (outcomes_of model_ends r m s.end (Sends text)))) s.mind)))
+
   sends_at : (s : Session ModelEnd) (texts : List (List ℕ)) (leave : Option ℕ)
-      → Q s (runs (fed model_ends r m) s (sends_of texts ++ leave_of leave)).0 (runs (fed model_ends r m) s (sends_of texts ++ leave_of leave)).1 []
+      → Q s (runs (replied model_ends r m) s (sends_of texts ++ leave_of leave)).0 (runs (replied model_ends r m) s (sends_of texts ++ leave_of leave)).1 []
   unfolding runs
   sends_at s [] None = q.none s
   sends_at s [] (Some sub) = q.then_ _ _ _ _ _ _ _ (fed_at s (Leaves sub) (usual.leaves sub)) (q.none _)
   sends_at s (text ∷ texts) leave =
-      q.then_ _ _ _ _ _ _ _ (fed_at s (Sends text) (usual.sends text)) (sends_at (fed model_ends r m s (Sends text)).0 texts leave)
+      q.then_ _ _ _ _ _ _ _ (said_at s text) (sends_at (replied model_ends r m s (Sends text)).0 texts leave)
 
   replies_at : (s : Session ModelEnd) (mind : Option Mind) (heard : Option Heard) (free : Said)
-      → Q s (runs (fed model_ends r m) s (hears mind heard free).1).0 (runs (fed model_ends r m) s (hears mind heard free).1).1 []
+      → Q s (runs (replied model_ends r m) s (hears mind heard free).1).0 (runs (replied model_ends r m) s (hears mind heard free).1).1 []
   unfolding runs
   replies_at s None heard free = q.none s
   replies_at s (Some mind) None free = q.none s
@@ -111,7 +119,7 @@ module _ (r : Rules) (m : ℕ) (Allowed : Given → Type 0) (Q : Session ModelEn
   parts_at : (release : Option Release) (mind : Option Mind) (at : ℕ) (s : Session ModelEnd) → s.end.core.released ≡ release → Q s (parts release mind at s) [] []
   parts_at None mind at s is = q.none s
   parts_at (Some release) None at s is = q.none s
-  parts_at (Some release) (Some mind) at s is = q.parts s at (ap is_some is)
+  parts_at (Some release) (Some mind) at s is = q.parts s (tells_more mind.told (Released release.reason release.sub release.by_peer)) at (ap is_some is)
 
   pub handled_of_at : (s : Session ModelEnd) (g : Given) (says : Says)
       → Q s (fed model_ends r m s g).0 (fed model_ends r m s g).1 [] → Q s (handled model_ends r m s g says).0 (handled model_ends r m s g says).1 []
@@ -136,7 +144,7 @@ module _ (r : Rules) (m : ℕ) (Allowed : Given → Type 0) (Q : Session ModelEn
       let a = fed model_ends r m s g in
       let b = hears s.mind (heard_in (outcomes_of model_ends r m s.end g)) free in
       let t : Session ModelEnd = record a.0 { mind = b.0 } in
-      let c = runs (fed model_ends r m) t b.1 in
+      let c = runs (replied model_ends r m) t b.1 in
       record {
         rest = c.1;
         is = refl;

@@ -17,7 +17,7 @@ use Rattle.trace_model.specs.Connections.{called, happens, end_at}
 use Rattle.link_trait.specs.Wires.{Call, Reading, Gave, NotNow, End, Failed}
 use Rattle.loop_model.specs.Journals.{Entry, lines_of}
 use Rattle.loop_model.specs.Outs.{Out, runs, exactly, first_of}
-use Rattle.loop_model.specs.Sessions.{Rules, Session, Given, Begins, Hears, Sends, Takes, Leaves, Ticks, Ends, Faults, Stalls, written, most_output, end_after, outcomes_of, entry_of, octets_in, breaks, joined, fed, heard_in, leave_of, sends_of, hears, silence, dealt, waiting, takes_all, Says, nothing_said, handled, poured, pours}
+use Rattle.loop_model.specs.Sessions.{Rules, Session, Given, Begins, Hears, Sends, Takes, Leaves, Ticks, Ends, Faults, Stalls, written, most_output, end_after, outcomes_of, entry_of, octets_in, breaks, joined, fed, replied, heard_in, leave_of, sends_of, hears, silence, dealt, waiting, takes_all, Says, nothing_said, handled, poured, pours}
 use Rattle.loop_model.specs.Visits.{came}
 use Rattle.loop_model.specs.Loops.{Plan, rules_of, Loop, most_live, begun, Caller, calling, Course, Turn, run, Dialled, dials}
 use Rattle.loop_model.specs.Parts.{session_of, of, calls_at}
@@ -141,19 +141,19 @@ module _ (P : Option Ended_at → Event → Type 0) (fitting : Fitting P) (plan 
   -- ---- what follows an event
 
   placed_sends : (m : ℕ) (s : Session ModelEnd) (texts : List (List ℕ)) (leave : Option ℕ)
-      → Placed (Some s.end) (runs (fed model_ends r m) s (sends_of texts ++ leave_of leave)).0.end (runs (fed model_ends r m) s (sends_of texts ++ leave_of leave)).1
+      → Placed (Some s.end) (runs (replied model_ends r m) s (sends_of texts ++ leave_of leave)).0.end (runs (replied model_ends r m) s (sends_of texts ++ leave_of leave)).1
   unfolding runs
   placed_sends m s [] None = placed_none s.end s.end refl
   placed_sends m s [] (Some sub) =
       let a = fed model_ends r m s (Leaves sub) in
       placed_then (Some s.end) a.0.end a.0.end a.1 [] (placed_fed m s (Leaves sub) tt (fitting.leaves (Some s.end) sub)) (placed_none a.0.end a.0.end refl)
   placed_sends m s (text ∷ texts) leave =
-      let a = fed model_ends r m s (Sends text) in
-      let b = runs (fed model_ends r m) a.0 (sends_of texts ++ leave_of leave) in
+      let a = replied model_ends r m s (Sends text) in
+      let b = runs (replied model_ends r m) a.0 (sends_of texts ++ leave_of leave) in
       placed_then (Some s.end) a.0.end b.0.end a.1 b.1 (placed_fed m s (Sends text) tt (fitting.sends (Some s.end) text)) (placed_sends m a.0 texts leave)
 
   placed_replies : (m : ℕ) (s : Session ModelEnd) (mind : Option Mind) (heard : Option Heard) (free : Said)
-      → Placed (Some s.end) (runs (fed model_ends r m) s (hears mind heard free).1).0.end (runs (fed model_ends r m) s (hears mind heard free).1).1
+      → Placed (Some s.end) (runs (replied model_ends r m) s (hears mind heard free).1).0.end (runs (replied model_ends r m) s (hears mind heard free).1).1
   unfolding runs
   placed_replies m s None heard free = placed_none s.end s.end refl
   placed_replies m s (Some mind) None free = placed_none s.end s.end refl
@@ -171,7 +171,7 @@ module _ (P : Option Ended_at → Event → Type 0) (fitting : Fitting P) (plan 
       let a = fed model_ends r m s g in
       let heard = heard_in (outcomes_of model_ends r m s.end g) in
       let t : Session ModelEnd = record a.0 { mind = (hears s.mind heard free).0 } in
-      record { rest = (runs (fed model_ends r m) t (hears s.mind heard free).1).1; is = refl; placed = placed_replies m t s.mind heard free }
+      record { rest = (runs (replied model_ends r m) t (hears s.mind heard free).1).1; is = refl; placed = placed_replies m t s.mind heard free }
 
   placed_dealt : (m : ℕ) (s : Session ModelEnd) (g : Given) (free : Said) → IsOfEnd g → P (Some s.end) (written model_ends s.end g)
       → Placed (Some s.end) (dealt model_ends r m s g free).0.end (dealt model_ends r m s g free).1

@@ -50,7 +50,7 @@ breaking r = record {
   given = λ m s g allowed fits p. or_left s.broken (breaks g) p;
   stalls = λ m s g allowed fits p. refl;
   heard = λ s mind p. p;
-  parts = λ s at gone p. p;
+  parts = λ s told at gone p. p;
 }
 
 fed_broken : (r : Rules) (m : ℕ) (s : Session ModelEnd) → (fed model_ends r m s Faults).0.broken ≡ true
@@ -253,7 +253,7 @@ off_steady r = record {
       ap (λ z. s.broken || z) (sym (breaks_so s.end g) ∙ or_none (is_break (written_as model_ends s.end g)) ∙ or_none (is_break (written_as model_ends s.end g) || false));
   stalls = λ m s g allowed fits. or_top s.broken (is_break (written_as model_ends s.end g)) ∙ ap (λ z. s.broken || z) (or_none (is_break (written_as model_ends s.end g) || true));
   heard = λ s mind. or_none s.broken;
-  parts = λ s at gone. or_none s.broken;
+  parts = λ s told at gone. or_none s.broken;
 }
 
 pub off_read : (r : Rules) (m : ℕ) (s : Session ModelEnd) (waits : ℕ) (reading : Reading) (says : List Says)

@@ -24,3 +24,5 @@ pub mod Lawful
 pub mod Cuts
 pub mod Visitings
 pub mod Shows
+pub mod Told
+pub mod Speeches

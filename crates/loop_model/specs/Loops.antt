@@ -89,7 +89,7 @@ other_users users = take (length users - 1) users
 
 -- a session that begins, with this user
 abbrev pub begun : {E : Type 0} → ℕ → E → Mind → Session E
-begun conn end mind = record { number = conn; end = end; mind = Some mind; output = []; broken = false; closing = None }
+begun conn end mind = record { number = conn; end = end; mind = Some mind; told = None; output = []; broken = false; closing = None }
 
 -- the user and the random word that come next are no longer left
 abbrev pub one_less : {E : Type 0} → Loop E → Loop E

@@ -3,12 +3,13 @@ use Rattle.loop_model.specs.Ends.{ModelEnd, model_ends}
 use Rattle.std.specs.Prelude.{ℕ, ◌≡◌, ◌==◌, Bool, true, false, ◌||◌, if◌then◌else◌, List, [], ◌∷◌, ◌++◌, Option, Some, None}
 use Rattle.er_trace.specs.declared.event.Event.{Event}
 use Rattle.er_trace.specs.declared.event.Event.TheVariants.{Call, Answer, Octets, Send, Take, Release, Tick, Ended, Fault, Stalled, Full, Unserved}
+use Rattle.end_model.specs.Outcomes.{Outcome}
 use Rattle.trace_model.specs.Checks.{opens, role_of}
 use Rattle.er_users.specs.Users.{Mind, Heard, Said, said}
 use Rattle.link_trait.specs.Wires.{taken_of}
 use Rattle.loop_model.specs.Journals.{Entry}
 use Rattle.loop_model.specs.Outs.{Out}
-use Rattle.loop_model.specs.Sessions.{heard_in}
+use Rattle.loop_model.specs.Sessions.{heard_in, refused_in, refusal_heard, noted}
 use Rattle.loop_model.specs.Loops.{Plan, next_user, other_users, Course, Caller, Turn, run, Dialled, dials}
 use Rattle.loop_model.specs.Parts.{of}
 use Rattle.loop_model.specs.Laws.{IsServing, IsDialling, IsBeginning, Holds}
@@ -93,15 +94,36 @@ abbrev pub IsAnswer : Option Heard → Speech → Speech → Type 0
 IsAnswer None a b = b ≡ a
 IsAnswer (Some heard) a b = (free : Said) × (b ≡ speech_by (said a.mind.kind a.mind heard free))
 
+-- what the user of a connection hears of an event: what stands among its outcomes; of a text of its own only that it was refused, where it was;
+-- nothing of its own release, nor of a stall
+abbrev pub hears_at : Event → List Outcome → Option Heard
+hears_at (Call engine rbc rb) outcomes = heard_in outcomes
+hears_at (Answer rbc ra) outcomes = heard_in outcomes
+hears_at (Octets octets) outcomes = heard_in outcomes
+hears_at (Send text) outcomes = refusal_heard text (refused_in outcomes)
+hears_at Take outcomes = heard_in outcomes
+hears_at (Release sub) outcomes = None
+hears_at Tick outcomes = heard_in outcomes
+hears_at Ended outcomes = heard_in outcomes
+hears_at Fault outcomes = heard_in outcomes
+hears_at Stalled outcomes = None
+hears_at (Full count) outcomes = heard_in outcomes
+hears_at (Unserved count) outcomes = heard_in outcomes
+
+-- a reply is the next that is due. Where it is a text that was refused, the user has heard that before anything else comes
+pub record IsReply (reply : Event) (heard : Option Heard) (a b : Speech) : Type 0 where
+  pub due : a.due ≡ reply ∷ b.due
+  pub mind : b.mind ≡ noted heard a.mind
+
 -- from one event on: a send or a release is the next reply that is due; a stall may stand between them; at any other event nothing is
 -- due any more, and what the user says to it is due then
 abbrev pub Step : Event → Option Heard → Speech → Speech → Type 0
 Step (Call engine rbc rb) heard a b = (a.due ≡ []) × IsAnswer heard a b
 Step (Answer rbc ra) heard a b = (a.due ≡ []) × IsAnswer heard a b
 Step (Octets octets) heard a b = (a.due ≡ []) × IsAnswer heard a b
-Step (Send text) heard a b = a ≡ record b { due = Send text ∷ b.due }
+Step (Send text) heard a b = IsReply (Send text) heard a b
 Step Take heard a b = (a.due ≡ []) × IsAnswer heard a b
-Step (Release sub) heard a b = a ≡ record b { due = Release sub ∷ b.due }
+Step (Release sub) heard a b = IsReply (Release sub) heard a b
 Step Tick heard a b = (a.due ≡ []) × IsAnswer heard a b
 Step Ended heard a b = (a.due ≡ []) × IsAnswer heard a b
 Step Fault heard a b = (a.due ≡ []) × IsAnswer heard a b
@@ -109,10 +131,10 @@ Step Stalled heard a b = b ≡ a
 Step (Full count) heard a b = (a.due ≡ []) × IsAnswer heard a b
 Step (Unserved count) heard a b = (a.due ≡ []) × IsAnswer heard a b
 
--- event by event. What the user hears of an event stands among its outcomes
+-- event by event
 abbrev pub Leads : Speech → List Entry → Speech → Type 0
 Leads a [] b = b ≡ a
-Leads a (x ∷ xs) c = (b : Speech) × Step x.event (heard_in x.outcomes) a b × Leads b xs c
+Leads a (x ∷ xs) c = (b : Speech) × Step x.event (hears_at x.event x.outcomes) a b × Leads b xs c
 
 -- the user of a connection: each end that is opened takes the last of those that are left
 unfoldable pub user_of : ℕ → List Entry → List Mind → Option Mind

@@ -5,12 +5,12 @@ use Rattle.std.specs.Prelude.{ℕ, ◌+◌, ◌==◌, nat_lt, Bool, true, false,
 use Rattle.er_base.specs.declared.release.Release.{Release}
 use Rattle.safety_automaton.specs.Keys.{key_at}
 use Rattle.safety_automaton.specs.Keys as keys
-use Rattle.end_model.specs.Outcomes.{Outcome, ConnectedTo, Accepted, Taken, NothingToTake, Refused, WasReleased, Octets}
+use Rattle.end_model.specs.Outcomes.{Outcome, SendRefusal, ConnectedTo, Accepted, Taken, NothingToTake, Refused, WasReleased, Octets}
 use Rattle.end_model.specs.Ends as end
 use Rattle.er_trace.specs.declared.event.Event.{Event}
 use Rattle.er_trace.specs.declared.event.Event.TheVariants as event
 use Rattle.er_users.specs.Saying.{is_text}
-use Rattle.er_users.specs.Users.{Mind, mind_of, Callers, Heard, Connected, Message, Said, said, quiet}
+use Rattle.er_users.specs.Users.{Mind, mind_of, Callers, Heard, Connected, Message, Refused as NotSent, Released, Said, said, quiet, noting, tells_more}
 use Rattle.loop_model.specs.Ends.{EndOps}
 use Rattle.loop_model.specs.Journals.{Entry}
 use Rattle.loop_model.specs.Outs.{runs, exactly}
@@ -26,6 +26,8 @@ pub record Session (E : Type 0) : Type 0 where
   pub end : E
   -- its user, until that heard of the release
   pub mind : Option Mind
+  -- what its user told that it heard, once it was let go, where it tells that
+  pub told : Option (List Heard)
   -- the octets that wait to be written
   pub output : List ℕ
   -- it had the event ended, fault or stalled, or a write of it failed: it is closed as soon as the events at hand are done
@@ -116,15 +118,42 @@ hears None heard free = (None, [])
 hears (Some mind) None free = (Some mind, [])
 hears (Some mind) (Some heard) free = let a = said mind.kind mind heard free in (Some a.mind, replies a)
 
+-- why a text of the user was refused, among outcomes
+abbrev pub refused_in : List Outcome → Option SendRefusal
+refused_in [] = None
+refused_in (ConnectedTo peer ∷ outcomes) = refused_in outcomes
+refused_in (Accepted message ∷ outcomes) = refused_in outcomes
+refused_in (Taken message ∷ outcomes) = refused_in outcomes
+refused_in (NothingToTake ∷ outcomes) = refused_in outcomes
+refused_in (Refused refusal ∷ outcomes) = Some refusal
+refused_in (WasReleased release ∷ outcomes) = refused_in outcomes
+refused_in (Octets octets ∷ outcomes) = refused_in outcomes
+
+-- what the user hears of its text
+abbrev pub refusal_heard : List ℕ → Option SendRefusal → Option Heard
+refusal_heard text None = None
+refusal_heard text (Some why) = Some (NotSent text why)
+
+-- a user that hears something to which nobody replies
+abbrev pub noted : Option Heard → Mind → Mind
+noted None mind = mind
+noted (Some heard) mind = noting heard mind
+
+abbrev pub notes : Option Heard → Option Mind → Option Mind
+notes heard None = None
+notes heard (Some mind) = Some (noted heard mind)
+
 -- a plain answer: nothing is said
 abbrev pub silence : Said
 silence = quiet (mind_of Callers [])
 
--- a user whose session was released hears of it, and is let go; the session is closed after the set-up time at the latest
+-- a user whose session was released hears of it, with the reason, the sub-reason and who released, and is let go; the session is closed
+-- after the set-up time at the latest
 abbrev pub parts : {E : Type 0} → Option Release → Option Mind → ℕ → Session E → Session E
 parts None mind at s = s
 parts (Some release) None at s = s
-parts (Some release) (Some mind) at s = record s { mind = None; closing = Some at }
+parts (Some release) (Some mind) at s =
+    record s { mind = None; told = tells_more mind.told (Released release.reason release.sub release.by_peer); closing = Some at }
 
 -- what a user's object says while an event is handled: to the event, then to each message that it takes
 pub record Says : Type 0 where
@@ -179,16 +208,28 @@ module _ {E : Type 0} (o : EndOps E) where
       let b = joined r m (record s { end = end_after r m s.end g; broken = s.broken || breaks g }) (octets_in (outcomes_of r m s.end g)) in
       (b.0, entry_of r m s g ∷ b.1)
 
-  -- ---- the user
-
   -- ---- events with what follows them
+
+  -- a reply of the user is given to the end; where a text is refused, the user hears that before anything else comes
+  abbrev pub replied : Rules → ℕ → Session E → Given → Session E × List Entry
+  replied r m s (Begins engine rbc rb) = fed r m s (Begins engine rbc rb)
+  replied r m s (Hears octets) = fed r m s (Hears octets)
+  replied r m s (Sends text) =
+      let a = fed r m s (Sends text) in
+      (record a.0 { mind = notes (refusal_heard text (refused_in (outcomes_of r m s.end (Sends text)))) s.mind }, a.1)
+  replied r m s Takes = fed r m s Takes
+  replied r m s (Leaves sub) = fed r m s (Leaves sub)
+  replied r m s Ticks = fed r m s Ticks
+  replied r m s Ends = fed r m s Ends
+  replied r m s Faults = fed r m s Faults
+  replied r m s Stalls = fed r m s Stalls
 
   -- an event, what the user hears of it, and the replies
   unfoldable pub dealt : Rules → ℕ → Session E → Given → Said → Session E × List Entry
   dealt r m s g free =
       let a = fed r m s g in
       let b = hears s.mind (heard_in (outcomes_of r m s.end g)) free in
-      let c = runs (fed r m) (record a.0 { mind = b.0 }) b.1 in
+      let c = runs (replied r m) (record a.0 { mind = b.0 }) b.1 in
       (c.0, a.1 ++ c.1)
 
   -- the messages that wait are taken

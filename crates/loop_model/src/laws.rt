@@ -13,6 +13,8 @@ ghost use Rattle.loop_model.specs.Openings.{OpeningsAreTold, DialIsOpened};
 ghost use Rattle.loop_model.specs.Recordings.{RecordingsReplay};
 ghost use Rattle.loop_model.specs.Visitings.{TurnsVisit};
 ghost use Rattle.loop_model.specs.Shows.{EndsShow};
+ghost use Rattle.loop_model.specs.Ends.{model_ends};
+ghost use Rattle.loop_model.specs.Told.{EventsAreHeard, SpeechIsHeard, UsersHear};
 ghost use Rattle.loop_model.specs.Settling.{WritableIsWritten, VisitsWrite, ClosesHaveReasons};
 ghost use Rattle.loop_model.specs.Stalls.{StallsAreTold};
 ghost use Rattle.loop_model.specs.Turnings.{EndsAreTold, OthersAreClosed, ReadableProgress, TicksAreDue, WordsAreNext};
@@ -56,6 +58,19 @@ pub fn octets_taken()
 /// hears, each behind the event that it answers, from the mind of the user that the connection took; in the end no reply is due.
 pub fn replies()
     ensures { UsersReply }
+{
+    end_model::laws::released_rest();
+}
+
+/// What a user is told, for users that tell what they heard. An event that the loop gives an end, with all that follows it, lets the user of the
+/// session hear exactly what the events of the journal say: that the connection was made, each message that was taken, each text of its own
+/// that was refused, in their places, and the release of the end with its reason, its sub-reason and who released, where the end is released: then, and
+/// only then, it is let go. So each user whose speech the events of a connection lead on tells these; and so do, for all events of their
+/// connections, the users of the sessions that are live.
+pub fn hearing()
+    ensures events { EventsAreHeard model_ends }
+    ensures speech { SpeechIsHeard }
+    ensures live { UsersHear }
 {
     end_model::laws::released_rest();
 }

@@ -10,7 +10,7 @@ use Rattle.er_users.specs.Users.{Mind, Said}
 use Rattle.loop_model.specs.Ends.{EndOps}
 use Rattle.loop_model.specs.Journals.{Entry}
 use Rattle.loop_model.specs.Outs.{runs, exactly}
-use Rattle.loop_model.specs.Sessions.{Rules, Session, most_output, Given, Begins, Hears, Sends, Takes, Leaves, Ticks, Ends, Faults, Stalls, event_of, breaks, octets_in, heard_in, hears, silence, parts, Says, nothing_said, written, end_after, outcomes_of, entry_of, stalled, joined, fed, dealt, waiting, takes_all, parted, handled, poured, pours}
+use Rattle.loop_model.specs.Sessions.{Rules, Session, most_output, Given, Begins, Hears, Sends, Takes, Leaves, Ticks, Ends, Faults, Stalls, event_of, breaks, octets_in, heard_in, hears, silence, parts, Says, nothing_said, written, end_after, outcomes_of, entry_of, stalled, joined, fed, replied, refused_in, refusal_heard, notes, dealt, waiting, takes_all, parted, handled, poured, pours}
 use Rattle.loop_session.specs.Giving.{happened}
 use Rattle.loop_session.proofs.Carrying.{Carries, carried, read_carried, first_carried, if_carried, runs_carried}
 
@@ -60,17 +60,31 @@ module _ {E F : Type 0} (settings : Settings) (o : EndOps E) (p : EndOps F) (h :
       ∙ ap (λ (x : Entry). feeds (h t.end) (outcomes_of o r m s.end g) x) (entry_same r m s g)
       ∙ ap (λ (b : Session F × List Entry). (b.0, entry_of o r m s g ∷ b.1)) (joined_same r m t (octets_in (outcomes_of o r m s.end g)))
 
+  replied_same : (r : Rules) (m : ℕ) (s : Session E) (g : Given) → replied p r m (carried h s) g ≡ first_carried (carried h) (replied o r m s g)
+  replied_same r m s (Begins engine rbc rb) = fed_same r m s (Begins engine rbc rb)
+  replied_same r m s (Hears octets) = fed_same r m s (Hears octets)
+  replied_same r m s (Sends text) =
+      let hears_of : Session F × List Entry → List Outcome → Session F × List Entry = λ a os.
+      (record a.0 { mind = notes (refusal_heard text (refused_in os)) s.mind }, a.1) in
+      ap₂ hears_of (fed_same r m s (Sends text)) (told_same r m s.end (Sends text))
+  replied_same r m s Takes = fed_same r m s Takes
+  replied_same r m s (Leaves sub) = fed_same r m s (Leaves sub)
+  replied_same r m s Ticks = fed_same r m s Ticks
+  replied_same r m s Ends = fed_same r m s Ends
+  replied_same r m s Faults = fed_same r m s Faults
+  replied_same r m s Stalls = fed_same r m s Stalls
+
   -- ---- events with what follows them
 
   dealt_same : (r : Rules) (m : ℕ) (s : Session E) (g : Given) (free : Said) → dealt p r m (carried h s) g free ≡ first_carried (carried h) (dealt o r m s g free)
   unfolding dealt
   dealt_same r m s g free =
       let deals : Session F × List Entry → List Outcome → Session F × List Entry = λ a os.
-      let b = hears s.mind (heard_in os) free in let q = runs (fed p r m) (record a.0 { mind = b.0 }) b.1 in (q.0, a.1 ++ q.1) in
+      let b = hears s.mind (heard_in os) free in let q = runs (replied p r m) (record a.0 { mind = b.0 }) b.1 in (q.0, a.1 ++ q.1) in
       let a = fed o r m s g in
       let b = hears s.mind (heard_in (outcomes_of o r m s.end g)) free in
       ap₂ deals (fed_same r m s g) (told_same r m s.end g)
-      ∙ ap (λ (q : Session F × List Entry). (q.0, a.1 ++ q.1)) (runs_carried (carried h) (fed o r m) (fed p r m) (fed_same r m) (record a.0 { mind = b.0 }) b.1)
+      ∙ ap (λ (q : Session F × List Entry). (q.0, a.1 ++ q.1)) (runs_carried (carried h) (replied o r m) (replied p r m) (replied_same r m) (record a.0 { mind = b.0 }) b.1)
 
   takes_all_same : (r : Rules) (m : ℕ) (s : Session E) (frees : List Said) → takes_all p r m (carried h s) frees ≡ first_carried (carried h) (takes_all o r m s frees)
   unfolding takes_all

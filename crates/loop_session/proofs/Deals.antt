@@ -7,7 +7,7 @@ use Rattle.er_users.specs.Users.{Mind}
 use Rattle.link_trait.specs.States.{SinkState}
 use Rattle.loop_model.specs.Journals.{Entry, text}
 use Rattle.loop_model.specs.Outs.{runs, exactly}
-use Rattle.loop_model.specs.Sessions.{Rules, Session, Given, Sends, Leaves, Takes, sends_of, leave_of, heard_in, hears, silence, outcomes_of, fed, dealt, takes_all, waiting, handled, parted}
+use Rattle.loop_model.specs.Sessions.{Rules, Session, Given, Sends, Leaves, Takes, sends_of, leave_of, heard_in, hears, silence, outcomes_of, fed, replied, dealt, takes_all, waiting, handled, parted}
 use Rattle.loop_session.specs.declared.loop_fault.LoopFault.{LoopFault}
 use Rattle.loop_session.specs.Giving.{HeardSo, events_of}
 use Rattle.loop_session.specs.Parts.{Breaks, Printed, Prints, Chose, BrokeOff, Chooses, WentSome, with_mind}
@@ -139,50 +139,50 @@ all_texts [] n p = (let z : n ≡ 0 = omega (arith, p) in ap (λ k. take k []) z
 all_texts (x ∷ texts) zero p = absurd (let z : ⊥ = omega (arith, p) in z)
 all_texts (x ∷ texts) (suc n) p = ap (λ z. x ∷ z) (all_texts texts n (let z : n ≡ length texts = omega (arith, p) in z))
 
-pub reply_none : (a : SinkState) (r : Rules) (m : ℕ) (s : Session KEnd) (texts : List (List ℕ)) → Printed a a s (runs (fed kept_ends r m) s (sends_of (take 0 texts)))
-reply_none a r m s texts = subst (λ z. Printed a a s z) (sym (runs_none (fed kept_ends r m) s)) (printed_nothing a s)
+pub reply_none : (a : SinkState) (r : Rules) (m : ℕ) (s : Session KEnd) (texts : List (List ℕ)) → Printed a a s (runs (replied kept_ends r m) s (sends_of (take 0 texts)))
+reply_none a r m s texts = subst (λ z. Printed a a s z) (sym (runs_none (replied kept_ends r m) s)) (printed_nothing a s)
 
 pub reply_more : (a b c : SinkState) (r : Rules) (m : ℕ) (s t u : Session KEnd) (n : ℕ) (texts : List (List ℕ)) (text other : List ℕ)
     → n < length texts → text ≡ slice_index_or texts n other
-    → Printed a b t (runs (fed kept_ends r m) s (sends_of (take n texts))) → Printed b c u (fed kept_ends r m t (Sends text))
-    → Printed a c u (runs (fed kept_ends r m) s (sends_of (take (n + 1) texts)))
+    → Printed a b t (runs (replied kept_ends r m) s (sends_of (take n texts))) → Printed b c u (replied kept_ends r m t (Sends text))
+    → Printed a c u (runs (replied kept_ends r m) s (sends_of (take (n + 1) texts)))
 reply_more a b c r m s t u n texts text other few is p q =
     let plus : n + 1 ≡ suc n = omega arith in
-    subst (λ z. Printed a c u (runs (fed kept_ends r m) s z))
+    subst (λ z. Printed a c u (runs (replied kept_ends r m) s z))
     (sym (more_texts n texts text other few is) ∙ ap (λ z. sends_of (take z texts)) (sym plus))
-    (printed_more a b c (fed kept_ends r m) s t u (sends_of (take n texts)) (Sends text) p q)
+    (printed_more a b c (replied kept_ends r m) s t u (sends_of (take n texts)) (Sends text) p q)
 
 pub reply_broke : (a b c : SinkState) (r : Rules) (m : ℕ) (s t : Session KEnd) (n : ℕ) (spoken : Spoken) (said other : List ℕ) (fault : LoopFault)
     → n < length spoken.texts → said ≡ slice_index_or spoken.texts n other
-    → Printed a b t (runs (fed kept_ends r m) s (sends_of (take n spoken.texts))) → Breaks b c (text (fed kept_ends r m t (Sends said)).1) fault
-    → Breaks a c (text (runs (fed kept_ends r m) s (events_of spoken)).1) fault
+    → Printed a b t (runs (replied kept_ends r m) s (sends_of (take n spoken.texts))) → Breaks b c (text (replied kept_ends r m t (Sends said)).1) fault
+    → Breaks a c (text (runs (replied kept_ends r m) s (events_of spoken)).1) fault
 reply_broke a b c r m s t n spoken said other fault few is p q =
     let front = sends_of (take n spoken.texts) in
     let back = sends_of (drop (suc n) spoken.texts) ++ leave_of spoken.leave in
-    subst (λ z. Breaks a c (text (runs (fed kept_ends r m) s z).1) fault)
+    subst (λ z. Breaks a c (text (runs (replied kept_ends r m) s z).1) fault)
     (sym (append_assoc front (Sends said ∷ sends_of (drop (suc n) spoken.texts)) (leave_of spoken.leave))
     ∙ ap (λ z. z ++ leave_of spoken.leave) (sym (next_text n spoken.texts said other few is)))
-    (breaks_more_of a b c (fed kept_ends r m) s t front back (Sends said) fault p q)
+    (breaks_more_of a b c (replied kept_ends r m) s t front back (Sends said) fault p q)
 
 pub reply_stays : (a b : SinkState) (r : Rules) (m : ℕ) (s t : Session KEnd) (n : ℕ) (spoken : Spoken) → n ≡ length spoken.texts → spoken.leave ≡ None
-    → Printed a b t (runs (fed kept_ends r m) s (sends_of (take n spoken.texts))) → Printed a b t (runs (fed kept_ends r m) s (events_of spoken))
+    → Printed a b t (runs (replied kept_ends r m) s (sends_of (take n spoken.texts))) → Printed a b t (runs (replied kept_ends r m) s (events_of spoken))
 reply_stays a b r m s t n spoken all none p =
-    subst (λ z. Printed a b t (runs (fed kept_ends r m) s z))
+    subst (λ z. Printed a b t (runs (replied kept_ends r m) s z))
     (ap sends_of (all_texts spoken.texts n all) ∙ sym (append-nil (sends_of spoken.texts)) ∙ ap (λ z. sends_of spoken.texts ++ leave_of z) (sym none)) p
 
 pub reply_leaves : (a b c : SinkState) (r : Rules) (m : ℕ) (s t u : Session KEnd) (n : ℕ) (spoken : Spoken) (sub : ℕ) (res : Result (Unit {0}) LoopFault)
     → n ≡ length spoken.texts → spoken.leave ≡ Some sub
-    → Printed a b t (runs (fed kept_ends r m) s (sends_of (take n spoken.texts))) → Prints b c u (fed kept_ends r m t (Leaves sub)) res
-    → Prints a c u (runs (fed kept_ends r m) s (events_of spoken)) res
+    → Printed a b t (runs (replied kept_ends r m) s (sends_of (take n spoken.texts))) → Prints b c u (fed kept_ends r m t (Leaves sub)) res
+    → Prints a c u (runs (replied kept_ends r m) s (events_of spoken)) res
 reply_leaves a b c r m s t u n spoken sub res all leaves p q =
-    subst (λ z. Prints a c u (runs (fed kept_ends r m) s z) res)
+    subst (λ z. Prints a c u (runs (replied kept_ends r m) s z) res)
     (ap (λ z. z ++ Leaves sub ∷ []) (ap sends_of (all_texts spoken.texts n all)) ∙ ap (λ z. sends_of spoken.texts ++ leave_of z) (sym leaves))
     (last res q)
   where
     last : (res : Result (Unit {0}) LoopFault) → Prints b c u (fed kept_ends r m t (Leaves sub)) res
-        → Prints a c u (runs (fed kept_ends r m) s (sends_of (take n spoken.texts) ++ Leaves sub ∷ [])) res
-    last (Ok done) q = printed_more a b c (fed kept_ends r m) s t u (sends_of (take n spoken.texts)) (Leaves sub) p q
-    last (Err fault) q = breaks_more_of a b c (fed kept_ends r m) s t (sends_of (take n spoken.texts)) [] (Leaves sub) fault p q
+        → Prints a c u (runs (replied kept_ends r m) s (sends_of (take n spoken.texts) ++ Leaves sub ∷ [])) res
+    last (Ok done) q = printed_more a b c (replied kept_ends r m) s t u (sends_of (take n spoken.texts)) (Leaves sub) p q
+    last (Err fault) q = breaks_more_of a b c (replied kept_ends r m) s t (sends_of (take n spoken.texts)) [] (Leaves sub) fault p q
 
 -- ---- an event of which the user hears, and its replies
 
@@ -193,34 +193,34 @@ deal_broke a b r m s g mind spoken fault heard p = record {
   answers = heard.free;
   breaks =
       let e = hears s.mind (heard_in (outcomes_of kept_ends r m s.end g)) heard.free in
-      breaks_first a b (fed kept_ends r m s g).1 (runs (fed kept_ends r m) (record (fed kept_ends r m s g).0 { mind = e.0 }) e.1).1 fault p;
+      breaks_first a b (fed kept_ends r m s g).1 (runs (replied kept_ends r m) (record (fed kept_ends r m s g).0 { mind = e.0 }) e.1).1 fault p;
 }
 
 pub deal_chooses : (a b c : SinkState) (r : Rules) (m : ℕ) (s t u : Session KEnd) (g : Given) (mind : Option Mind) (spoken : Spoken) (res : Result (Unit {0}) LoopFault)
     → HeardSo s.mind (heard_in (outcomes_of kept_ends r m s.end g)) mind spoken → Printed a b t (with_mind mind (fed kept_ends r m s g))
-    → Prints b c u (runs (fed kept_ends r m) t (events_of spoken)) res → Chooses a c u (dealt kept_ends r m s g) res
+    → Prints b c u (runs (replied kept_ends r m) t (events_of spoken)) res → Chooses a c u (dealt kept_ends r m s g) res
 unfolding dealt
 deal_chooses a b c r m s t u g mind spoken res heard p q = by_result res q
   where
     o : Session KEnd × List Entry
     o = with_mind mind (fed kept_ends r m s g)
 
-    is : dealt kept_ends r m s g heard.free ≡ (let x = runs (fed kept_ends r m) o.0 (events_of spoken) in (x.0, o.1 ++ x.1))
-    is = ap (λ z. let x = runs (fed kept_ends r m) (record (fed kept_ends r m s g).0 { mind = z.0 }) z.1 in (x.0, (fed kept_ends r m s g).1 ++ x.1)) heard.is
+    is : dealt kept_ends r m s g heard.free ≡ (let x = runs (replied kept_ends r m) o.0 (events_of spoken) in (x.0, o.1 ++ x.1))
+    is = ap (λ z. let x = runs (replied kept_ends r m) (record (fed kept_ends r m s g).0 { mind = z.0 }) z.1 in (x.0, (fed kept_ends r m s g).1 ++ x.1)) heard.is
 
-    by_result : (res : Result (Unit {0}) LoopFault) → Prints b c u (runs (fed kept_ends r m) t (events_of spoken)) res → Chooses a c u (dealt kept_ends r m s g) res
+    by_result : (res : Result (Unit {0}) LoopFault) → Prints b c u (runs (replied kept_ends r m) t (events_of spoken)) res → Chooses a c u (dealt kept_ends r m s g) res
     by_result (Ok done) q = record {
       answers = heard.free;
       is =
           subst (λ z. Printed a c u z) (sym is)
-          (printed_then a b c t u o (runs (fed kept_ends r m) o.0 (events_of spoken)) p (subst (λ z. Printed b c u (runs (fed kept_ends r m) z (events_of spoken))) p.state q));
+          (printed_then a b c t u o (runs (replied kept_ends r m) o.0 (events_of spoken)) p (subst (λ z. Printed b c u (runs (replied kept_ends r m) z (events_of spoken))) p.state q));
     }
     by_result (Err fault) q = record {
       answers = heard.free;
       breaks =
           subst (λ z. Breaks a c (text z.1) fault) (sym is)
-          (breaks_then a b c t o (runs (fed kept_ends r m) o.0 (events_of spoken)).1 fault p
-          (subst (λ z. Breaks b c (text (runs (fed kept_ends r m) z (events_of spoken)).1) fault) p.state q));
+          (breaks_then a b c t o (runs (replied kept_ends r m) o.0 (events_of spoken)).1 fault p
+          (subst (λ z. Breaks b c (text (runs (replied kept_ends r m) z (events_of spoken)).1) fault) p.state q));
     }
 
 -- ---- takes

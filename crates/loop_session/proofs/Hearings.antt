@@ -1,8 +1,16 @@
 -- What a user may have heard and said.
-use Rattle.std.proofs.Common.{◌≡◌, Option, Some, None, ap, sym}
+use Rattle.std.proofs.Common.{◌≡◌, ◌∙◌, ℕ, List, [], ◌∷◌, ◌++◌, ◌+◌, Option, Some, None, refl, ap, sym}
+use Rattle.er_base.specs.declared.release.Release.{Release}
+use Rattle.end_model.specs.Outcomes.{SendRefusal}
+use Rattle.end_model.specs.Ends as end
+use Rattle.end_model.specs.Ends.{if_refused}
+use Rattle.end_model.specs.Steps.{if_connected, if_accepted, if_released, if_octets}
+use Rattle.loop_session.specs.Keeping.{kept_ends}
+use Rattle.er_end.specs.KeptLayers.{kept}
+use Rattle.er_end.specs.KeptEnds.{KEnd, refusal, after_send, told_by, tells}
 use Rattle.er_users.specs.Saying.{Spoken, nothing}
-use Rattle.er_users.specs.Users.{Mind, Heard, Said, Hears}
-use Rattle.loop_model.specs.Sessions.{silence, replies}
+use Rattle.er_users.specs.Users.{Kind, Echo, Tally, Lister, Silent, Callers, Mind, Heard, Refused, Said, said, Hears, Released, noting, tells_more}
+use Rattle.loop_model.specs.Sessions.{Rules, Session, silence, replies, refused_in, refusal_heard, notes, parts, parted}
 use Rattle.loop_session.specs.Giving.{HeardSo, events_of}
 
 pub heard_nothing : (mind : Option Mind) (spoken : Spoken) → spoken ≡ nothing → HeardSo mind None mind spoken
@@ -17,3 +25,76 @@ heard_by_one mind now heard spoken p = record {
   free = record { mind = now; texts = spoken.texts; leave = spoken.leave };
   is = ap (λ (a : Said). (Some a.mind, replies a)) p;
 }
+
+-- ---- a text that was refused
+
+-- to a refusal no kind says anything, and no mind changes
+refused_by : (kind : Kind) (mind : Mind) (text : List ℕ) (why : SendRefusal) (free : Said) → (said kind mind (Refused text why) free).mind ≡ noting (Refused text why) mind
+unfolding said
+refused_by Echo mind text why free = refl
+refused_by Tally mind text why free = refl
+refused_by Lister mind text why free = refl
+refused_by Silent mind text why free = refl
+refused_by Callers mind text why free = refl
+
+pub noted_refusal : (mind now : Mind) (text : List ℕ) (why : SendRefusal) → Hears mind (Refused text why) now nothing
+    → Some now ≡ notes (Some (Refused text why)) (Some mind)
+noted_refusal mind now text why p =
+    ap (λ (a : Said). Some a.mind) (sym p) ∙ ap (λ z. Some z) (refused_by mind.kind mind text why (record { mind = now; texts = []; leave = None }))
+
+refused_in_octets : (octets : List ℕ) → refused_in (if_octets octets) ≡ None
+refused_in_octets [] = refl
+refused_in_octets (octet ∷ octets) = refl
+
+refused_behind : (connected : Option ℕ) (accepted : Option (List ℕ)) (released : Option Release) (octets : List ℕ)
+    → refused_in (if_connected connected ++ if_accepted accepted ++ if_released released ++ if_octets octets) ≡ None
+refused_behind None None None octets = refused_in_octets octets
+refused_behind None None (Some r) octets = refused_in_octets octets
+refused_behind None (Some m) None octets = refused_in_octets octets
+refused_behind None (Some m) (Some r) octets = refused_in_octets octets
+refused_behind (Some p) None None octets = refused_in_octets octets
+refused_behind (Some p) None (Some r) octets = refused_in_octets octets
+refused_behind (Some p) (Some m) None octets = refused_in_octets octets
+refused_behind (Some p) (Some m) (Some r) octets = refused_in_octets octets
+
+notes_nothing : (mind : Option Mind) → notes None mind ≡ mind
+notes_nothing None = refl
+notes_nothing (Some mind) = refl
+
+pub refused_so : (now : ℕ) (text : List ℕ) (k : KEnd) (why : SendRefusal) (before behind : Option Mind) → refusal text k ≡ Some why
+    → behind ≡ notes (Some (Refused text why)) before → behind ≡ notes (refusal_heard text (refused_in (tells now (end.Send text) k))) before
+refused_so now text k why before behind e p =
+    p ∙ ap (λ (z : Option SendRefusal). notes (refusal_heard text (refused_in (if_refused z (told_by (after_send now text k))))) before) (sym e)
+
+pub sent_so : (now : ℕ) (text : List ℕ) (k : KEnd) (mind : Option Mind) → refusal text k ≡ None
+    → mind ≡ notes (refusal_heard text (refused_in (tells now (end.Send text) k))) mind
+sent_so now text k mind e =
+    let x = (after_send now text k).core in
+    sym (ap (λ (z : Option SendRefusal). notes (refusal_heard text (refused_in (if_refused z (told_by (after_send now text k))))) mind) e
+    ∙ ap (λ (z : Option SendRefusal). notes (refusal_heard text z) mind) (refused_behind x.connected (kept.news x.upper) x.leaves x.line.out)
+    ∙ notes_nothing mind)
+
+-- ---- a release
+
+told_by_kind : (kind : Kind) (mind : Mind) (heard : Heard) (free : Said) → (said kind mind heard free).mind.told ≡ tells_more mind.told heard
+unfolding said
+told_by_kind Echo mind heard free = refl
+told_by_kind Tally mind heard free = refl
+told_by_kind Lister mind heard free = refl
+told_by_kind Silent mind heard free = refl
+told_by_kind Callers mind heard free = refl
+
+pub told_released : (mind now : Mind) (heard : Heard) (spoken : Spoken) → Hears mind heard now spoken → now.told ≡ tells_more mind.told heard
+told_released mind now heard spoken p =
+    ap (λ (a : Said). a.mind.told) (sym p) ∙ told_by_kind mind.kind mind heard (record { mind = now; texts = spoken.texts; leave = spoken.leave })
+
+-- a user is let go, and has heard of the release
+pub lets_go : (r : Rules) (m : ℕ) (s0 s : Session KEnd) (why : Release) (mind now gone : Mind) (left : Option Mind) → s ≡ s0 → Some why ≡ s0.end.core.released
+    → Some mind ≡ s0.mind → Hears mind (Released why.reason why.sub why.by_peer) now nothing → gone ≡ now → left ≡ None
+    → record s0 { mind = left; told = gone.told; closing = Some (m + r.setup) } ≡ parted kept_ends r m s
+lets_go r m s0 s why mind now gone left same e f p is none =
+    ap (λ (z : Option Mind). let t : Session KEnd = record s0 { mind = z; told = gone.told; closing = Some (m + r.setup) } in t) none
+    ∙ ap (λ (z : Option (List Heard)). let t : Session KEnd = record s0 { mind = None; told = z; closing = Some (m + r.setup) } in t)
+    (ap (λ (z : Mind). z.told) is ∙ told_released mind now (Released why.reason why.sub why.by_peer) nothing p)
+    ∙ ap (λ (z : Option Mind). parts (Some why) z (m + r.setup) s0) f ∙ ap (λ (z : Option Release). parts z s0.mind (m + r.setup) s0) e
+    ∙ ap (λ (z : Session KEnd). parted kept_ends r m z) (sym same)

@@ -8,6 +8,7 @@ use Rattle.er_base.specs.declared.no_memory.NoMemory.{NoMemory as Want}
 use Rattle.er_trace.specs.declared.event.Event.{Event}
 use Rattle.er_trace.specs.Texts.{entry_words}
 use Rattle.trace_model.specs.Printed.{outcomes_text}
+use Rattle.end_model.specs.Ends.{Send}
 use Rattle.er_end.specs.KeptEnds.{KEnd, happens, tells}
 use Rattle.er_users.specs.Saying.{Spoken}
 use Rattle.er_users.specs.Users.{Mind, Heard}
@@ -16,7 +17,7 @@ use Rattle.link_trait.specs.Outside.{Grew, GrewPart, Rose}
 use Rattle.link_trait.specs.Growth.{grew_nothing, grew_then, part_nothing, part_then, part_more}
 use Rattle.loop_model.specs.Grammar.{IsInGrammar, AreInGrammar}
 use Rattle.loop_model.specs.Journals.{Entry, entry_text, text}
-use Rattle.loop_model.specs.Sessions.{Rules, Session, Given, Stalls, event_of, written, breaks, end_after, outcomes_of, octets_in, heard_in, entry_of, stalled, joined, fed}
+use Rattle.loop_model.specs.Sessions.{Rules, Session, Given, Sends, Stalls, event_of, written, breaks, end_after, outcomes_of, octets_in, heard_in, refused_in, refusal_heard, notes, entry_of, stalled, joined, fed, replied}
 use Rattle.loop_session.specs.declared.loop_fault.LoopFault.{LoopFault}
 use Rattle.loop_session.specs.declared.loop_fault.LoopFault.TheVariants.{Wires, Sink, NoMemory}
 use Rattle.loop_session.specs.Giving.{happened, too_many, joined_to, octets_of, Gave, HeardSo, peer_heard}
@@ -242,6 +243,16 @@ pub given_prints : (a b : SinkState) (r : Rules) (m : ℕ) (s : Session KEnd) (m
     → mind ≡ s.mind → Prints a b new (with_mind mind (fed kept_ends r m s e)) res → Prints a b new (fed kept_ends r m s e) res
 given_prints a b r m s mind new e res same p =
     subst (λ (z : Session KEnd × List Entry). Prints a b new z res) (ap (λ (z : Option Mind). with_mind z (fed kept_ends r m s e)) same ∙ same_mind r m s e) p
+
+-- a text that the user sends, who hears where it is refused
+pub sent_prints : (a b : SinkState) (r : Rules) (m : ℕ) (s s0 : Session KEnd) (mind : Option Mind) (new : Session KEnd) (said : List ℕ) (res : Result (Unit {0}) LoopFault)
+    → s ≡ s0 → mind ≡ notes (refusal_heard said (refused_in (tells m (Send said) s0.end))) s0.mind
+    → Prints a b new (with_mind mind (fed kept_ends r m s (Sends said))) res → Prints a b new (replied kept_ends r m s (Sends said)) res
+unfolding outcomes_of
+sent_prints a b r m s s0 mind new said res same heard p =
+    let is : mind ≡ notes (refusal_heard said (refused_in (tells m (Send said) s.end))) s.mind =
+    subst (λ (z : Session KEnd). mind ≡ notes (refusal_heard said (refused_in (tells m (Send said) z.end))) z.mind) (sym same) heard in
+    subst (λ (z : Option Mind). Prints a b new (with_mind z (fed kept_ends r m s (Sends said))) res) is p
 
 pub heard_as : (r : Rules) (m : ℕ) (s s0 : Session KEnd) (g : Given) (mind : Option Mind) (spoken : Spoken) → s ≡ s0
     → HeardSo s0.mind (heard_in (tells m (event_of r g) s0.end)) mind spoken → HeardSo s.mind (heard_in (outcomes_of kept_ends r m s.end g)) mind spoken

@@ -16,6 +16,7 @@ pub record Twins (s : Session KEnd) (t : Session ModelEnd) : Type 0 where
   pub end : EndStands s.end t.end
   pub number : s.number ≡ t.number
   pub mind : s.mind ≡ t.mind
+  pub told : s.told ≡ t.told
   pub output : s.output ≡ t.output
   pub broken : s.broken ≡ t.broken
   pub closing : s.closing ≡ t.closing

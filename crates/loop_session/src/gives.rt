@@ -8,11 +8,11 @@ ghost use Rattle.er_trace.specs.declared.event.Event.TheVariants as event;
 ghost use Rattle.end_model.specs.Ends.{Start, Come, Send, Take, Leave, Tick, Ended, Fault, Stalled};
 ghost use Rattle.er_end.specs.KeptEnds.{happens, tells, used_of};
 ghost use Rattle.trace_model.specs.Printed.{outcomes_text};
-ghost use Rattle.loop_model.specs.Sessions.{octets_in, heard_in};
+ghost use Rattle.loop_model.specs.Sessions.{octets_in, heard_in, refused_in, refusal_heard, notes};
 ghost use Rattle.loop_model.specs.Grammar.{IsInGrammar};
 ghost use Rattle.loop_session.specs.Giving.{happened, Joins, JoinsCame, too_many, joined_to, peer_heard, HeardSo};
 
-use crate::hearing::hear_message;
+use crate::hearing::{hear_message, hear_refused};
 use crate::join::join_waiting;
 use crate::ranges::{see_deeds, see_octets, see_refusal, see_word};
 use bytes::BytesMut;
@@ -108,10 +108,12 @@ pub fn give_release(
     join_waiting(output, deeds.out)
 }
 
-/// The user sends a message: whether the octets that the end gives fit. Where it is refused, no octets join those that wait.
-#[tactic(auto, using(crate::proofs::Givings::octets_told, crate::proofs::Grammars::happens_so))]
-pub fn give_send(
+/// The user sends a message: whether the octets that the end gives fit. Where it is refused, no octets join those that wait, and the user
+/// hears that it is.
+#[tactic(auto, using(crate::proofs::Givings::octets_told, crate::proofs::Grammars::happens_so, crate::proofs::Hearings::refused_so, crate::proofs::Hearings::sent_so))]
+pub fn give_send<U: SafeUser>(
     end: &mut End,
+    user: &mut Option<U>,
     conn: u64,
     moment: u64,
     text: &[u8],
@@ -125,6 +127,7 @@ pub fn give_send(
     ensures text { OnOk result (line.new.items
         ≡ (line.old.items ++ line_text (entry_words moment conn (event.Send text.now))) ++ outcomes_text conn (tells moment (Send text.now) end.old)) }
     ensures joins { Joins result output.old.items output.new.items (octets_in (tells moment (Send text.now) end.old)) }
+    ensures heard { OnOk result (option_map U.mind user.new ≡ notes (refusal_heard text.now (refused_in (tells moment (Send text.now) end.old))) (option_map U.mind user.old)) }
 {
     print_send(moment, conn, text, line)?;
     match end.send(moment, text) {
@@ -136,6 +139,7 @@ pub fn give_send(
         Err(refused) => {
             see_refusal(&refused);
             tell_refused(conn, &refused, line)?;
+            hear_refused(user, text, &refused);
             join_waiting(output, b"")
         }
     }

@@ -2,9 +2,12 @@
 
 ghost use Rattle.std.specs.Prelude.{◌≡◌, Option, Some, None, option_map, if◌then◌else◌};
 ghost use Rattle.er_users.specs.Saying.{nothing, is_text};
-ghost use Rattle.er_users.specs.Users.{Heard, Message};
+ghost use Rattle.er_users.specs.Users.{Heard, Message, Refused};
+ghost use Rattle.er_end.specs.Shown.{refusal_view};
+ghost use Rattle.loop_model.specs.Sessions.{notes};
 ghost use Rattle.loop_session.specs.Giving.{HeardSo, peer_heard};
 
+use er_end::SendRefused;
 use er_users::{MOST_TEXT_OCTETS, Replies, SafeUser};
 
 /// The user hears, where there is one, that the connection to this peer came to stand, where it did.
@@ -32,5 +35,15 @@ pub fn hear_message<U: SafeUser>(user: &mut Option<U>, text: &[u8], replies: &mu
     }
     if let Some(user) = user {
         user.message(text, replies);
+    }
+}
+
+/// The user hears, where there is one, that a text of its own was refused, and why.
+#[tactic(auto, using(crate::proofs::Hearings::noted_refusal))]
+pub fn hear_refused<U: SafeUser>(user: &mut Option<U>, text: &[u8], why: &SendRefused)
+    ensures { option_map U.mind user.new ≡ notes (Some (Refused text.now (refusal_view why.now))) (option_map U.mind user.old) }
+{
+    if let Some(user) = user {
+        user.refused(text, why);
     }
 }

@@ -7,6 +7,7 @@
 mod event_lines;
 mod events;
 mod gives;
+mod gone;
 mod hearing;
 mod join;
 pub mod laws;

@@ -6,6 +6,7 @@ ghost use Rattle.loop_model.specs.Sessions.{parted};
 ghost use Rattle.loop_session.specs.Parts.{rules};
 ghost use Rattle.loop_session.specs.Keeping.{kept_ends};
 
+use crate::gone::Gone;
 use crate::session::Session;
 use crate::when::When;
 use er_users::SafeUser;
@@ -23,6 +24,7 @@ impl<U: SafeUser> Session<U> {
         };
         if let Some(mut user) = self.user.take() {
             user.released(why.reason, why.sub, why.by_peer);
+            self.gone = Some(Gone::of(&user));
             self.closing = Some(when.moment + when.setup);
         }
     }

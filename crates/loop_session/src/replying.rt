@@ -2,7 +2,7 @@
 
 ghost use Rattle.std.specs.Prelude.{◌≡◌, ◌≤◌, length};
 ghost use Rattle.loop_model.specs.Outs.{runs};
-ghost use Rattle.loop_model.specs.Sessions.{Rules, Session as LoopSession, Given, Sends, Leaves, Takes, heard_in, outcomes_of, stalled, fed, dealt, takes_all};
+ghost use Rattle.loop_model.specs.Sessions.{Rules, Session as LoopSession, Given, Sends, Leaves, Takes, heard_in, outcomes_of, stalled, fed, replied, dealt, takes_all};
 ghost use Rattle.loop_session.specs.Giving.{Gave, HeardSo, events_of};
 ghost use Rattle.loop_session.specs.Parts.{Prints, Chooses, with_mind};
 ghost use Rattle.er_end.specs.KeptEnds.{KEnd};
@@ -59,7 +59,7 @@ impl<U: SafeUser> Session<U> {
         self.stall(moment, line, sink)
     }
 
-    // The user sends a message.
+    // The user sends a message, and hears where it is refused.
     fn send<S: Sink>(
         &mut self,
         text: &[u8],
@@ -69,13 +69,14 @@ impl<U: SafeUser> Session<U> {
     ) -> Result<(), LoopFault>
         requires moment { moment ≤ 1000000000000000 }
         requires text { length text.now ≤ 4096 }
-        ensures prints { (r : Rules) → Prints (S.state sink.old) (S.state sink.new) self.new (fed kept_ends r moment self.old (Sends text.now)) result }
+        ensures prints { (r : Rules) → Prints (S.state sink.old) (S.state sink.new) self.new (replied kept_ends r moment self.old (Sends text.now)) result }
         ensures number { self.new.number ≡ self.old.number }
         ensures later { (S.state sink.old).faults ≤ (S.state sink.new).faults }
     {
         line.clear();
         let fits = give_send(
             &mut self.end,
+            &mut self.user,
             self.number,
             moment,
             text,
@@ -119,7 +120,7 @@ impl<U: SafeUser> Session<U> {
     ) -> Result<(), LoopFault>
         requires { moment ≤ 1000000000000000 }
         ensures prints { (r : Rules) → Prints (S.state sink.old) (S.state sink.new) self.new
-            (runs (fed kept_ends r moment) self.old (events_of scratch.old.replies)) result }
+            (runs (replied kept_ends r moment) self.old (events_of scratch.old.replies)) result }
         ensures number { self.new.number ≡ self.old.number }
         ensures later { (S.state sink.old).faults ≤ (S.state sink.new).faults }
     {

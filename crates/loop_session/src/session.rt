@@ -8,6 +8,7 @@ ghost use Rattle.loop_model.specs.Visits.{wakes};
 ghost use Rattle.loop_model.specs.Loops.{begun};
 ghost use Rattle.loop_session.specs.Keeping.{kept_ends};
 
+use crate::gone::Gone;
 use bytes::BytesMut;
 use er_end::End;
 use er_users::SafeUser;
@@ -19,6 +20,7 @@ use std::marker::Model;
 pub struct Session<U: SafeUser> {
     pub(crate) number: u64,
     pub(crate) user: Option<U>,
+    pub(crate) gone: Option<Gone<U>>,
     pub(crate) output: BytesMut,
     pub(crate) broken: bool,
     pub(crate) closing: Option<u64>,
@@ -29,10 +31,11 @@ impl<U: SafeUser> Model for Session<U> {
     ghost use Rattle.std.specs.Prelude.{option_map};
     ghost use Rattle.er_end.specs.KeptEnds.{KEnd};
     ghost use Rattle.loop_model.specs.Sessions.{Session as LoopSession};
+    ghost use Rattle.loop_session.specs.Farewells.{told_then};
 
     ghost Value = { LoopSession KEnd };
 
-    ghost view = { λ s. record { number = s.number; end = s.end; mind = option_map U.mind s.user; output = s.output.items; broken = s.broken; closing = s.closing } };
+    ghost view = { λ s. record { number = s.number; end = s.end; mind = option_map U.mind s.user; told = told_then (option_map (λ g. U.mind g.user) s.gone); output = s.output.items; broken = s.broken; closing = s.closing } };
 }
 
 // The first of two moments.
@@ -56,6 +59,7 @@ impl<U: SafeUser> Session<U> {
         Session {
             number,
             user: Some(user),
+            gone: None,
             output: BytesMut::new(alloc),
             broken: false,
             closing: None,

@@ -2,12 +2,10 @@
 
 ghost use Rattle.std.specs.Prelude.{◌≡◌, ◌≢◌, ◌≤◌, ℕ, length, take, true, false};
 ghost use Rattle.link_trait.specs.Wires.{reading_of};
-ghost use Rattle.loop_model.specs.Visits.{came, read_once, rests_behind};
-ghost use Rattle.loop_model.specs.Outs.{next};
+ghost use Rattle.loop_model.specs.Visits.{came};
 ghost use Rattle.loop_session.specs.Keeping.{kept_ends};
 ghost use Rattle.loop_session.specs.Parts.{rules, Chooses};
-ghost use Rattle.loop_visit.specs.Seeing.{seen};
-ghost use Rattle.loop_visit.specs.Visiting.{Visits, reads};
+ghost use Rattle.loop_visit.specs.Visiting.{IsInBounds, read_by, VisitsOn, Keep};
 
 use crate::writing::rest;
 use er_users::SafeUser;
@@ -44,8 +42,7 @@ fn take_in<U: SafeUser, K: KeyFinder, S: Sink>(
     scratch: &mut Scratch,
     sink: &mut S,
 ) -> Result<(), LoopFault>
-    requires moment { when.moment ≤ 1000000000000000 }
-    requires setup { when.setup ≤ 600000 }
+    requires when { IsInBounds when }
     requires octets { length octets.now ≤ 4096 }
     requires fits { (n : ℕ) → answer ≡ ReadAnswer.Some n → (1 ≤ n) × (n ≤ length octets.now) }
     ensures chooses { Chooses (S.state sink.old) (S.state sink.new) session.new
@@ -70,17 +67,10 @@ pub(crate) fn read<U: SafeUser, K: KeyFinder, W: Wires, S: Sink>(
     wires: &mut W,
     sink: &mut S,
 ) -> Result<bool, LoopFault>
-    requires moment { when.moment ≤ 1000000000000000 }
-    requires setup { when.setup ≤ 600000 }
-    ensures does { Visits (seen (S.state sink.old) (W.state wires.old))
-        (seen (S.state sink.new) (W.state wires.new))
-        session.new (reads (rules (K.entries keys.now) when.setup) when.moment session.old) result }
+    requires when { IsInBounds when }
+    ensures does { VisitsOn S.Sink W.Wires sink.old sink.new wires.old wires.new session.new (read_by (K.entries keys.now) when session.old) result }
     ensures number { session.new.number ≡ session.old.number }
-    ensures sunk { (S.state sink.old).faults ≤ (S.state sink.new).faults }
-    ensures count { (W.state wires.old).faults ≤ (W.state wires.new).faults }
-    ensures opened { (W.state wires.new).opened ≡ (W.state wires.old).opened }
-    ensures listening { (W.state wires.new).listening ≡ (W.state wires.old).listening }
-    ensures turn_count { (W.state wires.new).turn_faults ≡ (W.state wires.old).turn_faults }
+    ensures keep { Keep S.Sink W.Wires sink.old sink.new wires.old wires.new }
 {
     let mut octets = [0; MOST_READ];
     let answer = wires.read(Conn(session.number()), &mut octets);

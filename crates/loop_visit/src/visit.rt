@@ -1,13 +1,10 @@
 //! Visits of one session.
 
-ghost use Rattle.std.specs.Prelude.{◌≡◌, ◌≤◌, ◌<◌, ◌^◌, List};
+ghost use Rattle.std.specs.Prelude.{◌≡◌, ◌<◌, ◌^◌, List};
 ghost use Rattle.loop_model.specs.Sessions.{Begins};
 ghost use Rattle.safety_automaton.specs.Keys as keys;
-ghost use Rattle.loop_model.specs.Visits.{visited, served, is_due, Tick as VisitTick};
-ghost use Rattle.loop_session.specs.Keeping.{kept_ends};
-ghost use Rattle.loop_session.specs.Parts.{rules};
-ghost use Rattle.loop_visit.specs.Seeing.{seen};
-ghost use Rattle.loop_visit.specs.Visiting.{visit_of, Visits};
+ghost use Rattle.loop_model.specs.Visits.{is_due};
+ghost use Rattle.loop_visit.specs.Visiting.{IsInBounds, visit_by, event_by, VisitsOn, Stay, Keep};
 ghost use Rattle.loop_visit.specs.Writing.{Expires};
 
 use crate::reading::read;
@@ -48,17 +45,10 @@ fn tick<U: SafeUser, W: Wires, S: Sink>(
     wires: &mut W,
     sink: &mut S,
 ) -> Result<bool, LoopFault>
-    requires moment { when.moment ≤ 1000000000000000 }
-    requires setup { when.setup ≤ 600000 }
-    ensures does { (entries : List keys.Entry) → Visits (seen (S.state sink.old) (W.state wires.old))
-        (seen (S.state sink.new) (W.state wires.new))
-        session.new (visited kept_ends (rules entries when.setup) when.moment VisitTick session.old) result }
+    requires when { IsInBounds when }
+    ensures does { (entries : List keys.Entry) → VisitsOn S.Sink W.Wires sink.old sink.new wires.old wires.new session.new (visit_by entries when Visit.Tick session.old) result }
     ensures number { session.new.number ≡ session.old.number }
-    ensures sunk { (S.state sink.old).faults ≤ (S.state sink.new).faults }
-    ensures count { (W.state wires.old).faults ≤ (W.state wires.new).faults }
-    ensures opened { (W.state wires.new).opened ≡ (W.state wires.old).opened }
-    ensures listening { (W.state wires.new).listening ≡ (W.state wires.old).listening }
-    ensures turn_count { (W.state wires.new).turn_faults ≡ (W.state wires.old).turn_faults }
+    ensures keep { Keep S.Sink W.Wires sink.old sink.new wires.old wires.new }
 {
     if is_due(when.moment, session.deadline()) {
         match session.tick(when, scratch, sink) {
@@ -73,10 +63,7 @@ fn tick<U: SafeUser, W: Wires, S: Sink>(
 // A session is closed, where its closing moment has come. Whether it stays.
 fn expire<U: SafeUser, W: Wires>(session: &Session<U>, when: When, wires: &mut W) -> bool
     ensures expires { Expires (W.state wires.old) (W.state wires.new) when.moment session.now result }
-    ensures count { (W.state wires.old).faults ≤ (W.state wires.new).faults }
-    ensures opened { (W.state wires.new).opened ≡ (W.state wires.old).opened }
-    ensures listening { (W.state wires.new).listening ≡ (W.state wires.old).listening }
-    ensures turn_count { (W.state wires.new).turn_faults ≡ (W.state wires.old).turn_faults }
+    ensures stay { Stay W.Wires wires.old wires.new }
 {
     if is_due(when.moment, session.closing()) {
         wires.close(Conn(session.number()));
@@ -95,17 +82,10 @@ pub fn visit_session<U: SafeUser, K: KeyFinder, W: Wires, S: Sink>(
     wires: &mut W,
     sink: &mut S,
 ) -> Result<bool, LoopFault>
-    requires moment { when.moment ≤ 1000000000000000 }
-    requires setup { when.setup ≤ 600000 }
-    ensures does { Visits (seen (S.state sink.old) (W.state wires.old))
-        (seen (S.state sink.new) (W.state wires.new))
-        session.new (visited kept_ends (rules (K.entries keys.now) when.setup) when.moment (visit_of visit) session.old) result }
+    requires when { IsInBounds when }
+    ensures does { VisitsOn S.Sink W.Wires sink.old sink.new wires.old wires.new session.new (visit_by (K.entries keys.now) when visit session.old) result }
     ensures number { session.new.number ≡ session.old.number }
-    ensures sunk { (S.state sink.old).faults ≤ (S.state sink.new).faults }
-    ensures count { (W.state wires.old).faults ≤ (W.state wires.new).faults }
-    ensures opened { (W.state wires.new).opened ≡ (W.state wires.old).opened }
-    ensures listening { (W.state wires.new).listening ≡ (W.state wires.old).listening }
-    ensures turn_count { (W.state wires.new).turn_faults ≡ (W.state wires.old).turn_faults }
+    ensures keep { Keep S.Sink W.Wires sink.old sink.new wires.old wires.new }
 {
     match visit {
         Visit::Tick => tick(session, when, scratch, wires, sink),
@@ -130,19 +110,12 @@ pub fn begin_call<U: SafeUser, K: KeyFinder, W: Wires, S: Sink>(
     wires: &mut W,
     sink: &mut S,
 ) -> Result<bool, LoopFault>
-    requires moment { when.moment ≤ 1000000000000000 }
+    requires when { IsInBounds when }
     requires engine { call.now.engine < 2 ^ 24 }
     requires rbc { call.now.rbc < 2 ^ 24 }
-    requires setup { when.setup ≤ 600000 }
-    ensures does { Visits (seen (S.state sink.old) (W.state wires.old))
-        (seen (S.state sink.new) (W.state wires.new))
-        session.new (served kept_ends (rules (K.entries keys.now) when.setup) when.moment session.old (Begins call.now.engine call.now.rbc call.now.rb)) result }
+    ensures does { VisitsOn S.Sink W.Wires sink.old sink.new wires.old wires.new session.new (event_by (K.entries keys.now) when session.old (Begins call.now.engine call.now.rbc call.now.rb)) result }
     ensures number { session.new.number ≡ session.old.number }
-    ensures sunk { (S.state sink.old).faults ≤ (S.state sink.new).faults }
-    ensures count { (W.state wires.old).faults ≤ (W.state wires.new).faults }
-    ensures opened { (W.state wires.new).opened ≡ (W.state wires.old).opened }
-    ensures listening { (W.state wires.new).listening ≡ (W.state wires.old).listening }
-    ensures turn_count { (W.state wires.new).turn_faults ≡ (W.state wires.old).turn_faults }
+    ensures keep { Keep S.Sink W.Wires sink.old sink.new wires.old wires.new }
 {
     match session.call(call, when, scratch, sink) {
         Ok(()) => {}

@@ -1,14 +1,10 @@
 //! The output of a session is written, and what follows that.
 
-ghost use Rattle.std.specs.Prelude.{◌≡◌, ◌≤◌, ◌||◌, ◌&&◌, ◌==◌, List, length, not, true, false};
+ghost use Rattle.std.specs.Prelude.{◌≡◌, ◌||◌, ◌&&◌, ◌==◌, List, length};
 ghost use Rattle.safety_automaton.specs.Keys as keys;
 ghost use Rattle.loop_model.specs.Sessions.{is_released};
-ghost use Rattle.loop_model.specs.Visits.{written, settled, rests};
 ghost use Rattle.loop_session.specs.Keeping.{kept_ends};
-ghost use Rattle.loop_session.specs.Parts.{rules};
-ghost use Rattle.loop_visit.specs.Acting.{Does};
-ghost use Rattle.loop_visit.specs.Seeing.{seen};
-ghost use Rattle.loop_visit.specs.Visiting.{left, Visits};
+ghost use Rattle.loop_visit.specs.Visiting.{IsInBounds, writing_by, rest_by, DoesOn, VisitsOn, Stay, Keep};
 ghost use Rattle.loop_visit.specs.Writing.{Wrote, Settles};
 
 use er_users::SafeUser;
@@ -30,10 +26,7 @@ enum Flow {
 fn write_all<U: SafeUser, W: Wires>(session: &mut Session<U>, wires: &mut W) -> Flow
     ensures wrote { Wrote (W.state wires.old) (W.state wires.new) session.old session.new result }
     ensures number { session.new.number ≡ session.old.number }
-    ensures count { (W.state wires.old).faults ≤ (W.state wires.new).faults }
-    ensures opened { (W.state wires.new).opened ≡ (W.state wires.old).opened }
-    ensures listening { (W.state wires.new).listening ≡ (W.state wires.old).listening }
-    ensures turn_count { (W.state wires.new).turn_faults ≡ (W.state wires.old).turn_faults }
+    ensures stay { Stay W.Wires wires.old wires.new }
 {
     while !session.output().is_empty() {
         match wires.write(Conn(session.number()), session.output()) {
@@ -53,17 +46,10 @@ fn write_out<U: SafeUser, W: Wires, S: Sink>(
     wires: &mut W,
     sink: &mut S,
 ) -> Result<(), LoopFault>
-    requires moment { when.moment ≤ 1000000000000000 }
-    requires setup { when.setup ≤ 600000 }
-    ensures does { (entries : List keys.Entry) → Does (seen (S.state sink.old) (W.state wires.old))
-        (seen (S.state sink.new) (W.state wires.new))
-        session.new (written kept_ends (rules entries when.setup) when.moment session.old) result }
+    requires when { IsInBounds when }
+    ensures does { (entries : List keys.Entry) → DoesOn S.Sink W.Wires sink.old sink.new wires.old wires.new session.new (writing_by entries when session.old) result }
     ensures number { session.new.number ≡ session.old.number }
-    ensures sunk { (S.state sink.old).faults ≤ (S.state sink.new).faults }
-    ensures count { (W.state wires.old).faults ≤ (W.state wires.new).faults }
-    ensures opened { (W.state wires.new).opened ≡ (W.state wires.old).opened }
-    ensures listening { (W.state wires.new).listening ≡ (W.state wires.old).listening }
-    ensures turn_count { (W.state wires.new).turn_faults ≡ (W.state wires.old).turn_faults }
+    ensures keep { Keep S.Sink W.Wires sink.old sink.new wires.old wires.new }
 {
     if session.is_broken() {
         return Ok(());
@@ -84,10 +70,7 @@ fn write_out<U: SafeUser, W: Wires, S: Sink>(
 // Whether a session stays: it is closed as soon as it broke off, or once it is released and nothing waits.
 fn settle<U: SafeUser, W: Wires>(session: &Session<U>, wires: &mut W) -> bool
     ensures settles { Settles (W.state wires.old) (W.state wires.new) session.now result }
-    ensures count { (W.state wires.old).faults ≤ (W.state wires.new).faults }
-    ensures opened { (W.state wires.new).opened ≡ (W.state wires.old).opened }
-    ensures listening { (W.state wires.new).listening ≡ (W.state wires.old).listening }
-    ensures turn_count { (W.state wires.new).turn_faults ≡ (W.state wires.old).turn_faults }
+    ensures stay { Stay W.Wires wires.old wires.new }
 {
     if is_done(session) {
         wires.close(Conn(session.number()));
@@ -117,17 +100,10 @@ pub(crate) fn rest<U: SafeUser, W: Wires, S: Sink>(
     wires: &mut W,
     sink: &mut S,
 ) -> Result<bool, LoopFault>
-    requires moment { when.moment ≤ 1000000000000000 }
-    requires setup { when.setup ≤ 600000 }
-    ensures does { (entries : List keys.Entry) → Visits (seen (S.state sink.old) (W.state wires.old))
-        (seen (S.state sink.new) (W.state wires.new))
-        session.new (rests kept_ends (rules entries when.setup) when.moment session.old) result }
+    requires when { IsInBounds when }
+    ensures does { (entries : List keys.Entry) → VisitsOn S.Sink W.Wires sink.old sink.new wires.old wires.new session.new (rest_by entries when session.old) result }
     ensures number { session.new.number ≡ session.old.number }
-    ensures sunk { (S.state sink.old).faults ≤ (S.state sink.new).faults }
-    ensures count { (W.state wires.old).faults ≤ (W.state wires.new).faults }
-    ensures opened { (W.state wires.new).opened ≡ (W.state wires.old).opened }
-    ensures listening { (W.state wires.new).listening ≡ (W.state wires.old).listening }
-    ensures turn_count { (W.state wires.new).turn_faults ≡ (W.state wires.old).turn_faults }
+    ensures keep { Keep S.Sink W.Wires sink.old sink.new wires.old wires.new }
 {
     match write_out(session, when, scratch, wires, sink) {
         Ok(()) => {}

@@ -19,6 +19,9 @@ use Rattle.loop_model.specs.Ends.{EndOps, ModelEnd, model_ends}
 use Rattle.loop_model.specs.Journals.{header, text}
 use Rattle.loop_model.specs.Outs.{Out, still, next, makes, acts, exactly}
 use Rattle.loop_model.specs.Visits.{Met}
+use Rattle.link_trait.specs.declared.sink.Sink as sink_of
+use Rattle.link_trait.specs.declared.wires.Wires as wires_of
+use Rattle.link_trait.specs.declared.clock.Clock as clock_of
 use Rattle.link_trait.specs.declared.wires.Happening.{Happening}
 use Rattle.loop_model.specs.Loops.{Plan, Loop, Caller, Halt, OnClosed, OnFailed, Course, Turn, asks, opens, dials_to, run, nothing_comes, beginning, Dialled, dials, printed, went}
 use Rattle.loop_model.specs.Parts.{opened_in, Rises, newest}
@@ -30,8 +33,9 @@ use Rattle.loop_session.specs.declared.loop_fault.LoopFault.TheVariants.{Wires, 
 use Rattle.loop_visit.specs.Seeing.{Counts}
 use Rattle.readiness_loop.specs.declared.line_plan.Served.{Served}
 use Rattle.readiness_loop.specs.Cuts.{Cut, LiesIn, behind, first_turns}
-use Rattle.readiness_loop.specs.Claims.{pair_of, IsDone, IsCutAt, IsLawful, HasTurns, HasDialled, NotDialling, LineFailed, FailsToDial, opening as model_opening, BeforeDialling, InDiallingHeader, InOpening, InDialling, BreaksOffDialling, halt_for}
-use Rattle.readiness_loop.specs.Courses.{Around, Came, Went, Broke, WentOff, RanOff, Runs, Dials, outside_of, course_of, opening, Opened, Opens, caller_of, halt_if}
+use Rattle.readiness_loop.specs.Claims.{pair_of, IsDone, IsCutAt, IsLawful, HasTurns, HasDialled, NotDialling, LineFailed, FailsToDial, opening as model_opening, BeforeDialling, InDiallingHeader, InOpening, InDialling, BreaksOffDialling, halt_for, caller_of, DialsOn}
+use Rattle.readiness_loop.specs.Courses.{Around, Came, Went, Broke, WentOff, RanOff, Runs, Dials, outside_of, course_of, opening, Opened, Opens, halt_if}
+use Rattle.readiness_loop.specs.Lives.{around_at}
 use Rattle.loop_visit.specs.Sequels.{counts_then, failed_behind}
 use Rattle.readiness_loop.proofs.Cutting.{broke_behind, lies_as}
 use Rattle.readiness_loop.proofs.Planned.{many, run_many, opens_many, lies_acts}
@@ -297,6 +301,7 @@ dial_done laws engine rbc kmac plan a m b minds words address conn new count why
       done = dials_done laws plan caller a m b minds words address conn x count why w.is_conn begun s;
       lawful = dials_lawful laws plan caller minds words address x dialling;
       replies = laws.replies.dialling plan caller (beginning minds words) address x dialling;
+      users = laws.users.dialling plan caller (beginning minds words) address x dialling;
       turns = dials_turns laws plan caller m b minds words address conn x count why w.is_conn s;
       halted = dials_halted plan caller m b minds words address conn x count why w.is_conn s;
       alone = λ deaf. dials_alone plan caller (beginning minds words) address conn x w.is_conn (s.alone (hears ∙ deaf));
@@ -558,17 +563,21 @@ pub dial_memory_of : (plan : Plan) (caller : Caller) (a b : Around) (minds : Lis
     → (want : Want) → r ≡ Err (NoMemory want) → BreaksOffDialling (outside_of a) (outside_of b) plan caller address minds words
 dial_memory_of plan caller a b minds words left address r p want is = (subst (λ z. Dials plan caller a b minds words left address z) is p).0
 
-pub dial_memory_as : (plan plan' : Plan) (caller : Caller) (a b : Around) (minds : List Mind) (words left : Stream) (address : List ℕ) (r : Result Served LoopFault) → plan ≡ plan' → Dials plan caller a b minds words left address r
-    → (want : Want) → r ≡ Err (NoMemory want) → BreaksOffDialling (outside_of a) (outside_of b) plan' caller address minds words
-dial_memory_as plan plan' caller a b minds words left address r same p want is =
-    subst (λ z. BreaksOffDialling (outside_of a) (outside_of b) z caller address minds words) same (dial_memory_of plan caller a b minds words left address r p want is)
-
-pub dial_failed_as : (plan plan' : Plan) (caller : Caller) (a b : Around) (minds : List Mind) (words left : Stream) (address : List ℕ) (r : Result Served LoopFault) → plan ≡ plan' → Dials plan caller a b minds words left address r
-    → r ≡ Err Wires → FailsToDial (outside_of a) (outside_of b) plan' caller address minds words left
-dial_failed_as plan plan' caller a b minds words left address r same p is =
-    subst (λ z. FailsToDial (outside_of a) (outside_of b) z caller address minds words left) same (dial_failed_of plan caller a b minds words left address r p is)
-
-pub dial_off_as : (plan plan' : Plan) (caller : Caller) (a b : Around) (minds : List Mind) (words left : Stream) (address : List ℕ) (r : Result Served LoopFault) → plan ≡ plan' → Dials plan caller a b minds words left address r
-    → r ≡ Err Sink → BreaksOffDialling (outside_of a) (outside_of b) plan' caller address minds words
-dial_off_as plan plan' caller a b minds words left address r same p is =
-    subst (λ z. BreaksOffDialling (outside_of a) (outside_of b) z caller address minds words) same (dial_off_of plan caller a b minds words left address r p is)
+-- all of them, of the plan that the caller has
+pub dials_on : {K W C : Type 0} (k : sink_of.Ghosts K) (w : wires_of.Ghosts W) (c : clock_of.Ghosts C) (held holds : K) (wired now : W) (asked asks : C)
+    (plan plan' : Plan) (caller : Caller) (address : List ℕ) (minds : List Mind) (words left : Stream) (r : Result Served LoopFault) → plan ≡ plan'
+    → Dials plan caller (around_at k w c held wired asked) (around_at k w c holds now asks) minds words left address r → (k.state held).faults ≤ (k.state holds).faults
+    → DialsOn k w c held holds wired now asked asks plan' caller address minds words left r
+dials_on k w c held holds wired now asked asks plan plan' caller address minds words left r same p later =
+    let a = around_at k w c held wired asked in
+    let b = around_at k w c holds now asks in
+    let q : Dials plan' caller a b minds words left address r = subst (λ z. Dials z caller a b minds words left address r) same p in
+    record {
+      served = dialled_of plan' caller a b minds words left address r q;
+      wires = dial_failed_of plan' caller a b minds words left address r q;
+      rose = dial_rose_of plan' caller a b minds words left address r q;
+      sink = dial_off_of plan' caller a b minds words left address r q;
+      sunk = dial_sunk_of plan' caller a b minds words left address r q;
+      memory = dial_memory_of plan' caller a b minds words left address r q;
+      sink_count = later;
+    }

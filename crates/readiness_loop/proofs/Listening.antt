@@ -14,6 +14,9 @@ use Rattle.er_trace.specs.Texts.{header_words}
 use Rattle.loop_model.specs.Sessions.{Session}
 use Rattle.er_users.specs.Users.{Mind}
 use Rattle.link_trait.specs.States.{SinkState}
+use Rattle.link_trait.specs.declared.sink.Sink as sink
+use Rattle.link_trait.specs.declared.wires.Wires as wires
+use Rattle.link_trait.specs.declared.clock.Clock as clock
 use Rattle.link_trait.specs.Outside.{Grew, GrewPart, Rose}
 use Rattle.link_trait.specs.Growth.{grew_nothing, grew_then}
 use Rattle.link_trait.specs.Wires.{Call, Listens, given_of, taken_of}
@@ -23,6 +26,7 @@ use Rattle.loop_model.specs.Loops.{Plan, Loop, Halt, OnFailed, Turn, run, beginn
 use Rattle.loop_model.specs.Parts.{Rises, calls_at, opened_in}
 use Rattle.loop_model.specs.Laws.{ConnectionsAreIsolated, JournalIsPrinted, OctetsAreAccounted, CallsAreOnOpen, FaultsHaveFailed, TurnsAreCounted, IsServing, RunsSo, faults, failures, turns_of, HaltsBy}
 use Rattle.loop_model.specs.Points.{OctetsAreHeard, UsersReply}
+use Rattle.loop_model.specs.Told.{UsersHear}
 use Rattle.loop_model.specs.Recordings.{RecordingsReplay}
 use Rattle.loop_session.specs.Parts.{FailedFor, Puts}
 use Rattle.loop_session.specs.Standing.{RunsAlike, DialsAlike}
@@ -30,8 +34,9 @@ use Rattle.loop_session.specs.declared.loop_fault.LoopFault.{LoopFault}
 use Rattle.loop_session.specs.declared.loop_fault.LoopFault.TheVariants.{Wires, Sink, NoMemory}
 use Rattle.loop_visit.specs.Seeing.{Counts}
 use Rattle.readiness_loop.specs.declared.line_plan.Served.{Served}
-use Rattle.readiness_loop.specs.Claims.{IsDone, IsLawful, HasTurns, AreSpoken, HasServed, NotListening, TurnFailed, FailsToServe, IsCutAt, BeforeListening, InServingHeader, InServing, BreaksOffServing, halt_for}
+use Rattle.readiness_loop.specs.Claims.{IsDone, IsLawful, HasTurns, AreSpoken, UsersHeard, HasServed, NotListening, TurnFailed, FailsToServe, IsCutAt, BeforeListening, InServingHeader, InServing, BreaksOffServing, halt_for, ServesOn}
 use Rattle.readiness_loop.specs.Courses.{Around, Went, RanOff, Runs, Serves, outside_of, course_of, loop_of}
+use Rattle.readiness_loop.specs.Lives.{around_at}
 use Rattle.loop_visit.specs.Sequels.{counts_none, counts_then, failed_behind}
 use Rattle.readiness_loop.proofs.Acceptings.{no_sessions}
 use Rattle.readiness_loop.proofs.Planned.{many, lies_acts}
@@ -47,6 +52,7 @@ pub record Laws : Type 0 where
   pub heard : OctetsAreHeard
   pub replayed : RecordingsReplay
   pub replies : UsersReply
+  pub users : UsersHear
   pub faults : FaultsHaveFailed
   pub turns : TurnsAreCounted
   -- over ends as they are kept a loop does the same
@@ -112,6 +118,11 @@ serves_replies : (laws : Laws) (plan : Plan) (minds : List Mind) (words : Stream
 unfolding serves
 serves_replies laws plan minds words address turns serving = laws.replies.serving plan (beginning minds words) turns serving
 
+serves_heard : (laws : Laws) (plan : Plan) (minds : List Mind) (words : Stream) (address : List ℕ) (turns : List Turn)
+    → IsServing plan (beginning minds words) turns → UsersHeard minds (serves model_ends plan (beginning minds words) address true turns)
+unfolding serves
+serves_heard laws plan minds words address turns serving = laws.users.serving plan (beginning minds words) turns serving
+
 serves_turns : (laws : Laws) (plan : Plan) (m b : Around) (minds : List Mind) (words : Stream) (address : List ℕ) (turns : List Turn) (count : ℕ) (why : Option Halt)
     → Shown m b (run model_ends plan (beginning minds words) turns) count why
     → HasTurns plan (serves model_ends plan (beginning minds words) address true turns) count why
@@ -148,6 +159,7 @@ serve_done laws plan a m b minds words address new count why allowed begun w =
       done = serves_done laws plan a m b minds words address w.answers count why begun s;
       lawful = serves_lawful laws plan minds words address w.answers serving;
       replies = serves_replies laws plan minds words address w.answers serving;
+      users = serves_heard laws plan minds words address w.answers serving;
       turns = serves_turns laws plan m b minds words address w.answers count why s;
       halted = serves_halted plan m b minds words address w.answers count why s;
     }
@@ -281,17 +293,21 @@ pub memory_of : (plan : Plan) (a b : Around) (minds : List Mind) (words left : S
     → (want : Want) → r ≡ Err (NoMemory want) → BreaksOffServing (outside_of a) (outside_of b) plan address minds words
 memory_of plan a b minds words left address r p want is = (subst (λ z. Serves plan a b minds words left address z) is p).0
 
-pub memory_as : (plan plan' : Plan) (a b : Around) (minds : List Mind) (words left : Stream) (address : List ℕ) (r : Result Served LoopFault) → plan ≡ plan' → Serves plan a b minds words left address r
-    → (want : Want) → r ≡ Err (NoMemory want) → BreaksOffServing (outside_of a) (outside_of b) plan' address minds words
-memory_as plan plan' a b minds words left address r same p want is =
-    subst (λ z. BreaksOffServing (outside_of a) (outside_of b) z address minds words) same (memory_of plan a b minds words left address r p want is)
-
-pub failed_as : (plan plan' : Plan) (a b : Around) (minds : List Mind) (words left : Stream) (address : List ℕ) (r : Result Served LoopFault) → plan ≡ plan' → Serves plan a b minds words left address r
-    → r ≡ Err Wires → FailsToServe (outside_of a) (outside_of b) plan' address minds words left
-failed_as plan plan' a b minds words left address r same p is =
-    subst (λ z. FailsToServe (outside_of a) (outside_of b) z address minds words left) same (failed_of plan a b minds words left address r p is)
-
-pub off_as : (plan plan' : Plan) (a b : Around) (minds : List Mind) (words left : Stream) (address : List ℕ) (r : Result Served LoopFault) → plan ≡ plan' → Serves plan a b minds words left address r
-    → r ≡ Err Sink → BreaksOffServing (outside_of a) (outside_of b) plan' address minds words
-off_as plan plan' a b minds words left address r same p is =
-    subst (λ z. BreaksOffServing (outside_of a) (outside_of b) z address minds words) same (off_of plan a b minds words left address r p is)
+-- all of them, of the plan that the caller has
+pub serves_on : {K W C : Type 0} (k : sink.Ghosts K) (w : wires.Ghosts W) (c : clock.Ghosts C) (held holds : K) (wired now : W) (asked asks : C)
+    (plan plan' : Plan) (address : List ℕ) (minds : List Mind) (words left : Stream) (r : Result Served LoopFault) → plan ≡ plan'
+    → Serves plan (around_at k w c held wired asked) (around_at k w c holds now asks) minds words left address r → (k.state held).faults ≤ (k.state holds).faults
+    → ServesOn k w c held holds wired now asked asks plan' address minds words left r
+serves_on k w c held holds wired now asked asks plan plan' address minds words left r same p later =
+    let a = around_at k w c held wired asked in
+    let b = around_at k w c holds now asks in
+    let q : Serves plan' a b minds words left address r = subst (λ z. Serves z a b minds words left address r) same p in
+    record {
+      served = served_of plan' a b minds words left address r q;
+      wires = failed_of plan' a b minds words left address r q;
+      rose = rose_of plan' a b minds words left address r q;
+      sink = off_of plan' a b minds words left address r q;
+      sunk = sunk_of plan' a b minds words left address r q;
+      memory = memory_of plan' a b minds words left address r q;
+      sink_count = later;
+    }

@@ -10,7 +10,7 @@ use Rattle.link_trait.specs.declared.wires.WriteAnswer.{WriteAnswer}
 use Rattle.link_trait.specs.declared.wires.WriteAnswer.TheVariants as write
 use Rattle.loop_model.specs.Journals.{Entry}
 use Rattle.loop_model.specs.Outs.{Out, still, runs, acts}
-use Rattle.loop_model.specs.Sessions.{Rules, Session, Given, Takes, Ticks, Faults, Says, most_output, joined, fed, hears, heard_in, outcomes_of, octets_in, dealt, takes_all, parts, parted, handled, is_released}
+use Rattle.loop_model.specs.Sessions.{Rules, Session, Given, Begins, Hears, Sends, Takes, Leaves as Departs, Ticks, Ends, Faults, Stalls, Says, most_output, joined, fed, replied, hears, heard_in, outcomes_of, octets_in, dealt, takes_all, parts, parted, handled, is_released}
 use Rattle.loop_model.specs.Visits.{Flow, Going, PutOff, Failing, Wrote, Met, Visit, Tick, Read, Write, Expire, after_write, writes_if, writes_once, writes, fault_unless, flowed, written_unless, written, settled, rests, served, visited, is_due, wakes}
 use Rattle.readiness_loop.specs.Books.{IsTimed}
 use Rattle.readiness_loop.proofs.Befores.{not_due_first, not_due_second}
@@ -29,6 +29,17 @@ fed_number : (r : Rules) (m : ℕ) (s : Session KEnd) (g : Given) → (fed kept_
 unfolding fed
 fed_number r m s g = joined_number r m _ (octets_in (outcomes_of kept_ends r m s.end g))
 
+replied_number : (r : Rules) (m : ℕ) (s : Session KEnd) (g : Given) → (replied kept_ends r m s g).0.number ≡ s.number
+replied_number r m s (Begins engine rbc rb) = fed_number r m s (Begins engine rbc rb)
+replied_number r m s (Hears octets) = fed_number r m s (Hears octets)
+replied_number r m s (Sends text) = fed_number r m s (Sends text)
+replied_number r m s Takes = fed_number r m s Takes
+replied_number r m s (Departs sub) = fed_number r m s (Departs sub)
+replied_number r m s Ticks = fed_number r m s Ticks
+replied_number r m s Ends = fed_number r m s Ends
+replied_number r m s Faults = fed_number r m s Faults
+replied_number r m s Stalls = fed_number r m s Stalls
+
 runs_number : {A : Type 0} (f : Session KEnd → A → Session KEnd × List Entry) → ((s : Session KEnd) (a : A) → (f s a).0.number ≡ s.number)
     → (s : Session KEnd) (answers : List A) → (runs f s answers).0.number ≡ s.number
 unfolding runs
@@ -39,7 +50,7 @@ dealt_number : (r : Rules) (m : ℕ) (s : Session KEnd) (g : Given) (free : Said
 unfolding dealt
 dealt_number r m s g free =
     let b = hears s.mind (heard_in (outcomes_of kept_ends r m s.end g)) free in
-    runs_number (fed kept_ends r m) (fed_number r m) (record (fed kept_ends r m s g).0 { mind = b.0 }) b.1 ∙ fed_number r m s g
+    runs_number (replied kept_ends r m) (replied_number r m) (record (fed kept_ends r m s g).0 { mind = b.0 }) b.1 ∙ fed_number r m s g
 
 takes_number : (r : Rules) (m : ℕ) (s : Session KEnd) (frees : List Said) → (takes_all kept_ends r m s frees).0.number ≡ s.number
 unfolding takes_all

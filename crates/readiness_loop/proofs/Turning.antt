@@ -8,7 +8,7 @@ use Rattle.slab.specs.Slab.{Slab}
 use Rattle.link_trait.specs.States.{ClockState, SinkState, WiresState}
 use Rattle.link_trait.specs.Outside.{Grew, Rose}
 use Rattle.link_trait.specs.Growth.{grew_nothing}
-use Rattle.link_trait.specs.Wires.{Call, Turns, opened_by_turn}
+use Rattle.link_trait.specs.Wires.{Turns, opened_by_turn}
 use Rattle.link_trait.specs.declared.wires.Conn.{Conn}
 use Rattle.link_trait.specs.declared.wires.Happening.{Happening}
 use Rattle.link_trait.specs.declared.wires.Happening.TheVariants as happening

@@ -1,12 +1,16 @@
 -- What is claimed of a loop that serves and of one that dials: there is a journal, which the sink got behind the header; the calls made on the
 -- wires and the clock's answers are those of that journal; both are what the loop of `loop_model` does for some answers of the outside.
-use Rattle.std.specs.Prelude.{◌≡◌, ℕ, ◌+◌, ◌-◌, ◌^◌, ◌≤◌, min, Bool, true, false, List, [], ◌∷◌, ◌++◌, length, Option, Some, None}
+use Rattle.std.specs.Prelude.{◌≡◌, ℕ, ◌+◌, ◌-◌, ◌^◌, ◌≤◌, min, Bool, true, false, List, [], ◌∷◌, ◌++◌, length, Option, Some, None, Result, Err, IfOk}
 use Rattle.rand_core.specs.Stream.{Stream}
 use Rattle.des_block.specs.declared.triple_key.TripleKey.{TripleKey}
 use Rattle.safety_automaton.specs.Keys as keys
+use Rattle.er_base.specs.declared.no_memory.NoMemory.{NoMemory as Want}
 use Rattle.er_users.specs.Users.{Mind}
 use Rattle.link_trait.specs.States.{SinkState, WiresState, ClockState}
-use Rattle.link_trait.specs.Outside.{Grew}
+use Rattle.link_trait.specs.Outside.{Grew, Rose}
+use Rattle.link_trait.specs.declared.sink.Sink as sink
+use Rattle.link_trait.specs.declared.wires.Wires as wires
+use Rattle.link_trait.specs.declared.clock.Clock as clock
 use Rattle.link_trait.specs.Wires.{Call, Listens, Dials}
 use Rattle.loop_model.specs.Ends.{ModelEnd, model_ends}
 use Rattle.loop_model.specs.Grammar.{AreInGrammar}
@@ -15,12 +19,16 @@ use Rattle.loop_model.specs.Outs.{Out}
 use Rattle.loop_model.specs.Visits.{Met}
 use Rattle.loop_model.specs.Loops.{Plan, Halt, OnEnded, OnClosed, OnFailed, Course, Turn, beginning, serves, Caller, Dialled, dials, asks, opens, printed}
 use Rattle.loop_model.specs.Laws.{IsServing, IsDialling, IsIsolated, IsPrinted, AreAccounted, AreOnOpen, faults, HaltsBy, turns_of, greatest}
-use Rattle.loop_model.specs.Parts.{of, opened_in}
+use Rattle.loop_model.specs.Parts.{session_of, of, opened_in}
 use Rattle.loop_model.specs.Points.{AreHeard, user_of, IsSpoken}
+use Rattle.loop_model.specs.Told.{IsHeard}
 use Rattle.loop_model.specs.Recordings.{IsReplayed}
+use Rattle.loop_session.specs.declared.loop_fault.LoopFault.{LoopFault}
+use Rattle.loop_session.specs.declared.loop_fault.LoopFault.TheVariants as fault
 use Rattle.loop_visit.specs.Seeing.{Seen, seen, AreAnsweredSo, Counts}
 use Rattle.readiness_loop.specs.Cuts.{Cut, LiesIn, behind, with_turns, LiesInRun}
 use Rattle.readiness_loop.specs.declared.line_plan.LinePlan.{LinePlan}
+use Rattle.readiness_loop.specs.declared.line_plan.Served.{Served}
 use Rattle.readiness_loop.specs.declared.line_plan.Stop.{Stop}
 use Rattle.readiness_loop.specs.declared.line_plan.Stop.TheVariants as stop
 
@@ -38,6 +46,10 @@ pair_of engine rbc kmac = record { engine = engine; rbc = rbc; kmac = kmac; firs
 abbrev pub dialling : TripleKey → LinePlan → (engine rbc handed : ℕ) → Plan
 dialling kmac plan engine rbc handed =
     record { settings = plan.settings; keys = pair_of engine rbc kmac ∷ []; rbc = rbc; handed = handed; turns = plan.turns; dials = true }
+
+-- the session that calls
+abbrev pub caller_of : (engine : ℕ) → TripleKey → Caller
+caller_of engine kmac = record { engine = engine; kmac = kmac }
 
 -- ---- what is seen of the outside
 
@@ -88,6 +100,10 @@ pub record IsLawful (plan : Plan) (o : Out (Course ModelEnd)) : Type 0 where
 abbrev pub AreSpoken : List Mind → Out (Course ModelEnd) → Type 0
 AreSpoken minds o = (conn : ℕ) → IsSpoken (user_of conn o.entries minds) (of conn o.entries)
 
+-- a user of a live session that tells what it heard has told exactly what the events of its connection say
+abbrev pub UsersHeard : List Mind → Out (Course ModelEnd) → Type 0
+UsersHeard minds o = (conn : ℕ) → IsHeard (session_of conn o.state.loop.sessions) (user_of conn o.entries minds) (of conn o.entries)
+
 -- its turns: none behind one that ended or failed, as many as it counts, and not more than planned; and its moment
 pub record HasTurns (plan : Plan) (o : Out (Course ModelEnd)) (count : ℕ) (why : Option Halt) : Type 0 where
   pub halts : HaltsBy why (turns_of o.calls)
@@ -115,6 +131,7 @@ pub record HasServed (before now : Outside) (plan : Plan) (address : List ℕ) (
   pub done : IsDone before now true plan (serves model_ends plan (beginning minds words) address true answers)
   pub lawful : IsLawful plan (serves model_ends plan (beginning minds words) address true answers)
   pub replies : AreSpoken minds (serves model_ends plan (beginning minds words) address true answers)
+  pub users : UsersHeard minds (serves model_ends plan (beginning minds words) address true answers)
   pub turns : HasTurns plan (serves model_ends plan (beginning minds words) address true answers) count why
   pub halted : why ≡ (serves model_ends plan (beginning minds words) address true answers).state.halt
 
@@ -151,6 +168,7 @@ pub record HasDialled (before now : Outside) (plan : Plan) (caller : Caller) (ad
   pub done : IsDone before now true plan (dials model_ends plan caller (beginning minds words) address answers)
   pub lawful : IsLawful plan (dials model_ends plan caller (beginning minds words) address answers)
   pub replies : AreSpoken minds (dials model_ends plan caller (beginning minds words) address answers)
+  pub users : UsersHeard minds (dials model_ends plan caller (beginning minds words) address answers)
   pub turns : HasTurns plan (dials model_ends plan caller (beginning minds words) address answers) count why
   pub halted : why ≡ (dials model_ends plan caller (beginning minds words) address answers).state.halt
   -- where the wires didn't listen before, no other connection was opened
@@ -187,3 +205,38 @@ pub data BreaksOffDialling (before now : Outside) (plan : Plan) (caller : Caller
       → cut ≡ behind (opening plan caller minds words conn first met) rest
       → IsCutAt before now (header plan.settings ++ cut.printed) (Dials address (Some conn) ∷ cut.calls)
       → BreaksOffDialling before now plan caller address minds words
+
+-- ---- the clauses of both calls, over a sink, wires and a clock
+
+abbrev pub outside_at : {K W C : Type 0} → sink.Ghosts K → wires.Ghosts W → clock.Ghosts C → K → W → C → Outside
+outside_at k w c held wired asked = outside (k.state held) (w.state wired) (c.state asked)
+
+-- how a call ends: with Ok it did so much; with an error it failed so, or broke off so, and the count of those faults rose
+pub record Ends {K W : Type 0} (k : sink.Ghosts K) (w : wires.Ghosts W) (held holds : K) (wired now : W) (Did : ℕ → Option Halt → Type 0) (Fails BreaksOff : Type 0) (result : Result Served LoopFault) : Type 0 where
+  pub served : IfOk result (λ served. Did served.turns (halt_for served.why))
+  -- a listen, dial or turn failed
+  pub wires : result ≡ Err fault.Wires → Fails
+  pub rose : result ≡ Err fault.Wires → Rose (w.state wired).turn_faults (w.state now).turn_faults
+  -- a write of the sink failed
+  pub sink : result ≡ Err fault.Sink → BreaksOff
+  pub sunk : result ≡ Err fault.Sink → Rose (k.state held).faults (k.state holds).faults
+  -- memory ran out
+  pub memory : (want : Want) → result ≡ Err (fault.NoMemory want) → BreaksOff
+  -- the sink's count of faults doesn't fall
+  pub sink_count : (k.state held).faults ≤ (k.state holds).faults
+
+abbrev pub ServesOn : {K W C : Type 0} → sink.Ghosts K → wires.Ghosts W → clock.Ghosts C → (held holds : K) → (wired now : W) → (asked asks : C)
+    → Plan → List ℕ → List Mind → (words left : Stream) → Result Served LoopFault → Type 0
+ServesOn k w c held holds wired now asked asks plan address minds words left result =
+    Ends k w held holds wired now
+    (HasServed (outside_at k w c held wired asked) (outside_at k w c holds now asks) plan address minds words)
+    (FailsToServe (outside_at k w c held wired asked) (outside_at k w c holds now asks) plan address minds words left)
+    (BreaksOffServing (outside_at k w c held wired asked) (outside_at k w c holds now asks) plan address minds words) result
+
+abbrev pub DialsOn : {K W C : Type 0} → sink.Ghosts K → wires.Ghosts W → clock.Ghosts C → (held holds : K) → (wired now : W) → (asked asks : C)
+    → Plan → Caller → List ℕ → List Mind → (words left : Stream) → Result Served LoopFault → Type 0
+DialsOn k w c held holds wired now asked asks plan caller address minds words left result =
+    Ends k w held holds wired now
+    (HasDialled (outside_at k w c held wired asked) (outside_at k w c holds now asks) plan caller address minds words)
+    (FailsToDial (outside_at k w c held wired asked) (outside_at k w c holds now asks) plan caller address minds words left)
+    (BreaksOffDialling (outside_at k w c held wired asked) (outside_at k w c holds now asks) plan caller address minds words) result

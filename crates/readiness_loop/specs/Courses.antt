@@ -17,7 +17,6 @@ use Rattle.link_trait.specs.Outside.{Grew, Rose}
 use Rattle.loop_model.specs.Outs.{Out}
 use Rattle.loop_model.specs.Sessions.{Session}
 use Rattle.loop_model.specs.Visits.{Met}
-use Rattle.des_block.specs.declared.triple_key.TripleKey.{TripleKey}
 use Rattle.loop_model.specs.Loops.{Plan, Loop, Halt, OnEnded, OnClosed, OnFailed, Course, Turn, turn, follows, went, turned_unless, run, asks, opens, begun, Caller}
 use Rattle.loop_model.specs.Parts.{opened_in, Rises, newest}
 use Rattle.loop_session.specs.declared.loop_fault.LoopFault.{LoopFault}
@@ -33,7 +32,7 @@ use Rattle.link_trait.specs.declared.wires.Happening.{Happening}
 use Rattle.link_trait.specs.declared.wires.Happening.TheVariants as happening
 use Rattle.readiness_loop.specs.Books.{sessions, AreSeated}
 use Rattle.readiness_loop.specs.Cuts.{Cut, LiesIn, behind, LiesInTurn, first_turns, LiesInRun}
-use Rattle.readiness_loop.specs.Claims.{Outside, outside, halt_for, HasServed, FailsToServe, BreaksOffServing, HasDialled, FailsToDial, BreaksOffDialling}
+use Rattle.readiness_loop.specs.Claims.{Outside, halt_for, HasServed, FailsToServe, BreaksOffServing, HasDialled, FailsToDial, BreaksOffDialling}
 
 -- what the code goes by, as a plan
 abbrev pub plan_of : List keys.Entry → LoopPlan → Plan
@@ -210,10 +209,6 @@ Opens plan caller a b c conn l n (Ok stays) = Opened plan caller a b c conn l n 
 Opens plan caller a b c conn l n (Err Wires) = ⊥
 Opens plan caller a b c conn l n (Err Sink) = WentOff (λ x cut. LiesIn (opening plan caller c conn x) cut) a b Sink
 Opens plan caller a b c conn l n (Err (NoMemory want)) = WentOff (λ x cut. LiesIn (opening plan caller c conn x) cut) a b (NoMemory want)
-
--- the session that calls
-abbrev pub caller_of : (engine : ℕ) → TripleKey → Caller
-caller_of engine kmac = record { engine = engine; kmac = kmac }
 
 -- how a loop that dials ends
 abbrev pub Dials : Plan → Caller → Around → Around → List Mind → (words left : Stream) → List ℕ → Result Served LoopFault → Type 0

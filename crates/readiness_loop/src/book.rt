@@ -1,14 +1,11 @@
 //! The sessions of the live connections.
 
 ghost use Rattle.std.specs.Prelude.{◌≡◌, ◌≤◌, ◌<◌, ◌+◌, ◌-◌, ◌++◌, ◌∷◌, [], ℕ, length, IfOk, OnOk};
-ghost use Rattle.loop_model.specs.Visits.{visited};
 ghost use Rattle.loop_model.specs.Loops.{visit_at, swept, numbers, until};
 ghost use Rattle.loop_session.specs.Keeping.{kept_ends};
-ghost use Rattle.loop_session.specs.Parts.{rules};
-ghost use Rattle.loop_visit.specs.Acting.{Does};
-ghost use Rattle.loop_visit.specs.Seeing.{seen};
-ghost use Rattle.loop_visit.specs.Visiting.{visit_of};
-ghost use Rattle.readiness_loop.specs.Books.{AreSeated, AreAwaited, IsTimed, sessions};
+ghost use Rattle.loop_visit.specs.Visiting.{IsInBounds, visit_by, visit_of, DoesOn, Keep};
+ghost use Rattle.readiness_loop.specs.Books.{IsTimed};
+ghost use Rattle.readiness_loop.specs.Lives.{sessions_in, IsSeated, IsAwaited};
 
 use crate::wake_times::WakeTimes;
 use er_base::NoMemory;
@@ -37,7 +34,7 @@ impl<U: SafeUser> Book<U> {
     // No session, with the room for as many as may be live.
     pub(crate) fn new(alloc: Global) -> Result<Book<U>, NoMemory>
         ensures empty { IfOk result (λ book. book.places.entries ≡ []) }
-        ensures awaited { IfOk result (λ book. AreAwaited book.slots book.places book.wake_times.pairs) }
+        ensures awaited { IfOk result (λ book. IsAwaited book) }
     {
         Ok(Book {
             slots: Slab::with_capacity(alloc, MOST_LIVE)?,
@@ -55,20 +52,20 @@ impl<U: SafeUser> Book<U> {
 
     // The first moment at which one of them is to be visited.
     pub(crate) fn until(&self) -> Option<u64>
-        requires awaited { AreAwaited self.now.slots self.now.places self.now.wake_times.pairs }
-        ensures { result ≡ until kept_ends (sessions self.now.slots self.now.places) }
+        requires awaited { IsAwaited self.now }
+        ensures { result ≡ until kept_ends (sessions_in self.now) }
     {
         self.wake_times.first()
     }
 
     // A session joins the others; its number is above theirs.
     pub(crate) fn add(&mut self, session: Session<U>) -> Result<(), NoMemory>
-        requires seated { AreSeated (session.number - 1) self.old.slots self.old.places.entries }
-        requires awaited { AreAwaited self.old.slots self.old.places self.old.wake_times.pairs }
+        requires seated { IsSeated (session.number - 1) self.old }
+        requires awaited { IsAwaited self.old }
         requires number { 0 < session.number }
-        ensures sessions { OnOk result (sessions self.new.slots self.new.places ≡ sessions self.old.slots self.old.places ++ session ∷ []) }
-        ensures seated { OnOk result (AreSeated session.number self.new.slots self.new.places.entries) }
-        ensures awaited { OnOk result (AreAwaited self.new.slots self.new.places self.new.wake_times.pairs) }
+        ensures sessions { OnOk result (sessions_in self.new ≡ sessions_in self.old ++ session ∷ []) }
+        ensures seated { OnOk result (IsSeated session.number self.new) }
+        ensures awaited { OnOk result (IsAwaited self.new) }
     {
         let number = session.number();
         let wake = session.wakes();
@@ -90,20 +87,14 @@ impl<U: SafeUser> Book<U> {
         wires: &mut W,
         sink: &mut S,
     ) -> Result<(), LoopFault>
-        requires moment { when.moment ≤ 1000000000000000 }
-        requires setup { when.setup ≤ 600000 }
-        requires seated { AreSeated (W.state wires.old).opened self.old.slots self.old.places.entries }
-        requires awaited { AreAwaited self.old.slots self.old.places self.old.wake_times.pairs }
-        ensures does { Does (seen (S.state sink.old) (W.state wires.old))
-            (seen (S.state sink.new) (W.state wires.new))
-            (sessions self.new.slots self.new.places)
-            (visit_at (visited kept_ends (rules (K.entries keys.now) when.setup) when.moment (visit_of reason)) number (sessions self.old.slots self.old.places)) result }
-        ensures seated { OnOk result (AreSeated (W.state wires.new).opened self.new.slots self.new.places.entries) }
-        ensures awaited { OnOk result (AreAwaited self.new.slots self.new.places self.new.wake_times.pairs) }
-        ensures opened { (W.state wires.new).opened ≡ (W.state wires.old).opened }
-        ensures listening { (W.state wires.new).listening ≡ (W.state wires.old).listening }
-        ensures turn_count { (W.state wires.new).turn_faults ≡ (W.state wires.old).turn_faults }
-        ensures sunk { (S.state sink.old).faults ≤ (S.state sink.new).faults }
+        requires when { IsInBounds when }
+        requires seated { IsSeated (W.state wires.old).opened self.old }
+        requires awaited { IsAwaited self.old }
+        ensures does { DoesOn S.Sink W.Wires sink.old sink.new wires.old wires.new (sessions_in self.new)
+            (visit_at (visit_by (K.entries keys.now) when reason) number (sessions_in self.old)) result }
+        ensures seated { OnOk result (IsSeated (W.state wires.new).opened self.new) }
+        ensures awaited { OnOk result (IsAwaited self.new) }
+        ensures keep { Keep S.Sink W.Wires sink.old sink.new wires.old wires.new }
     {
         let Some(slot) = self.places.get(&number).copied() else {
             return Ok(());
@@ -145,20 +136,14 @@ impl<U: SafeUser> Book<U> {
         sink: &mut S,
     ) -> Result<(), LoopFault>
         requires timed { IsTimed (visit_of reason) }
-        requires moment { when.moment ≤ 1000000000000000 }
-        requires setup { when.setup ≤ 600000 }
-        requires seated { AreSeated (W.state wires.old).opened self.old.slots self.old.places.entries }
-        requires awaited { AreAwaited self.old.slots self.old.places self.old.wake_times.pairs }
-        ensures does { Does (seen (S.state sink.old) (W.state wires.old))
-            (seen (S.state sink.new) (W.state wires.new))
-            (sessions self.new.slots self.new.places)
-            (swept (visited kept_ends (rules (K.entries keys.now) when.setup) when.moment (visit_of reason)) (numbers (sessions self.old.slots self.old.places)) (sessions self.old.slots self.old.places)) result }
-        ensures seated { OnOk result (AreSeated (W.state wires.new).opened self.new.slots self.new.places.entries) }
-        ensures awaited { OnOk result (AreAwaited self.new.slots self.new.places self.new.wake_times.pairs) }
-        ensures opened { (W.state wires.new).opened ≡ (W.state wires.old).opened }
-        ensures listening { (W.state wires.new).listening ≡ (W.state wires.old).listening }
-        ensures turn_count { (W.state wires.new).turn_faults ≡ (W.state wires.old).turn_faults }
-        ensures sunk { (S.state sink.old).faults ≤ (S.state sink.new).faults }
+        requires when { IsInBounds when }
+        requires seated { IsSeated (W.state wires.old).opened self.old }
+        requires awaited { IsAwaited self.old }
+        ensures does { DoesOn S.Sink W.Wires sink.old sink.new wires.old wires.new (sessions_in self.new)
+            (swept (visit_by (K.entries keys.now) when reason) (numbers (sessions_in self.old)) (sessions_in self.old)) result }
+        ensures seated { OnOk result (IsSeated (W.state wires.new).opened self.new) }
+        ensures awaited { OnOk result (IsAwaited self.new) }
+        ensures keep { Keep S.Sink W.Wires sink.old sink.new wires.old wires.new }
     {
         match self.wake_times.due(when.moment, sequence) {
             Ok(()) => {}
@@ -186,20 +171,14 @@ impl<U: SafeUser> Book<U> {
         wires: &mut W,
         sink: &mut S,
     ) -> Result<(), LoopFault>
-        requires moment { when.moment ≤ 1000000000000000 }
-        requires setup { when.setup ≤ 600000 }
-        requires seated { AreSeated (W.state wires.old).opened self.old.slots self.old.places.entries }
-        requires awaited { AreAwaited self.old.slots self.old.places self.old.wake_times.pairs }
-        ensures does { Does (seen (S.state sink.old) (W.state wires.old))
-            (seen (S.state sink.new) (W.state wires.new))
-            (sessions self.new.slots self.new.places)
-            (swept (visited kept_ends (rules (K.entries keys.now) when.setup) when.moment (visit_of reason)) sequence.now (sessions self.old.slots self.old.places)) result }
-        ensures seated { OnOk result (AreSeated (W.state wires.new).opened self.new.slots self.new.places.entries) }
-        ensures awaited { OnOk result (AreAwaited self.new.slots self.new.places self.new.wake_times.pairs) }
-        ensures opened { (W.state wires.new).opened ≡ (W.state wires.old).opened }
-        ensures listening { (W.state wires.new).listening ≡ (W.state wires.old).listening }
-        ensures turn_count { (W.state wires.new).turn_faults ≡ (W.state wires.old).turn_faults }
-        ensures sunk { (S.state sink.old).faults ≤ (S.state sink.new).faults }
+        requires when { IsInBounds when }
+        requires seated { IsSeated (W.state wires.old).opened self.old }
+        requires awaited { IsAwaited self.old }
+        ensures does { DoesOn S.Sink W.Wires sink.old sink.new wires.old wires.new (sessions_in self.new)
+            (swept (visit_by (K.entries keys.now) when reason) sequence.now (sessions_in self.old)) result }
+        ensures seated { OnOk result (IsSeated (W.state wires.new).opened self.new) }
+        ensures awaited { OnOk result (IsAwaited self.new) }
+        ensures keep { Keep S.Sink W.Wires sink.old sink.new wires.old wires.new }
     {
         for number in sequence {
             match self.visit(*number, reason, keys, when, scratch, wires, sink) {

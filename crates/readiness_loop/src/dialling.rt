@@ -1,13 +1,10 @@
 //! A loop that dials.
 
-ghost use Rattle.std.specs.Prelude.{◌≡◌, ◌≤◌, ◌<◌, ◌^◌, true, ◌∷◌, [], length, map, Err, IfOk};
-ghost use Rattle.er_base.specs.declared.no_memory.NoMemory.{NoMemory as Want};
+ghost use Rattle.std.specs.Prelude.{◌≡◌, ◌≤◌, ◌<◌, ◌^◌, true, length, map};
 ghost use Rattle.er_settings.specs.Ranges.{AllAllowed};
-ghost use Rattle.loop_session.specs.declared.loop_fault.LoopFault.TheVariants as fault;
-ghost use Rattle.link_trait.specs.Outside.{Rose};
-ghost use Rattle.loop_visit.specs.Seeing.{seen};
-ghost use Rattle.readiness_loop.specs.Claims.{outside, dialling, pair_of, halt_for, HasDialled, FailsToDial, BreaksOffDialling};
-ghost use Rattle.readiness_loop.specs.Courses.{plan_of, caller_of, around, Dials};
+ghost use Rattle.readiness_loop.specs.Claims.{dialling, DialsOn, caller_of};
+ghost use Rattle.readiness_loop.specs.Courses.{Dials};
+ghost use Rattle.readiness_loop.specs.Lives.{around_at, pair_plan, pair_caller, IsAllowed};
 
 use crate::line_plan::{LinePlan, Served, Stop};
 use crate::live_loop::LiveLoop;
@@ -34,14 +31,13 @@ fn dial_users<U: SafeUser, W: Wires, C: Clock, R: Rng, S: Sink>(
     randoms: &mut R,
     sink: &mut S,
 ) -> Result<Served, LoopFault>
-    requires allowed { AllAllowed plan.now.settings }
+    requires allowed { IsAllowed plan.now }
     requires engine { pair.now.engine < 2 ^ 24 }
-    requires rbc { plan.now.rbc < 2 ^ 24 }
     requires same { plan.now.rbc ≡ pair.now.rbc }
     requires dials { plan.now.dials ≡ true }
-    ensures does { Dials (plan_of (pair_of pair.now.engine pair.now.rbc pair.now.kmac ∷ []) plan.now) (caller_of pair.now.engine pair.now.kmac)
-        (around (S.state sink.old) (W.state wires.old) (C.state clock.old))
-        (around (S.state sink.new) (W.state wires.new) (C.state clock.new))
+    ensures does { Dials (pair_plan pair.now plan.now) (pair_caller pair.now)
+        (around_at S.Sink W.Wires C.Clock sink.old wires.old clock.old)
+        (around_at S.Sink W.Wires C.Clock sink.new wires.new clock.new)
         (map U.mind users.items) (R.stream randoms.old) (R.stream randoms.new) address.now result }
     ensures sunk { (S.state sink.old).faults ≤ (S.state sink.new).faults }
 {
@@ -51,6 +47,7 @@ fn dial_users<U: SafeUser, W: Wires, C: Clock, R: Rng, S: Sink>(
     laws::octets_taken();
     laws::recordings();
     laws::replies();
+    laws::hearing();
     laws::faults();
     laws::turns();
     loop_session::laws::standing();
@@ -96,24 +93,8 @@ pub fn dial<W: Wires, C: Clock, R: Rng, S: Sink>(
     requires settings { AllAllowed plan.now.settings }
     requires engine { engine < 2 ^ 24 }
     requires rbc { rbc < 2 ^ 24 }
-    ensures served { IfOk result (λ served. HasDialled (outside (S.state sink.old) (W.state wires.old) (C.state clock.old))
-        (outside (S.state sink.new) (W.state wires.new) (C.state clock.new))
-        (dialling kmac plan.now engine rbc (length users.items)) (record { engine = engine; kmac = kmac }) address.now (map mind users.items) (R.stream randoms.old) served.turns (halt_for served.why)) }
-    ensures wires { result ≡ Err fault.Wires → FailsToDial
-        (outside (S.state sink.old) (W.state wires.old) (C.state clock.old))
-        (outside (S.state sink.new) (W.state wires.new) (C.state clock.new))
-        (dialling kmac plan.now engine rbc (length users.items)) (record { engine = engine; kmac = kmac }) address.now (map mind users.items) (R.stream randoms.old) (R.stream randoms.new) }
-    ensures rose { result ≡ Err fault.Wires → Rose (W.state wires.old).turn_faults (W.state wires.new).turn_faults }
-    ensures sink { result ≡ Err fault.Sink → BreaksOffDialling
-        (outside (S.state sink.old) (W.state wires.old) (C.state clock.old))
-        (outside (S.state sink.new) (W.state wires.new) (C.state clock.new))
-        (dialling kmac plan.now engine rbc (length users.items)) (record { engine = engine; kmac = kmac }) address.now (map mind users.items) (R.stream randoms.old) }
-    ensures sunk { result ≡ Err fault.Sink → Rose (S.state sink.old).faults (S.state sink.new).faults }
-    ensures memory { (want : Want) → result ≡ Err (fault.NoMemory want) → BreaksOffDialling
-        (outside (S.state sink.old) (W.state wires.old) (C.state clock.old))
-        (outside (S.state sink.new) (W.state wires.new) (C.state clock.new))
-        (dialling kmac plan.now engine rbc (length users.items)) (record { engine = engine; kmac = kmac }) address.now (map mind users.items) (R.stream randoms.old) }
-    ensures sink_count { (S.state sink.old).faults ≤ (S.state sink.new).faults }
+    ensures { DialsOn S.Sink W.Wires C.Clock sink.old sink.new wires.old wires.new clock.old clock.new
+        (dialling kmac plan.now engine rbc (length users.items)) (caller_of engine kmac) address.now (map mind users.items) (R.stream randoms.old) (R.stream randoms.new) result }
 {
     let pair = OnePair { engine, rbc, kmac };
     let loop_plan = LoopPlan {

@@ -1,22 +1,19 @@
 //! A loop with its sessions, turn by turn.
 
-ghost use Rattle.std.specs.Prelude.{◌≡◌, ◌≤◌, ◌<◌, ◌+◌, ◌++◌, ◌-◌, ◌^◌, ◌&&◌, ◌==◌, if◌then◌else◌, ℕ, List, [], ◌∷◌, length, map, IfOk, OnOk, Option, None, Some};
+ghost use Rattle.std.specs.Prelude.{◌≡◌, ◌≤◌, ◌<◌, ◌+◌, ◌++◌, ◌-◌, ◌^◌, ◌&&◌, ◌==◌, if◌then◌else◌, List, [], ◌∷◌, length, IfOk, OnOk, Option, None, Some};
 ghost use Rattle.rand_core.specs.Stream.{next_u64};
 ghost use Rattle.safety_automaton.specs.Keys as keys;
-ghost use Rattle.er_settings.specs.Ranges.{AllAllowed};
-ghost use Rattle.link_trait.specs.Wires.{opened_by_turn};
 ghost use Rattle.er_trace.specs.Ranges.{IsInRange};
+ghost use Rattle.er_end.specs.KeptEnds.{KEnd};
 ghost use Rattle.loop_model.specs.Grammar.{IsInGrammar};
 ghost use Rattle.loop_model.specs.Journals.{text};
 ghost use Rattle.loop_model.specs.Visits.{is_due};
 ghost use Rattle.loop_model.specs.Loops.{Loop, before, until, until as first, turned_away, accepted, happened, Halt, OnClosed};
-ghost use Rattle.er_end.specs.KeptEnds.{KEnd};
 ghost use Rattle.loop_session.specs.Keeping.{kept_ends};
 ghost use Rattle.loop_session.specs.Parts.{rules, Puts};
-ghost use Rattle.loop_visit.specs.Acting.{Does};
-ghost use Rattle.loop_visit.specs.Seeing.{seen};
-ghost use Rattle.readiness_loop.specs.Books.{AreSeated, AreAwaited, sessions};
-ghost use Rattle.readiness_loop.specs.Courses.{plan_of, loop_of, course_of, answer_event, answered, around, Acts, IsReadyFor, halt_after, Turned, Turns, Runs, HaltsSo};
+ghost use Rattle.loop_visit.specs.Visiting.{DoesOn, Keep};
+ghost use Rattle.readiness_loop.specs.Courses.{plan_of, answer_event, answered, IsReadyFor, halt_after, HaltsSo};
+ghost use Rattle.readiness_loop.specs.Lives.{sessions_in, IsSeated, IsAwaited, loop_at, ActsOn, IsAllowed, IsSound, IsWhole, IsFit, Rests, TurnedOn, TurnsOn, RunsOn};
 
 use crate::book::{Book, MOST_LIVE};
 use crate::line_plan::{Served, Stop};
@@ -93,7 +90,7 @@ impl<U: SafeUser> LiveLoop<U> {
     // A loop with no session.
     pub(crate) fn new(alloc: Global, users: Vec<U>) -> Result<LiveLoop<U>, NoMemory>
         ensures empty { IfOk result (λ live. live.book.places.entries ≡ []) }
-        ensures awaited { IfOk result (λ live. AreAwaited live.book.slots live.book.places live.book.wake_times.pairs) }
+        ensures awaited { IfOk result (λ live. IsAwaited live.book) }
         ensures users { IfOk result (λ live. live.users ≡ users) }
         ensures moment { IfOk result (λ live. live.moment ≡ 0) }
         ensures turns { IfOk result (λ live. live.turns ≡ 0) }
@@ -118,24 +115,15 @@ impl<U: SafeUser> LiveLoop<U> {
         wires: &mut W,
         sink: &mut S,
     ) -> Result<Option<u64>, LoopFault>
-        requires allowed { AllAllowed plan.now.settings }
-        requires moment { self.old.moment ≤ 1000000000000000 }
-        requires seated { AreSeated (W.state wires.old).opened self.old.book.slots self.old.book.places.entries }
-        requires awaited { AreAwaited self.old.book.slots self.old.book.places self.old.book.wake_times.pairs }
-        ensures does { Does (seen (S.state sink.old) (W.state wires.old))
-            (seen (S.state sink.new) (W.state wires.new))
-            (sessions self.new.book.slots self.new.book.places)
-            (before kept_ends (rules (K.entries keys.now) plan.now.settings.setup) self.old.moment (sessions self.old.book.slots self.old.book.places)) result }
-        ensures until { IfOk result (λ first. first ≡ until kept_ends (sessions self.new.book.slots self.new.book.places)) }
-        ensures seated { OnOk result (AreSeated (W.state wires.new).opened self.new.book.slots self.new.book.places.entries) }
-        ensures awaited { OnOk result (AreAwaited self.new.book.slots self.new.book.places self.new.book.wake_times.pairs) }
-        ensures opened { (W.state wires.new).opened ≡ (W.state wires.old).opened }
-        ensures listening { (W.state wires.new).listening ≡ (W.state wires.old).listening }
-        ensures turn_count { (W.state wires.new).turn_faults ≡ (W.state wires.old).turn_faults }
+        requires fit { IsFit (W.state wires.old).opened plan.now self.old }
+        ensures does { DoesOn S.Sink W.Wires sink.old sink.new wires.old wires.new (sessions_in self.new.book)
+            (before kept_ends (rules (K.entries keys.now) plan.now.settings.setup) self.old.moment (sessions_in self.old.book)) result }
+        ensures until { IfOk result (λ first. first ≡ until kept_ends (sessions_in self.new.book)) }
+        ensures seated { OnOk result (IsSeated (W.state wires.new).opened self.new.book) }
+        ensures awaited { OnOk result (IsAwaited self.new.book) }
         ensures users { self.new.users ≡ self.old.users }
-        ensures moment { self.new.moment ≡ self.old.moment }
-        ensures turns { self.new.turns ≡ self.old.turns }
-        ensures sunk { (S.state sink.old).faults ≤ (S.state sink.new).faults }
+        ensures rests { Rests self.old self.new }
+        ensures keep { Keep S.Sink W.Wires sink.old sink.new wires.old wires.new }
     {
         let first = self.book.until();
         if !has_come(first, self.moment) {
@@ -183,17 +171,11 @@ impl<U: SafeUser> LiveLoop<U> {
     ) -> Result<(), LoopFault>
         requires moment { self.old.moment ≤ 1000000000000000 }
         requires why { IsInRange why }
-        ensures does { (l : Loop KEnd) → l.moment ≡ self.old.moment → Acts (seen (S.state sink.old) (W.state wires.old))
-            (seen (S.state sink.new) (W.state wires.new))
-            l (turned_away l conn.0 why) result }
+        ensures does { (l : Loop KEnd) → l.moment ≡ self.old.moment → ActsOn S.Sink W.Wires sink.old sink.new wires.old wires.new l (turned_away l conn.0 why) result }
         ensures book { self.new.book ≡ self.old.book }
         ensures users { self.new.users ≡ self.old.users }
-        ensures moment { self.new.moment ≡ self.old.moment }
-        ensures turns { self.new.turns ≡ self.old.turns }
-        ensures opened { (W.state wires.new).opened ≡ (W.state wires.old).opened }
-        ensures listening { (W.state wires.new).listening ≡ (W.state wires.old).listening }
-        ensures turn_count { (W.state wires.new).turn_faults ≡ (W.state wires.old).turn_faults }
-        ensures sunk { (S.state sink.old).faults ≤ (S.state sink.new).faults }
+        ensures rests { Rests self.old self.new }
+        ensures keep { Keep S.Sink W.Wires sink.old sink.new wires.old wires.new }
     {
         match write_event(self.moment, conn.0, why, &mut self.scratch, sink) {
             Ok(()) => {}
@@ -213,23 +195,18 @@ impl<U: SafeUser> LiveLoop<U> {
         randoms: &mut R,
         sink: &mut S,
     ) -> Result<(), LoopFault>
-        requires allowed { AllAllowed plan.now.settings }
-        requires rbc { plan.now.rbc < 2 ^ 24 }
-        requires moment { self.old.moment ≤ 1000000000000000 }
-        requires seated { AreSeated (conn.0 - 1) self.old.book.slots self.old.book.places.entries }
-        requires awaited { AreAwaited self.old.book.slots self.old.book.places self.old.book.wake_times.pairs }
+        requires fit { IsFit (conn.0 - 1) plan.now self.old }
         requires number { 0 < conn.0 }
         ensures puts { Puts (S.state sink.old) (S.state sink.new)
             (text (answer_event (R.stream randoms.old) plan.now.rbc self.old.moment conn.0 ∷ [])) result }
         ensures grammar { OnOk result (IsInGrammar (answer_event (R.stream randoms.old) plan.now.rbc self.old.moment conn.0)) }
-        ensures sessions { OnOk result (sessions self.new.book.slots self.new.book.places ≡ sessions self.old.book.slots self.old.book.places
+        ensures sessions { OnOk result (sessions_in self.new.book ≡ sessions_in self.old.book
             ++ answered (R.stream randoms.old) plan.now.settings plan.now.rbc self.old.moment conn.0 (U.mind user) ∷ []) }
-        ensures seated { OnOk result (AreSeated conn.0 self.new.book.slots self.new.book.places.entries) }
-        ensures awaited { OnOk result (AreAwaited self.new.book.slots self.new.book.places self.new.book.wake_times.pairs) }
+        ensures seated { OnOk result (IsSeated conn.0 self.new.book) }
+        ensures awaited { OnOk result (IsAwaited self.new.book) }
         ensures stream { OnOk result (R.stream randoms.new ≡ (next_u64 (R.stream randoms.old)).1) }
         ensures users { self.new.users ≡ self.old.users }
-        ensures moment { self.new.moment ≡ self.old.moment }
-        ensures turns { self.new.turns ≡ self.old.turns }
+        ensures rests { Rests self.old self.new }
         ensures sunk { (S.state sink.old).faults ≤ (S.state sink.new).faults }
     {
         let ra = randoms.next_u64();
@@ -253,24 +230,14 @@ impl<U: SafeUser> LiveLoop<U> {
         randoms: &mut R,
         sink: &mut S,
     ) -> Result<(), LoopFault>
-        requires allowed { AllAllowed plan.now.settings }
-        requires rbc { plan.now.rbc < 2 ^ 24 }
-        requires moment { self.old.moment ≤ 1000000000000000 }
-        requires seated { AreSeated (conn.0 - 1) self.old.book.slots self.old.book.places.entries }
-        requires awaited { AreAwaited self.old.book.slots self.old.book.places self.old.book.wake_times.pairs }
+        requires fit { IsFit (conn.0 - 1) plan.now self.old }
         requires number { 0 < conn.0 }
-        ensures does { (entries : List keys.Entry) → Acts (seen (S.state sink.old) (W.state wires.old))
-            (seen (S.state sink.new) (W.state wires.new))
-            (loop_of self.new.book.slots self.new.book.places (map U.mind self.new.users.items) self.new.moment (R.stream randoms.new))
-            (accepted kept_ends (plan_of entries plan.now) (loop_of self.old.book.slots self.old.book.places (map U.mind self.old.users.items) self.old.moment (R.stream randoms.old)) conn.0) result }
-        ensures seated { OnOk result (AreSeated conn.0 self.new.book.slots self.new.book.places.entries) }
-        ensures awaited { OnOk result (AreAwaited self.new.book.slots self.new.book.places self.new.book.wake_times.pairs) }
-        ensures moment { self.new.moment ≡ self.old.moment }
-        ensures turns { self.new.turns ≡ self.old.turns }
-        ensures opened { (W.state wires.new).opened ≡ (W.state wires.old).opened }
-        ensures listening { (W.state wires.new).listening ≡ (W.state wires.old).listening }
-        ensures turn_count { (W.state wires.new).turn_faults ≡ (W.state wires.old).turn_faults }
-        ensures sunk { (S.state sink.old).faults ≤ (S.state sink.new).faults }
+        ensures does { (entries : List keys.Entry) → ActsOn S.Sink W.Wires sink.old sink.new wires.old wires.new (loop_at U.SafeUser R.Rng self.new randoms.new)
+            (accepted kept_ends (plan_of entries plan.now) (loop_at U.SafeUser R.Rng self.old randoms.old) conn.0) result }
+        ensures seated { OnOk result (IsSeated conn.0 self.new.book) }
+        ensures awaited { OnOk result (IsAwaited self.new.book) }
+        ensures rests { Rests self.old self.new }
+        ensures keep { Keep S.Sink W.Wires sink.old sink.new wires.old wires.new }
     {
         if self.book.len() >= MOST_LIVE {
             return self.turn_away(conn, Event::Full(MOST_LIVE as u64), wires, sink);
@@ -296,23 +263,15 @@ impl<U: SafeUser> LiveLoop<U> {
         randoms: &mut R,
         sink: &mut S,
     ) -> Result<(), LoopFault>
-        requires allowed { AllAllowed plan.now.settings }
-        requires rbc { plan.now.rbc < 2 ^ 24 }
-        requires moment { self.old.moment ≤ 1000000000000000 }
+        requires allowed { IsAllowed plan.now }
+        requires sound { IsSound self.old }
         requires ready { IsReadyFor happening (W.state wires.old).opened self.old.book.slots self.old.book.places.entries }
-        requires awaited { AreAwaited self.old.book.slots self.old.book.places self.old.book.wake_times.pairs }
-        ensures does { Does (seen (S.state sink.old) (W.state wires.old))
-            (seen (S.state sink.new) (W.state wires.new))
-            (loop_of self.new.book.slots self.new.book.places (map U.mind self.new.users.items) self.new.moment (R.stream randoms.new))
-            (happened kept_ends (plan_of (K.entries keys.now) plan.now) (loop_of self.old.book.slots self.old.book.places (map U.mind self.old.users.items) self.old.moment (R.stream randoms.old)) happening) result }
-        ensures seated { OnOk result (AreSeated (W.state wires.new).opened self.new.book.slots self.new.book.places.entries) }
-        ensures awaited { OnOk result (AreAwaited self.new.book.slots self.new.book.places self.new.book.wake_times.pairs) }
-        ensures moment { self.new.moment ≡ self.old.moment }
-        ensures turns { self.new.turns ≡ self.old.turns }
-        ensures opened { (W.state wires.new).opened ≡ (W.state wires.old).opened }
-        ensures listening { (W.state wires.new).listening ≡ (W.state wires.old).listening }
-        ensures turn_count { (W.state wires.new).turn_faults ≡ (W.state wires.old).turn_faults }
-        ensures sunk { (S.state sink.old).faults ≤ (S.state sink.new).faults }
+        ensures does { DoesOn S.Sink W.Wires sink.old sink.new wires.old wires.new (loop_at U.SafeUser R.Rng self.new randoms.new)
+            (happened kept_ends (plan_of (K.entries keys.now) plan.now) (loop_at U.SafeUser R.Rng self.old randoms.old) happening) result }
+        ensures seated { OnOk result (IsSeated (W.state wires.new).opened self.new.book) }
+        ensures awaited { OnOk result (IsAwaited self.new.book) }
+        ensures rests { Rests self.old self.new }
+        ensures keep { Keep S.Sink W.Wires sink.old sink.new wires.old wires.new }
     {
         let when = When {
             moment: self.moment,
@@ -369,20 +328,12 @@ impl<U: SafeUser> LiveLoop<U> {
         randoms: &mut R,
         sink: &mut S,
     ) -> Result<Next, LoopFault>
-        requires allowed { AllAllowed plan.now.settings }
-        requires rbc { plan.now.rbc < 2 ^ 24 }
-        requires moment { self.old.moment ≤ 1000000000000000 }
+        requires fit { IsFit (W.state wires.old).opened plan.now self.old }
         requires turns { self.old.turns < 2 ^ 64 - 1 }
-        requires seated { AreSeated (W.state wires.old).opened self.old.book.slots self.old.book.places.entries }
-        requires awaited { AreAwaited self.old.book.slots self.old.book.places self.old.book.wake_times.pairs }
-        requires until { until ≡ first kept_ends (sessions self.old.book.slots self.old.book.places) }
-        ensures does { (asked : List ℕ) → Turned (plan_of (K.entries keys.now) plan.now) (around (S.state sink.old) (W.state wires.old) (C.state clock.old))
-            (around (S.state sink.new) (W.state wires.new) (C.state clock.new))
-            (course_of (loop_of self.old.book.slots self.old.book.places (map U.mind self.old.users.items) self.old.moment (R.stream randoms.old)) self.old.turns asked)
-            (loop_of self.new.book.slots self.new.book.places (map U.mind self.new.users.items) self.new.moment (R.stream randoms.new)) self.new.turns result }
-        ensures seated { OnOk result (AreSeated (W.state wires.new).opened self.new.book.slots self.new.book.places.entries) }
-        ensures awaited { OnOk result (AreAwaited self.new.book.slots self.new.book.places self.new.book.wake_times.pairs) }
-        ensures moment { OnOk result (self.new.moment ≤ 1000000000000000) }
+        requires until { until ≡ first kept_ends (sessions_in self.old.book) }
+        ensures does { TurnedOn U.SafeUser S.Sink W.Wires C.Clock R.Rng (plan_of (K.entries keys.now) plan.now) self.old self.new
+            sink.old sink.new wires.old wires.new clock.old clock.new randoms.old randoms.new result }
+        ensures whole { OnOk result (IsWhole (W.state wires.new).opened self.new) }
         ensures turns { self.new.turns ≤ self.old.turns + 1 }
         ensures sunk { (S.state sink.old).faults ≤ (S.state sink.new).faults }
     {
@@ -406,19 +357,11 @@ impl<U: SafeUser> LiveLoop<U> {
         randoms: &mut R,
         sink: &mut S,
     ) -> Result<Next, LoopFault>
-        requires allowed { AllAllowed plan.now.settings }
-        requires rbc { plan.now.rbc < 2 ^ 24 }
-        requires moment { self.old.moment ≤ 1000000000000000 }
+        requires fit { IsFit (W.state wires.old).opened plan.now self.old }
         requires turns { self.old.turns < 2 ^ 64 - 1 }
-        requires seated { AreSeated (W.state wires.old).opened self.old.book.slots self.old.book.places.entries }
-        requires awaited { AreAwaited self.old.book.slots self.old.book.places self.old.book.wake_times.pairs }
-        ensures does { (asked : List ℕ) → Turns (plan_of (K.entries keys.now) plan.now) (around (S.state sink.old) (W.state wires.old) (C.state clock.old))
-            (around (S.state sink.new) (W.state wires.new) (C.state clock.new))
-            (course_of (loop_of self.old.book.slots self.old.book.places (map U.mind self.old.users.items) self.old.moment (R.stream randoms.old)) self.old.turns asked)
-            (loop_of self.new.book.slots self.new.book.places (map U.mind self.new.users.items) self.new.moment (R.stream randoms.new)) self.new.turns result }
-        ensures seated { OnOk result (AreSeated (W.state wires.new).opened self.new.book.slots self.new.book.places.entries) }
-        ensures awaited { OnOk result (AreAwaited self.new.book.slots self.new.book.places self.new.book.wake_times.pairs) }
-        ensures moment { OnOk result (self.new.moment ≤ 1000000000000000) }
+        ensures does { TurnsOn U.SafeUser S.Sink W.Wires C.Clock R.Rng (plan_of (K.entries keys.now) plan.now) self.old self.new
+            sink.old sink.new wires.old wires.new clock.old clock.new randoms.old randoms.new result }
+        ensures whole { OnOk result (IsWhole (W.state wires.new).opened self.new) }
         ensures turns { self.new.turns ≤ self.old.turns + 1 }
         ensures sunk { (S.state sink.old).faults ≤ (S.state sink.new).faults }
     {
@@ -445,16 +388,10 @@ impl<U: SafeUser> LiveLoop<U> {
         randoms: &mut R,
         sink: &mut S,
     ) -> Result<Served, LoopFault>
-        requires allowed { AllAllowed plan.now.settings }
-        requires rbc { plan.now.rbc < 2 ^ 24 }
-        requires moment { self.old.moment ≤ 1000000000000000 }
+        requires fit { IsFit (W.state wires.old).opened plan.now self.old }
         requires turns { self.old.turns ≡ 0 }
-        requires seated { AreSeated (W.state wires.old).opened self.old.book.slots self.old.book.places.entries }
-        requires awaited { AreAwaited self.old.book.slots self.old.book.places self.old.book.wake_times.pairs }
-        ensures does { (asked : List ℕ) → Runs (plan_of (K.entries keys.now) plan.now) (around (S.state sink.old) (W.state wires.old) (C.state clock.old))
-            (around (S.state sink.new) (W.state wires.new) (C.state clock.new))
-            (course_of (loop_of self.old.book.slots self.old.book.places (map U.mind self.old.users.items) self.old.moment (R.stream randoms.old)) 0 asked)
-            (loop_of self.new.book.slots self.new.book.places (map U.mind self.new.users.items) self.new.moment (R.stream randoms.new)) self.new.turns result }
+        ensures does { RunsOn U.SafeUser S.Sink W.Wires C.Clock R.Rng (plan_of (K.entries keys.now) plan.now) self.old self.new
+            sink.old sink.new wires.old wires.new clock.old clock.new randoms.old randoms.new result }
         ensures sunk { (S.state sink.old).faults ≤ (S.state sink.new).faults }
     {
         for _ in 0..plan.turns {

@@ -1,20 +1,9 @@
 //! The opening of the one connection of a dial.
 
-ghost use Rattle.std.specs.Prelude.{◌≡◌, ◌≤◌, ◌<◌, ◌^◌, ◌==◌, if◌then◌else◌, true, false, ℕ, List, [], ◌∷◌, length, map, IfOk, OnOk};
+ghost use Rattle.std.specs.Prelude.{◌≡◌, ◌≤◌, ◌==◌, if◌then◌else◌, true, false, length, IfOk, OnOk};
 ghost use Rattle.rand_core.specs.Stream.{next_u64};
-ghost use Rattle.end_model.specs.Ends.{Call as CallsWith};
-ghost use Rattle.er_end.specs.KeptEnds.{kept_opened};
-ghost use Rattle.er_settings.specs.Ranges.{AllAllowed};
-ghost use Rattle.loop_model.specs.Sessions.{Begins};
-ghost use Rattle.loop_model.specs.Visits.{served};
-ghost use Rattle.loop_model.specs.Loops.{begun};
-ghost use Rattle.loop_session.specs.Keeping.{kept_ends};
-ghost use Rattle.loop_session.specs.Parts.{rules};
-ghost use Rattle.loop_visit.specs.Acting.{Does};
-ghost use Rattle.loop_visit.specs.Seeing.{seen};
-ghost use Rattle.readiness_loop.specs.Books.{AreSeated, AreAwaited, sessions};
-ghost use Rattle.readiness_loop.specs.Claims.{pair_of};
-ghost use Rattle.readiness_loop.specs.Courses.{plan_of, loop_of, course_of, around, caller_of, Opens};
+ghost use Rattle.loop_visit.specs.Visiting.{DoesOn, Keep};
+ghost use Rattle.readiness_loop.specs.Lives.{sessions_in, IsSeated, IsAwaited, IsAllowed, IsSound, IsFirst, Rests, calling, pair_plan, pair_caller, OpensOn};
 
 use crate::live_loop::LiveLoop;
 use crate::loop_plan::LoopPlan;
@@ -41,31 +30,18 @@ impl<U: SafeUser> LiveLoop<U> {
         randoms: &mut R,
         sink: &mut S,
     ) -> Result<bool, LoopFault>
-        requires allowed { AllAllowed plan.now.settings }
-        requires engine { pair.now.engine < 2 ^ 24 }
-        requires rbc { plan.now.rbc < 2 ^ 24 }
-        requires moment { self.old.moment ≤ 1000000000000000 }
-        requires empty { self.old.book.places.entries ≡ [] }
-        requires awaited { AreAwaited self.old.book.slots self.old.book.places self.old.book.wake_times.pairs }
-        requires number { 0 < conn.0 }
-        requires newest { conn.0 ≡ (W.state wires.old).opened }
-        ensures does { Does (seen (S.state sink.old) (W.state wires.old))
-            (seen (S.state sink.new) (W.state wires.new))
-            (sessions self.new.book.slots self.new.book.places)
-            (served kept_ends (rules (pair_of pair.now.engine pair.now.rbc pair.now.kmac ∷ []) plan.now.settings.setup) self.old.moment
-            (begun conn.0 (kept_opened (CallsWith plan.now.settings pair.now.engine plan.now.rbc pair.now.kmac (next_u64 (R.stream randoms.old)).0 self.old.moment)) (U.mind user))
-            (Begins pair.now.engine plan.now.rbc (next_u64 (R.stream randoms.old)).0)) result }
+        requires allowed { IsAllowed plan.now }
+        requires sound { IsSound self.old }
+        requires first { IsFirst (W.state wires.old).opened conn.0 pair.now self.old }
+        ensures does { DoesOn S.Sink W.Wires sink.old sink.new wires.old wires.new (sessions_in self.new.book)
+            (calling pair.now plan.now (R.stream randoms.old) self.old.moment conn.0 (U.mind user)) result }
         ensures stays { IfOk result (λ stays. (length self.new.book.places.entries == 0) ≡ (if stays then false else true)) }
-        ensures seated { OnOk result (AreSeated (W.state wires.new).opened self.new.book.slots self.new.book.places.entries) }
-        ensures awaited { OnOk result (AreAwaited self.new.book.slots self.new.book.places self.new.book.wake_times.pairs) }
+        ensures seated { OnOk result (IsSeated (W.state wires.new).opened self.new.book) }
+        ensures awaited { OnOk result (IsAwaited self.new.book) }
         ensures stream { OnOk result (R.stream randoms.new ≡ (next_u64 (R.stream randoms.old)).1) }
         ensures users { self.new.users ≡ self.old.users }
-        ensures moment { self.new.moment ≡ self.old.moment }
-        ensures turns { self.new.turns ≡ self.old.turns }
-        ensures opened { (W.state wires.new).opened ≡ (W.state wires.old).opened }
-        ensures listening { (W.state wires.new).listening ≡ (W.state wires.old).listening }
-        ensures turn_count { (W.state wires.new).turn_faults ≡ (W.state wires.old).turn_faults }
-        ensures sunk { (S.state sink.old).faults ≤ (S.state sink.new).faults }
+        ensures rests { Rests self.old self.new }
+        ensures keep { Keep S.Sink W.Wires sink.old sink.new wires.old wires.new }
     {
         let rb = randoms.next_u64();
         let (engine, rbc) = (pair.engine, plan.rbc);
@@ -115,22 +91,14 @@ impl<U: SafeUser> LiveLoop<U> {
         randoms: &mut R,
         sink: &mut S,
     ) -> Result<bool, LoopFault>
-        requires allowed { AllAllowed plan.now.settings }
-        requires engine { pair.now.engine < 2 ^ 24 }
-        requires rbc { plan.now.rbc < 2 ^ 24 }
+        requires allowed { IsAllowed plan.now }
         requires dials { plan.now.dials ≡ true }
-        requires moment { self.old.moment ≤ 1000000000000000 }
-        requires empty { self.old.book.places.entries ≡ [] }
-        requires awaited { AreAwaited self.old.book.slots self.old.book.places self.old.book.wake_times.pairs }
-        requires number { 0 < conn.0 }
-        requires newest { conn.0 ≡ (W.state wires.old).opened }
-        ensures does { (asked : List ℕ) → Opens (plan_of (pair_of pair.now.engine pair.now.rbc pair.now.kmac ∷ []) plan.now) (caller_of pair.now.engine pair.now.kmac)
-            (around (S.state sink.old) (W.state wires.old) (C.state clock.old))
-            (around (S.state sink.new) (W.state wires.new) (C.state clock.new))
-            (course_of (loop_of self.old.book.slots self.old.book.places (map U.mind self.old.users.items) self.old.moment (R.stream randoms.old)) self.old.turns asked) conn.0
-            (loop_of self.new.book.slots self.new.book.places (map U.mind self.new.users.items) self.new.moment (R.stream randoms.new)) self.new.turns result }
-        ensures seated { OnOk result (AreSeated (W.state wires.new).opened self.new.book.slots self.new.book.places.entries) }
-        ensures awaited { OnOk result (AreAwaited self.new.book.slots self.new.book.places self.new.book.wake_times.pairs) }
+        requires sound { IsSound self.old }
+        requires first { IsFirst (W.state wires.old).opened conn.0 pair.now self.old }
+        ensures does { OpensOn U.SafeUser S.Sink W.Wires C.Clock R.Rng (pair_plan pair.now plan.now) (pair_caller pair.now) conn.0 self.old self.new
+            sink.old sink.new wires.old wires.new clock.old clock.new randoms.old randoms.new result }
+        ensures seated { OnOk result (IsSeated (W.state wires.new).opened self.new.book) }
+        ensures awaited { OnOk result (IsAwaited self.new.book) }
         ensures moment { self.new.moment ≤ 1000000000000000 }
         ensures turns { self.new.turns ≡ self.old.turns }
         ensures sunk { (S.state sink.old).faults ≤ (S.state sink.new).faults }

@@ -1,15 +1,12 @@
 //! A loop that listens.
 
-ghost use Rattle.std.specs.Prelude.{◌≡◌, ◌≤◌, ◌<◌, ◌^◌, length, map, Err, IfOk};
-ghost use Rattle.er_base.specs.declared.no_memory.NoMemory.{NoMemory as Want};
+ghost use Rattle.std.specs.Prelude.{◌≤◌, ◌<◌, ◌^◌, length, map};
 ghost use Rattle.er_settings.specs.Ranges.{AllAllowed};
-ghost use Rattle.loop_session.specs.declared.loop_fault.LoopFault.TheVariants as fault;
 ghost use Rattle.loop_session.specs.Parts.{Puts};
 ghost use Rattle.loop_model.specs.Journals.{header};
-ghost use Rattle.link_trait.specs.Outside.{Rose};
-ghost use Rattle.loop_visit.specs.Seeing.{seen};
-ghost use Rattle.readiness_loop.specs.Claims.{outside, serving, halt_for, HasServed, FailsToServe, BreaksOffServing};
-ghost use Rattle.readiness_loop.specs.Courses.{plan_of, around, Serves};
+ghost use Rattle.readiness_loop.specs.Claims.{serving, ServesOn};
+ghost use Rattle.readiness_loop.specs.Courses.{plan_of, Serves};
+ghost use Rattle.readiness_loop.specs.Lives.{around_at, IsAllowed};
 
 use crate::line_plan::{LinePlan, Served};
 use crate::live_loop::LiveLoop;
@@ -55,11 +52,10 @@ fn serve_users<U: SafeUser, K: KeyFinder, W: Wires, C: Clock, R: Rng, S: Sink>(
     randoms: &mut R,
     sink: &mut S,
 ) -> Result<Served, LoopFault>
-    requires allowed { AllAllowed plan.now.settings }
-    requires rbc { plan.now.rbc < 2 ^ 24 }
+    requires allowed { IsAllowed plan.now }
     ensures does { Serves (plan_of (K.entries keys.now) plan.now)
-        (around (S.state sink.old) (W.state wires.old) (C.state clock.old))
-        (around (S.state sink.new) (W.state wires.new) (C.state clock.new))
+        (around_at S.Sink W.Wires C.Clock sink.old wires.old clock.old)
+        (around_at S.Sink W.Wires C.Clock sink.new wires.new clock.new)
         (map U.mind users.items) (R.stream randoms.old) (R.stream randoms.new) address.now result }
     ensures sunk { (S.state sink.old).faults ≤ (S.state sink.new).faults }
 {
@@ -69,6 +65,7 @@ fn serve_users<U: SafeUser, K: KeyFinder, W: Wires, C: Clock, R: Rng, S: Sink>(
     laws::octets_taken();
     laws::recordings();
     laws::replies();
+    laws::hearing();
     laws::faults();
     laws::turns();
     loop_session::laws::standing();
@@ -103,24 +100,8 @@ pub fn serve<W: Wires, C: Clock, R: Rng, S: Sink>(
 ) -> Result<Served, LoopFault>
     requires settings { AllAllowed plan.now.settings }
     requires rbc { rbc < 2 ^ 24 }
-    ensures served { IfOk result (λ served. HasServed (outside (S.state sink.old) (W.state wires.old) (C.state clock.old))
-        (outside (S.state sink.new) (W.state wires.new) (C.state clock.new))
-        (serving (keys.now) plan.now rbc (length users.items)) address.now (map mind users.items) (R.stream randoms.old) served.turns (halt_for served.why)) }
-    ensures wires { result ≡ Err fault.Wires → FailsToServe
-        (outside (S.state sink.old) (W.state wires.old) (C.state clock.old))
-        (outside (S.state sink.new) (W.state wires.new) (C.state clock.new))
-        (serving (keys.now) plan.now rbc (length users.items)) address.now (map mind users.items) (R.stream randoms.old) (R.stream randoms.new) }
-    ensures rose { result ≡ Err fault.Wires → Rose (W.state wires.old).turn_faults (W.state wires.new).turn_faults }
-    ensures sink { result ≡ Err fault.Sink → BreaksOffServing
-        (outside (S.state sink.old) (W.state wires.old) (C.state clock.old))
-        (outside (S.state sink.new) (W.state wires.new) (C.state clock.new))
-        (serving (keys.now) plan.now rbc (length users.items)) address.now (map mind users.items) (R.stream randoms.old) }
-    ensures sunk { result ≡ Err fault.Sink → Rose (S.state sink.old).faults (S.state sink.new).faults }
-    ensures memory { (want : Want) → result ≡ Err (fault.NoMemory want) → BreaksOffServing
-        (outside (S.state sink.old) (W.state wires.old) (C.state clock.old))
-        (outside (S.state sink.new) (W.state wires.new) (C.state clock.new))
-        (serving (keys.now) plan.now rbc (length users.items)) address.now (map mind users.items) (R.stream randoms.old) }
-    ensures sink_count { (S.state sink.old).faults ≤ (S.state sink.new).faults }
+    ensures { ServesOn S.Sink W.Wires C.Clock sink.old sink.new wires.old wires.new clock.old clock.new
+        (serving keys.now plan.now rbc (length users.items)) address.now (map mind users.items) (R.stream randoms.old) (R.stream randoms.new) result }
 {
     let loop_plan = LoopPlan {
         settings: plan.settings,

@@ -1,7 +1,6 @@
 use Rattle.std.proofs.Common.{map, [], ◌∷◌, refl, sym, ◌∙◌, ap, arith}
-use Rattle.loop_visit.specs.Seeing.{seen}
-use Rattle.readiness_loop.specs.Claims.{pair_of}
-use Rattle.readiness_loop.specs.Courses.{plan_of, caller_of, loop_of, around}
+use Rattle.readiness_loop.specs.Claims.{pair_of, caller_of}
+use Rattle.readiness_loop.specs.Courses.{plan_of, loop_of, around}
 use Rattle.readiness_loop.proofs.Listening.{start_is}
 use Rattle.readiness_loop.proofs.Dials.{dial_wanted, dial_header_stops, dial_closed_from, dial_stops_from, dial_ran_from}
 use Rattle.readiness_loop.proofs.dialling.dial_users.Goals as goal
@@ -30,6 +29,7 @@ returns-in-Ok-false-clause-does g c =
       heard = c.octets_taken.ensures;
       replayed = c.recordings.ensures;
       replies = c.replies.ensures;
+      users = c.hearing.ensures.live;
       faults = c.faults.ensures;
       turns = c.turns.ensures;
       runs = c.standing.ensures.runs;
@@ -41,7 +41,7 @@ returns-in-Ok-false-clause-does g c =
     (around (g.S.Sink.state c.open.new.sink) (g.W.Wires.state c.open.new.wires) (g.C.Clock.state c.open.new.clock))
     (map g.U.SafeUser.mind c.args.users.items) (g.R.Rng.stream c.args.randoms.now) c.args.address.now c.in-Ok-dial.conn.0
     (loop_of c.in-Ok.live.book.slots c.in-Ok.live.book.places (map g.U.SafeUser.mind c.in-Ok.live.users.items) c.in-Ok.live.moment (g.R.Rng.stream c.args.randoms.now))
-    (loop_of c.open.new.self.book.slots c.open.new.self.book.places (map g.U.SafeUser.mind c.open.new.self.users.items) c.open.new.self.moment (g.R.Rng.stream c.open.new.randoms)) c.in-Ok.live.turns c.open.new.self.turns c.in-Ok-false.field-0 c.requires.allowed refl c.requires.same (c.in-Ok-dial.ensures.opened ∙ sym c.in-Ok-dial.ensures.number) (omega (arith, c.in-Ok-dial.ensures.number)) c.in-Ok-dial.ensures.listening
+    (loop_of c.open.new.self.book.slots c.open.new.self.book.places (map g.U.SafeUser.mind c.open.new.self.users.items) c.open.new.self.moment (g.R.Rng.stream c.open.new.randoms)) c.in-Ok.live.turns c.open.new.self.turns c.in-Ok-false.field-0 c.requires.allowed.settings refl c.requires.same (c.in-Ok-dial.ensures.opened ∙ sym c.in-Ok-dial.ensures.number) (omega (arith, c.in-Ok-dial.ensures.number)) c.in-Ok-dial.ensures.listening
     (record {
       text = c.in-Ok-write_header.ensures.puts.0;
       calls = c.in-Ok-dial.ensures.told;
@@ -66,6 +66,7 @@ returns-in-Err-open-clause-does g c =
       heard = c.octets_taken.ensures;
       replayed = c.recordings.ensures;
       replies = c.replies.ensures;
+      users = c.hearing.ensures.live;
       faults = c.faults.ensures;
       turns = c.turns.ensures;
       runs = c.standing.ensures.runs;
@@ -77,7 +78,7 @@ returns-in-Err-open-clause-does g c =
     (around (g.S.Sink.state c.open.new.sink) (g.W.Wires.state c.open.new.wires) (g.C.Clock.state c.open.new.clock))
     (map g.U.SafeUser.mind c.args.users.items) (g.R.Rng.stream c.args.randoms.now) (g.R.Rng.stream c.open.new.randoms) c.args.address.now c.in-Ok-dial.conn.0
     (loop_of c.in-Ok.live.book.slots c.in-Ok.live.book.places (map g.U.SafeUser.mind c.in-Ok.live.users.items) c.in-Ok.live.moment (g.R.Rng.stream c.args.randoms.now))
-    (loop_of c.open.new.self.book.slots c.open.new.self.book.places (map g.U.SafeUser.mind c.open.new.self.users.items) c.open.new.self.moment (g.R.Rng.stream c.open.new.randoms)) c.in-Ok.live.turns c.open.new.self.turns c.in-Err-open.fault c.requires.allowed
+    (loop_of c.open.new.self.book.slots c.open.new.self.book.places (map g.U.SafeUser.mind c.open.new.self.users.items) c.open.new.self.moment (g.R.Rng.stream c.open.new.randoms)) c.in-Ok.live.turns c.open.new.self.turns c.in-Err-open.fault c.requires.allowed.settings
     (record {
       text = c.in-Ok-write_header.ensures.puts.0;
       calls = c.in-Ok-dial.ensures.told;
@@ -102,6 +103,7 @@ returns-clause-does g c =
       heard = c.octets_taken.ensures;
       replayed = c.recordings.ensures;
       replies = c.replies.ensures;
+      users = c.hearing.ensures.live;
       faults = c.faults.ensures;
       turns = c.turns.ensures;
       runs = c.standing.ensures.runs;
@@ -115,7 +117,7 @@ returns-clause-does g c =
     (map g.U.SafeUser.mind c.args.users.items) (g.R.Rng.stream c.args.randoms.now) (g.R.Rng.stream c.run.new.randoms) c.args.address.now c.in-Ok-dial.conn.0
     (loop_of c.in-Ok.live.book.slots c.in-Ok.live.book.places (map g.U.SafeUser.mind c.in-Ok.live.users.items) c.in-Ok.live.moment (g.R.Rng.stream c.args.randoms.now))
     (loop_of c.open.new.self.book.slots c.open.new.self.book.places (map g.U.SafeUser.mind c.open.new.self.users.items) c.open.new.self.moment (g.R.Rng.stream c.open.new.randoms))
-    (loop_of c.run.new.self.book.slots c.run.new.self.book.places (map g.U.SafeUser.mind c.run.new.self.users.items) c.run.new.self.moment (g.R.Rng.stream c.run.new.randoms)) c.in-Ok.live.turns c.open.new.self.turns c.run.new.self.turns c.in-Ok-true.field-0 c.run.result c.requires.allowed refl c.requires.same (c.in-Ok-dial.ensures.opened ∙ sym c.in-Ok-dial.ensures.number) (omega (arith, c.in-Ok-dial.ensures.number)) c.in-Ok-dial.ensures.listening
+    (loop_of c.run.new.self.book.slots c.run.new.self.book.places (map g.U.SafeUser.mind c.run.new.self.users.items) c.run.new.self.moment (g.R.Rng.stream c.run.new.randoms)) c.in-Ok.live.turns c.open.new.self.turns c.run.new.self.turns c.in-Ok-true.field-0 c.run.result c.requires.allowed.settings refl c.requires.same (c.in-Ok-dial.ensures.opened ∙ sym c.in-Ok-dial.ensures.number) (omega (arith, c.in-Ok-dial.ensures.number)) c.in-Ok-dial.ensures.listening
     (record {
       text = c.in-Ok-write_header.ensures.puts.0;
       calls = c.in-Ok-dial.ensures.told;

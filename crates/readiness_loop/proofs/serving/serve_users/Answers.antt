@@ -1,5 +1,4 @@
-use Rattle.std.proofs.Common.{map, [], refl, ap}
-use Rattle.loop_visit.specs.Seeing.{seen}
+use Rattle.std.proofs.Common.{map, [], refl, ap, arith}
 use Rattle.readiness_loop.specs.Courses.{plan_of, loop_of, around}
 use Rattle.readiness_loop.proofs.Acceptings.{no_seats}
 use Rattle.readiness_loop.proofs.Listening.{header_stops, serve_wanted, start_is, serve_ran_from}
@@ -18,8 +17,12 @@ returns-in-Err-write_header-clause-does g c =
     (around (g.S.Sink.state c.write_header.new.sink) (g.W.Wires.state c.listen.new.self) (g.C.Clock.state c.args.clock.now))
     (map g.U.SafeUser.mind c.args.users.items) (g.R.Rng.stream c.args.randoms.now) (g.R.Rng.stream c.args.randoms.now) c.args.address.now c.in-Err-write_header.fault c.in-Ok-listen.ensures.told c.listen.ensures.count c.in-Err-write_header.ensures.puts.begun c.in-Err-write_header.ensures.puts.failed
 
-pub run-requires-clause-seated : goal.run-requires-clause-seated
-run-requires-clause-seated g c = no_seats (g.W.Wires.state c.listen.new.self).opened c.in-Ok.live.book.slots c.in-Ok.live.book.places.entries c.in-Ok.ensures.empty
+pub run-requires-clause-fit : goal.run-requires-clause-fit
+run-requires-clause-fit g c = record {
+  allowed = c.requires.allowed;
+  sound = record { moment = omega (arith, c.in-Ok.ensures.moment); awaited = c.in-Ok.ensures.awaited };
+  seated = no_seats (g.W.Wires.state c.listen.new.self).opened c.in-Ok.live.book.slots c.in-Ok.live.book.places.entries c.in-Ok.ensures.empty;
+}
 
 pub returns-clause-does : goal.returns-clause-does
 returns-clause-does g c =
@@ -32,6 +35,7 @@ returns-clause-does g c =
       heard = c.octets_taken.ensures;
       replayed = c.recordings.ensures;
       replies = c.replies.ensures;
+      users = c.hearing.ensures.live;
       faults = c.faults.ensures;
       turns = c.turns.ensures;
       runs = c.standing.ensures.runs;
@@ -43,7 +47,7 @@ returns-clause-does g c =
     (around (g.S.Sink.state c.run.new.sink) (g.W.Wires.state c.run.new.wires) (g.C.Clock.state c.run.new.clock))
     (map g.U.SafeUser.mind c.args.users.items) (g.R.Rng.stream c.args.randoms.now) (g.R.Rng.stream c.run.new.randoms) c.args.address.now
     (loop_of c.in-Ok.live.book.slots c.in-Ok.live.book.places (map g.U.SafeUser.mind c.in-Ok.live.users.items) c.in-Ok.live.moment (g.R.Rng.stream c.args.randoms.now))
-    (loop_of c.run.new.self.book.slots c.run.new.self.book.places (map g.U.SafeUser.mind c.run.new.self.users.items) c.run.new.self.moment (g.R.Rng.stream c.run.new.randoms)) c.run.new.self.turns c.run.result c.requires.allowed
+    (loop_of c.run.new.self.book.slots c.run.new.self.book.places (map g.U.SafeUser.mind c.run.new.self.users.items) c.run.new.self.moment (g.R.Rng.stream c.run.new.randoms)) c.run.new.self.turns c.run.result c.requires.allowed.settings
     (record {
       text = c.in-Ok-write_header.ensures.puts.0;
       calls = c.in-Ok-listen.ensures.told;

@@ -22,7 +22,7 @@ returns-in-Ok-clause-does g c =
 pub returns-in-Ok-clause-seated : goal.returns-in-Ok-clause-seated
 returns-in-Ok-clause-seated g c =
     stays_seated (g.W.Wires.state c.args.wires.now).opened (g.W.Wires.state c.visit_session.new.wires).opened c.args.number c.in-Some.slot c.args.self.now.slots c.args.self.now.places
-    c.in-Some-get_mut.session.now c.visit_session.new.session c.visit_session.ensures.opened c.requires.seated
+    c.in-Some-get_mut.session.now c.visit_session.new.session c.visit_session.ensures.keep.stay.opened c.requires.seated
     (sym c.get.ensures.value ∙ sym c.in-Some.ensures) (sym c.in-Some-get_mut.ensures.value) c.visit_session.ensures.number
 
 pub returns-in-Ok-change-clause-does : goal.returns-in-Ok-change-clause-does
@@ -35,7 +35,7 @@ returns-in-Ok-change-clause-does g c =
 pub returns-in-Ok-change-clause-seated : goal.returns-in-Ok-change-clause-seated
 returns-in-Ok-change-clause-seated g c =
     closes_seated (g.W.Wires.state c.args.wires.now).opened (g.W.Wires.state c.visit_session.new.wires).opened c.args.number c.in-Some.slot c.args.self.now.slots c.try_remove.new.self c.args.self.now.places c.remove.new.self
-    c.in-Some-get_mut.session.now c.visit_session.new.session c.visit_session.ensures.opened c.requires.seated
+    c.in-Some-get_mut.session.now c.visit_session.new.session c.visit_session.ensures.keep.stay.opened c.requires.seated
     (sym c.get.ensures.value ∙ sym c.in-Some.ensures) (sym c.in-Some-get_mut.ensures.value) c.remove.ensures.entries c.try_remove.ensures.updates
 
 pub returns-in-Err-clause-does : goal.returns-in-Err-clause-does

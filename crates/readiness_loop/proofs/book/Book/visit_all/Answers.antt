@@ -8,10 +8,7 @@ loop-number-init g c = record {
   swept = swept_none _ _ _ _;
   seated = c.requires.seated;
   awaited = c.requires.awaited;
-  opened = refl;
-  sunk = omega arith;
-  listening = refl;
-  turn_count = refl;
+  keep = record { sunk = omega arith; stay = record { opened = refl; listening = refl; turn_count = refl; count = omega arith } };
 }
 
 pub loop-number-preserved : goal.loop-number-preserved
@@ -20,10 +17,15 @@ loop-number-preserved g c = record {
       (slice_get-get_or c.args.sequence.now c.loop-number.number-index 0 c.loop-number-test.true) c.in-Ok.ensures.does;
   seated = c.in-Ok.ensures.seated;
   awaited = c.in-Ok.ensures.awaited;
-  sunk = omega (arith, c.loop-number.invariant.sunk, c.visit.ensures.sunk);
-  opened = c.visit.ensures.opened ∙ c.loop-number.invariant.opened;
-  listening = c.visit.ensures.listening ∙ c.loop-number.invariant.listening;
-  turn_count = c.visit.ensures.turn_count ∙ c.loop-number.invariant.turn_count;
+  keep = record {
+    sunk = omega (arith, c.loop-number.invariant.keep.sunk, c.visit.ensures.keep.sunk);
+    stay = record {
+      opened = c.visit.ensures.keep.stay.opened ∙ c.loop-number.invariant.keep.stay.opened;
+      listening = c.visit.ensures.keep.stay.listening ∙ c.loop-number.invariant.keep.stay.listening;
+      turn_count = c.visit.ensures.keep.stay.turn_count ∙ c.loop-number.invariant.keep.stay.turn_count;
+      count = omega (arith, c.loop-number.invariant.keep.stay.count, c.visit.ensures.keep.stay.count);
+    };
+  };
 }
 
 pub returns-in-Err-clause-does : goal.returns-in-Err-clause-does

@@ -1,10 +1,9 @@
 -- So many sessions were visited.
 use Rattle.loop_session.specs.Keeping.{kept_ends}
-use Rattle.std.specs.Prelude.{◌≡◌, ◌≤◌}
 use Rattle.loop_model.specs.Visits.{visited}
 use Rattle.loop_session.specs.Parts.{rules}
 use Rattle.loop_visit.specs.Seeing.{seen}
-use Rattle.loop_visit.specs.Visiting.{visit_of}
+use Rattle.loop_visit.specs.Visiting.{visit_of, Keep}
 use Rattle.readiness_loop.specs.Books.{AreSeated, AreAwaited, sessions}
 use Rattle.readiness_loop.proofs.Sweeps.{SweptSome}
 use Rattle.readiness_loop.proofs.book.Book.visit_all.Given as goal
@@ -17,8 +16,5 @@ invariant-loop-number g l = record {
       (sessions l.fn.self.slots l.fn.self.places) (sessions l.self.slots l.self.places);
   seated : AreSeated (g.W.Wires.state l.wires).opened l.self.slots l.self.places.entries;
   awaited : AreAwaited l.self.slots l.self.places l.self.wake_times.pairs;
-  opened : (g.W.Wires.state l.wires).opened ≡ (g.W.Wires.state l.fn.wires).opened;
-  sunk : (g.S.Sink.state l.fn.sink).faults ≤ (g.S.Sink.state l.sink).faults;
-  listening : (g.W.Wires.state l.wires).listening ≡ (g.W.Wires.state l.fn.wires).listening;
-  turn_count : (g.W.Wires.state l.wires).turn_faults ≡ (g.W.Wires.state l.fn.wires).turn_faults;
+  keep : Keep g.S.Sink g.W.Wires l.fn.sink l.sink l.fn.wires l.wires;
 }

@@ -29,13 +29,13 @@ returns-in-Ok-false-clause-does g c =
     (seen (g.S.Sink.state c.args.sink.now) (g.W.Wires.state c.args.wires.now))
     (seen (g.S.Sink.state c.begin_call.new.sink) (g.W.Wires.state c.begin_call.new.wires))
     c.args.self.now.book.slots c.args.self.now.book.places c.begin_call.new.session c.in-Ok-false.field-0 (served kept_ends (rules (pair_of c.args.pair.now.engine c.args.pair.now.rbc c.args.pair.now.kmac ∷ []) c.of-when.result.setup) c.of-when.result.moment c.begin-session.result (Begins c.args.pair.now.engine c.args.plan.now.rbc c.next_u64-rb.result)) (served kept_ends (rules (pair_of c.args.pair.now.engine c.args.pair.now.rbc c.args.pair.now.kmac ∷ []) c.args.plan.now.settings.setup) c.args.self.now.moment (begun c.args.conn.0 (kept_opened (CallsWith c.args.plan.now.settings c.args.pair.now.engine c.args.plan.now.rbc c.args.pair.now.kmac (next_u64 (g.R.Rng.stream c.args.randoms.now)).0 c.args.self.now.moment)) (g.U.SafeUser.mind c.args.user)) (Begins c.args.pair.now.engine c.args.plan.now.rbc (next_u64 (g.R.Rng.stream c.args.randoms.now)).0))
-    same c.requires.empty c.in-Ok-false.field-0-test c.in-Ok-false.ensures.does
+    same c.requires.first.empty c.in-Ok-false.field-0-test c.in-Ok-false.ensures.does
 
 pub returns-in-Ok-false-clause-seated : goal.returns-in-Ok-false-clause-seated
-returns-in-Ok-false-clause-seated g c = no_seats (g.W.Wires.state c.begin_call.new.wires).opened c.args.self.now.book.slots c.args.self.now.book.places.entries c.requires.empty
+returns-in-Ok-false-clause-seated g c = no_seats (g.W.Wires.state c.begin_call.new.wires).opened c.args.self.now.book.slots c.args.self.now.book.places.entries c.requires.first.empty
 
 pub add-requires-clause-seated : goal.add-requires-clause-seated
-add-requires-clause-seated g c = no_seats _ c.args.self.now.book.slots c.args.self.now.book.places.entries c.requires.empty
+add-requires-clause-seated g c = no_seats _ c.args.self.now.book.slots c.args.self.now.book.places.entries c.requires.first.empty
 
 pub returns-in-Ok-add-clause-does : goal.returns-in-Ok-add-clause-does
 returns-in-Ok-add-clause-does g c =
@@ -49,7 +49,7 @@ returns-in-Ok-add-clause-does g c =
     (seen (g.S.Sink.state c.args.sink.now) (g.W.Wires.state c.args.wires.now))
     (seen (g.S.Sink.state c.begin_call.new.sink) (g.W.Wires.state c.begin_call.new.wires))
     c.args.self.now.book.slots c.add.new.self.slots c.args.self.now.book.places c.add.new.self.places c.begin_call.new.session c.in-Ok-true.field-0 (served kept_ends (rules (pair_of c.args.pair.now.engine c.args.pair.now.rbc c.args.pair.now.kmac ∷ []) c.of-when.result.setup) c.of-when.result.moment c.begin-session.result (Begins c.args.pair.now.engine c.args.plan.now.rbc c.next_u64-rb.result)) (served kept_ends (rules (pair_of c.args.pair.now.engine c.args.pair.now.rbc c.args.pair.now.kmac ∷ []) c.args.plan.now.settings.setup) c.args.self.now.moment (begun c.args.conn.0 (kept_opened (CallsWith c.args.plan.now.settings c.args.pair.now.engine c.args.plan.now.rbc c.args.pair.now.kmac (next_u64 (g.R.Rng.stream c.args.randoms.now)).0 c.args.self.now.moment)) (g.U.SafeUser.mind c.args.user)) (Begins c.args.pair.now.engine c.args.plan.now.rbc (next_u64 (g.R.Rng.stream c.args.randoms.now)).0))
-    same c.requires.empty c.in-Ok-true.field-0-test c.in-Ok-add.ensures.sessions c.in-Ok-true.ensures.does
+    same c.requires.first.empty c.in-Ok-true.field-0-test c.in-Ok-add.ensures.sessions c.in-Ok-true.ensures.does
 
 pub returns-in-Err-add-clause-does : goal.returns-in-Err-add-clause-does
 returns-in-Err-add-clause-does g c =
@@ -66,4 +66,4 @@ returns-in-Err-add-clause-does g c =
 
 pub returns-in-Ok-add-clause-stays : goal.returns-in-Ok-add-clause-stays
 returns-in-Ok-add-clause-stays g c =
-    one_entry _ c.args.self.now.book.slots c.add.new.self.slots c.args.self.now.book.places c.add.new.self.places c.begin_call.new.session c.requires.empty c.in-Ok-add.ensures.seated c.in-Ok-add.ensures.sessions
+    one_entry _ c.args.self.now.book.slots c.add.new.self.slots c.args.self.now.book.places c.add.new.self.places c.begin_call.new.session c.requires.first.empty c.in-Ok-add.ensures.seated c.in-Ok-add.ensures.sessions

@@ -1,6 +1,5 @@
 use Rattle.std.proofs.Common.{map, ap, arith}
 use Rattle.loop_model.specs.Loops.{OnEnded, OnClosed}
-use Rattle.loop_visit.specs.Seeing.{seen}
 use Rattle.readiness_loop.specs.Courses.{plan_of, loop_of, course_of, around, halt_of}
 use Rattle.readiness_loop.proofs.Running.{ran_start, run_goes, run_halts, run_stops, ran_all}
 use Rattle.readiness_loop.proofs.live_loop.LiveLoop.run.Goals as goal
@@ -8,9 +7,7 @@ use Rattle.readiness_loop.proofs.live_loop.LiveLoop.run.Goals as goal
 pub loop-init : goal.loop-init
 loop-init g c = record {
   ran = λ asked. ran_start (plan_of (g.K.KeyFinder.entries c.args.keys.now) c.args.plan.now) (around (g.S.Sink.state c.args.sink.now) (g.W.Wires.state c.args.wires.now) (g.C.Clock.state c.args.clock.now)) (loop_of c.args.self.now.book.slots c.args.self.now.book.places (map g.U.SafeUser.mind c.args.self.now.users.items) c.args.self.now.moment (g.R.Rng.stream c.args.randoms.now)) _ asked c.requires.turns;
-  seated = c.requires.seated;
-  awaited = c.requires.awaited;
-  moment = c.requires.moment;
+  whole = record { sound = c.requires.fit.sound; seated = c.requires.fit.seated };
   turns = omega (arith, c.requires.turns);
   sunk = omega arith;
 }
@@ -25,9 +22,7 @@ loop-preserved g c = record {
       (course_of (loop_of c.args.self.now.book.slots c.args.self.now.book.places (map g.U.SafeUser.mind c.args.self.now.users.items) c.args.self.now.moment (g.R.Rng.stream c.args.randoms.now)) 0 asked)
       (loop_of c.loop.self.book.slots c.loop.self.book.places (map g.U.SafeUser.mind c.loop.self.users.items) c.loop.self.moment (g.R.Rng.stream c.loop.randoms))
       (loop_of c.go.new.self.book.slots c.go.new.self.book.places (map g.U.SafeUser.mind c.go.new.self.users.items) c.go.new.self.moment (g.R.Rng.stream c.go.new.randoms)) c.loop.self.turns c.go.new.self.turns c.loop.counter c.in-Ok-GoesOn.field-0 (c.loop.invariant.ran asked) (ap halt_of c.in-Ok-GoesOn.field-0-is) c.in-Ok-GoesOn.ensures.does;
-  seated = c.in-Ok-GoesOn.ensures.seated;
-  awaited = c.in-Ok-GoesOn.ensures.awaited;
-  moment = c.in-Ok-GoesOn.ensures.moment;
+  whole = c.in-Ok-GoesOn.ensures.whole;
   turns = omega (arith, c.go.ensures.turns, c.loop.invariant.turns);
   sunk = omega (arith, c.go.ensures.sunk, c.loop.invariant.sunk);
 }

@@ -1,8 +1,7 @@
 -- So many turns were done, and the loop goes on.
 use Rattle.std.specs.Prelude.{◌≤◌, ℕ, List, map}
-use Rattle.loop_visit.specs.Seeing.{seen}
-use Rattle.readiness_loop.specs.Books.{AreSeated, AreAwaited}
 use Rattle.readiness_loop.specs.Courses.{plan_of, loop_of, course_of, around}
+use Rattle.readiness_loop.specs.Lives.{IsWhole}
 use Rattle.readiness_loop.proofs.Running.{RanSome}
 use Rattle.readiness_loop.proofs.live_loop.LiveLoop.run.Given as goal
 
@@ -14,9 +13,7 @@ invariant-loop g l = record {
       (course_of (loop_of l.fn.self.book.slots l.fn.self.book.places (map g.U.SafeUser.mind l.fn.self.users.items) l.fn.self.moment (g.R.Rng.stream l.fn.randoms)) 0 asked)
       (loop_of l.self.book.slots l.self.book.places (map g.U.SafeUser.mind l.self.users.items) l.self.moment (g.R.Rng.stream l.randoms))
       l.self.turns l.counter;
-  seated : AreSeated (g.W.Wires.state l.wires).opened l.self.book.slots l.self.book.places.entries;
-  awaited : AreAwaited l.self.book.slots l.self.book.places l.self.book.wake_times.pairs;
-  moment : l.self.moment ≤ 1000000000000000;
+  whole : IsWhole (g.W.Wires.state l.wires).opened l.self;
   turns : l.self.turns ≤ l.counter;
   sunk : (g.S.Sink.state l.fn.sink).faults ≤ (g.S.Sink.state l.sink).faults;
 }

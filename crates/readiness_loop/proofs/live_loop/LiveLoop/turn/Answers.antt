@@ -11,8 +11,8 @@ returns-in-Ok-clause-does g c = λ asked.
     (g.W.Wires.state c.args.wires.now) (g.W.Wires.state c.turn-happening.new.self) (g.W.Wires.state c.react.new.wires) (g.C.Clock.state c.args.clock.now) (g.C.Clock.state c.now.new.self)
     (loop_of c.args.self.now.book.slots c.args.self.now.book.places (map g.U.SafeUser.mind c.args.self.now.users.items) c.args.self.now.moment (g.R.Rng.stream c.args.randoms.now)) _ c.args.self.now.turns c.react.new.self.turns c.max-self.result asked c.args.until c.turn-happening.result c.now.result c.has_closed.result _ c.next_behind.result
     c.requires.until c.turn-happening.ensures.told c.turn-happening.ensures.count c.now.ensures.told c.max-self.ensures c.in-Ok.ensures.does
-    c.turn-happening.ensures.opened c.react.ensures.opened c.turn-happening.ensures.number c.turn-happening.ensures.turn_count c.react.ensures.turn_count (c.react.ensures.listening ∙ c.turn-happening.ensures.listening) c.turn-happening.ensures.accepted c.turn-happening.ensures.turn_cause
-    c.react.ensures.turns c.has_closed.ensures (length_sessions _ c.react.new.self.book.slots c.react.new.self.book.places.entries c.in-Ok.ensures.seated) c.next_behind.ensures
+    c.turn-happening.ensures.opened c.react.ensures.keep.stay.opened c.turn-happening.ensures.number c.turn-happening.ensures.turn_count c.react.ensures.keep.stay.turn_count (c.react.ensures.keep.stay.listening ∙ c.turn-happening.ensures.listening) c.turn-happening.ensures.accepted c.turn-happening.ensures.turn_cause
+    c.react.ensures.rests.turns c.has_closed.ensures (length_sessions _ c.react.new.self.book.slots c.react.new.self.book.places.entries c.in-Ok.ensures.seated) c.next_behind.ensures
 
 pub returns-in-Err-clause-does : goal.returns-in-Err-clause-does
 returns-in-Err-clause-does g c = λ asked.
