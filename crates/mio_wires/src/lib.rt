@@ -4,11 +4,18 @@
 //! reaches the real thing is shown by its tests.
 #![tactic(auto)]
 
+mod faults;
+mod lines;
+mod moments;
+mod options;
 mod queue;
+#[cfg(test)]
+mod script_tests;
 mod sockets;
 #[cfg(test)]
 mod tests;
 mod wires;
 
-pub use sockets::MOST_CONNECTIONS;
+pub use faults::WireFault;
+pub use lines::MOST_CONNECTIONS;
 pub use wires::MioWires;

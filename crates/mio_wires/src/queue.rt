@@ -1,4 +1,7 @@
 // What happened, in the order in which it is answered.
+ghost use Rattle.std.specs.Prelude.{◌≡◌, ◌==◌, true};
+ghost use Rattle.mio_wires.specs.Standing.{HasRoom, StandsIn, count};
+
 use er_base::NoMemory;
 use std::alloc::Global;
 use std::collections::VecDeque;
@@ -21,11 +24,11 @@ impl Seen {
     }
 }
 
-// Each happening stands here once; whoever adds one of a connection sees to it.
+// Each happening stands here once.
 #[derive(Drop)]
 pub struct Queue {
     seen: VecDeque<Seen>,
-    // Whether the listener stands in it.
+    // Whether the listener may stand in it.
     is_heard: bool,
 }
 
@@ -38,21 +41,42 @@ impl Queue {
         })
     }
 
-    pub fn is_empty(&self) -> bool {
+    pub fn is_empty(&self) -> bool
+        ensures { result ≡ (count self.now == 0) }
+    {
         self.seen.is_empty()
     }
 
-    // Adds the listener at the end, where it doesn't stand here already.
-    pub fn add_listener(&mut self) {
-        if !self.is_heard {
-            self.is_heard = true;
-            self.add(Seen::Listener);
-        }
+    // Whether one more happening has its place. The memory for each happening once was reserved, so it always has.
+    pub fn has_room(&self) -> bool
+        ensures { result ≡ true → HasRoom self.now }
+    {
+        self.seen.len() < self.seen.capacity()
     }
 
-    // Adds a happening at the end. The memory for each happening once was reserved, so there is always room.
-    pub fn add(&mut self, seen: Seen) {
+    // Adds the listener at the end, where it doesn't stand here already.
+    pub fn add_listener(&mut self)
+        ensures { HasRoom self.old → StandsIn self.new Seen.Listener }
+    {
+        let may_stand = self.is_heard;
+        self.is_heard = true;
+        self.add(Seen::Listener, may_stand);
+    }
+
+    // Adds a happening at the end, where it doesn't stand here already: it is looked for only where it may.
+    pub fn add(&mut self, seen: Seen, may_stand: bool)
+        ensures { HasRoom self.old → StandsIn self.new seen }
+    {
+        if may_stand && self.stands(seen) {
+            return;
+        }
         let _room = self.seen.push_back(seen);
+    }
+
+    fn stands(&self, seen: Seen) -> bool
+        ensures { result ≡ true → StandsIn self.now seen }
+    {
+        self.seen.contains(&seen)
     }
 
     // Takes the first happening.
@@ -65,7 +89,9 @@ impl Queue {
     }
 
     // Takes out the happenings of the connection of this number.
-    pub fn forget(&mut self, number: u64) {
+    pub fn forget(&mut self, number: u64)
+        ensures { HasRoom self.old → HasRoom self.new }
+    {
         self.seen.retain(|seen| !seen.is_at(number));
     }
 }

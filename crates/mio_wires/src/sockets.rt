@@ -1,113 +1,116 @@
 // The sockets, what `mio` reports of them, and nothing of numbers and counts of faults.
-ghost use Rattle.std.specs.Prelude.{◌≡◌, ◌≤◌, ◌+◌, ℕ, length, IfOk, IfSome};
+ghost use Rattle.std.specs.Prelude.{◌≡◌, ◌<◌, ◌≤◌, ◌+◌, ◌⊎◌, ℕ, length, IfOk, IfSome, IsSome, true};
+ghost use Rattle.std.specs.Duration.{as_nanos};
+ghost use Rattle.std.specs.IoError.{error_kind};
+ghost use Rattle.mio_wires.specs.Standing.{HasRoom, StandsIn, IsClosed, count};
 
-use crate::queue::{Queue, Seen};
+use crate::faults::WireFault;
+use crate::lines::{Lines, SLOTS};
+use crate::moments::Moments;
+use crate::options::set_for_frames;
+use crate::queue::Seen;
 use er_base::NoMemory;
-use link_trait::{Failed, ReadAnswer, WriteAnswer};
-use mio::net::{TcpListener, TcpStream};
+use link_trait::{ReadAnswer, WriteAnswer};
+use mio::net::TcpStream;
 use mio::{Events, Interest, Poll, Token};
-use slab::Slab;
 use std::alloc::Global;
 use std::io::{ErrorKind, Read, Write};
 use std::net::{Net, SocketAddr};
 use std::rt::Clock;
 use std::time::Duration;
-
-/// The most connections that are open at once: 256 that are live, and one that is accepted to be closed.
-pub const MOST_CONNECTIONS: usize = 257;
-
-// A listener, and two happenings a connection.
-const MOST_SEEN: usize = 2 * MOST_CONNECTIONS + 1;
+use std::{io, net};
 
 // A connection's token is its slot, which is below this.
-const LISTENER: Token = Token(MOST_CONNECTIONS);
+const LISTENER: Token = Token(SLOTS);
 
-// A connection: its number and its socket, and whether a happening of either kind stands in the queue.
-#[derive(Drop)]
-struct Line {
-    number: u64,
-    stream: TcpStream,
-    is_readable: bool,
-    is_writable: bool,
-}
+// An accept that failed is tried again after so many milliseconds.
+const ACCEPT_AGAIN: u64 = 500;
 
-// Where the connection of a number is.
-#[derive(Clone, Copy)]
-struct Place {
-    number: u64,
-    slot: usize,
-}
+// Where the fault is the connection's it is tried at once, so many times in a row.
+const MOST_AT_ONCE: u8 = 64;
+
+// How often it is heard of connections that leave before the wires end.
+const MOST_HEARD: u32 = 1_000_000;
+
+// ENONET, EPROTO, ENOPROTOOPT, EOPNOTSUPP, ENETDOWN, ENETUNREACH, ECONNABORTED, EHOSTDOWN, EHOSTUNREACH.
+const OF_CONNECTION: [i32; 9] = [64, 71, 92, 95, 100, 101, 103, 112, 113];
 
 #[derive(Drop)]
 pub struct Sockets<R: Net + Clock + Drop> {
     rt: R,
-    // None where the system refused it.
-    poll: Option<Poll>,
+    poll: io::Result<Poll>,
     events: Events,
-    listener: Option<TcpListener>,
-    lines: Slab<Line>,
-    // The open connections by their numbers, which rise: the newest stands last.
-    places: Vec<Place>,
-    queue: Queue,
+    listener: Option<net::TcpListener>,
+    lines: Lines,
     // Whether peers may wait at the listener until a connection is closed.
     is_held_back: bool,
-    // The newest moment that the system's clock gave, in milliseconds since the start of 1970.
-    moment: u64,
+    // The moment at which the listener is tried again.
+    again_at: Option<u64>,
+    // How many accepts in a row were tried again at once.
+    at_once: u8,
+    moments: Moments,
 }
 
 impl<R: Net + Clock + Drop> Sockets<R> {
     // No socket yet, with the memory for all that can be opened.
     pub fn new(alloc: Global, rt: R) -> Result<Sockets<R>, NoMemory> {
-        let poll = Poll::new(&rt).ok();
+        let poll = Poll::new(&rt);
+        let moments = Moments::by_the_wall(&rt);
         Ok(Sockets {
             rt,
             poll,
-            events: Events::with_capacity(alloc, MOST_CONNECTIONS + 1)?,
+            events: Events::with_capacity(alloc, SLOTS + 1)?,
             listener: None,
-            lines: Slab::with_capacity(alloc, MOST_CONNECTIONS)?,
-            places: Vec::with_capacity(alloc, MOST_CONNECTIONS)?,
-            queue: Queue::with_capacity(alloc, MOST_SEEN)?,
+            lines: Lines::new(alloc)?,
             is_held_back: false,
-            moment: 0,
+            again_at: None,
+            at_once: 0,
+            moments,
         })
     }
 
+    // Reckons from this moment on, which is now.
+    pub fn keep_time(&mut self, now: u64) {
+        self.moments = Moments::from(&self.rt, now);
+    }
+
     // Listens at an IP address and a port.
-    pub fn listen(&mut self, address: &str) -> Result<(), Failed> {
-        let (Some(poll), Ok(address)) = (&self.poll, address.parse::<SocketAddr>()) else {
-            return Err(Failed);
+    pub fn listen(&mut self, address: &str) -> Result<(), WireFault> {
+        let poll = made(&self.poll)?;
+        let Ok(address) = address.parse::<SocketAddr>() else {
+            return Err(WireFault::NoAddress);
         };
-        let Ok(mut listener) = TcpListener::bind(&self.rt, address) else {
-            return Err(Failed);
-        };
-        let registry = poll.registry();
-        if registry
-            .register(&mut listener, LISTENER, Interest::READABLE)
-            .is_err()
-        {
-            return Err(Failed);
-        }
-        self.listener = Some(listener);
+        let mut listener = mio::net::TcpListener::bind(&self.rt, address)?;
+        poll.registry()
+            .register(&mut listener, LISTENER, Interest::READABLE)?;
+        self.listener = Some(net::TcpListener::from(listener));
         Ok(())
     }
 
+    // Where it listens.
+    pub fn address(&self) -> Option<SocketAddr> {
+        self.listener.as_ref()?.local_addr().ok()
+    }
+
     // Begins a connection to the peer at an IP address and a port, and answers its number, the next behind the newest.
-    pub fn dial(&mut self, address: &str, newest: u64) -> Result<u64, Failed>
+    pub fn dial(&mut self, address: &str, newest: u64) -> Result<u64, WireFault>
         ensures { IfOk result (λ number. number ≡ newest + 1) }
     {
-        if self.lines.len() >= MOST_CONNECTIONS {
-            return Err(Failed);
-        }
         let Some(number) = newest.checked_add(1) else {
-            return Err(Failed);
+            return Err(WireFault::Full);
         };
+        if self.lines.is_full() {
+            return Err(WireFault::Full);
+        }
         let Ok(address) = address.parse::<SocketAddr>() else {
-            return Err(Failed);
+            return Err(WireFault::NoAddress);
         };
-        let Ok(stream) = TcpStream::connect(&self.rt, address) else {
-            return Err(Failed);
-        };
-        self.open(stream, number)
+        let mut stream = TcpStream::connect(&self.rt, address)?;
+        self.register(&mut stream)?;
+        if !self.lines.open(number, stream, false) {
+            return Err(WireFault::Full);
+        }
+        Ok(number)
     }
 
     // Accepts a peer's connection, where one waits and there is room, and answers its number, the next behind the newest.
@@ -115,73 +118,130 @@ impl<R: Net + Clock + Drop> Sockets<R> {
         ensures { IfSome result (λ number. number ≡ newest + 1) }
     {
         let number = newest.checked_add(1)?;
-        if self.lines.len() >= MOST_CONNECTIONS {
+        if self.lines.is_full() {
             self.is_held_back = true;
             return None;
         }
         match self.listener.as_ref()?.accept() {
             Ok((stream, _)) => {
-                self.queue.add_listener();
-                self.open(stream, number).ok()
+                self.at_once = 0;
+                self.lines.try_listener();
+                self.keep_accepted(stream, number)
             }
-            Err(error) if error.kind() == ErrorKind::WouldBlock => None,
-            Err(_) => {
-                self.is_held_back = true;
+            Err(error) => {
+                self.put_off(&error);
                 None
             }
         }
     }
 
+    // Keeps an accepted connection. One that can't be registered is kept too, as one that is dead.
+    fn keep_accepted(&mut self, stream: net::TcpStream, number: u64) -> Option<u64>
+        ensures { IfSome result (λ kept. kept ≡ number) }
+    {
+        let is_set = stream.set_nonblocking(true).is_ok();
+        let mut stream = TcpStream::from_std(stream);
+        let is_dead = !is_set || self.register(&mut stream).is_err();
+        if self.lines.open(number, stream, is_dead) {
+            Some(number)
+        } else {
+            None
+        }
+    }
+
+    // Has the socket reported under the slot that it gets, and sets what it is to be set to.
+    fn register(&self, stream: &mut TcpStream) -> Result<(), WireFault> {
+        set_for_frames(stream);
+        let token = Token(self.lines.next_slot());
+        made(&self.poll)?
+            .registry()
+            .register(stream, token, Interest::READABLE | Interest::WRITABLE)?;
+        Ok(())
+    }
+
+    // Sees to it that an accept that failed is tried again: at once where the fault was the connection's, or where a
+    // connection that leaves gives its place; else by time.
+    fn put_off(&mut self, error: &io::Error)
+        ensures { HasRoom self.old.lines.queue → (error_kind error.now ≡ ErrorKind.WouldBlock) ⊎ (StandsIn self.new.lines.queue Seen.Listener ⊎ IsSome self.new.again_at) }
+    {
+        if error.kind() == ErrorKind::WouldBlock {
+            // Nobody waits: the next who comes is reported.
+            self.at_once = 0;
+            return;
+        }
+        let is_theirs = is_of_connection(error) && self.at_once < MOST_AT_ONCE;
+        if is_theirs {
+            self.at_once = self.at_once.saturating_add(1);
+        }
+        if is_theirs || self.lines.any_leaves() {
+            if !is_theirs {
+                self.lines.let_first_go();
+            }
+            self.lines.try_listener();
+        } else {
+            self.at_once = 0;
+            self.again_at = Some(self.now().saturating_add(ACCEPT_AGAIN));
+        }
+    }
+
     // Waits for the next happening, at the latest until this moment, and takes the first one. None where there is none.
-    pub fn next(&mut self, until: Option<u64>) -> Result<Option<Seen>, Failed> {
+    pub fn next(&mut self, until: Option<u64>) -> Result<Option<Seen>, WireFault> {
         let wait = self.wait(until);
-        let Some(poll) = &mut self.poll else {
-            return Err(Failed);
-        };
-        if poll.poll(&mut self.events, wait).is_err() {
-            return Err(Failed);
+        self.hear(wait)?;
+        Ok(self.lines.take())
+    }
+
+    // Waits at most so long, and hears of all that happened.
+    fn hear(&mut self, wait: Option<Duration>) -> Result<(), WireFault> {
+        match &mut self.poll {
+            Ok(poll) => poll.poll(&mut self.events, wait)?,
+            Err(error) => return Err(WireFault::System(*error)),
         }
         for event in self.events.iter() {
             if event.token() == LISTENER {
-                self.queue.add_listener();
-            }
-            let Some(line) = self.lines.get_mut(event.token().0) else {
-                continue;
-            };
-            let is_readable = event.is_readable() || event.is_read_closed() || event.is_error();
-            if is_readable && !line.is_readable {
-                line.is_readable = true;
-                self.queue.add(Seen::Readable(line.number));
-            }
-            if event.is_writable() && !line.is_writable {
-                line.is_writable = true;
-                self.queue.add(Seen::Writable(line.number));
+                self.lines.try_listener();
+            } else {
+                self.lines.hear(event);
             }
         }
-        Ok(self.take())
+        self.do_what_is_due();
+        Ok(())
     }
 
-    // Reads from the connection of this number.
+    // What comes by time: the listener is tried again, and connections that leave have to be gone.
+    fn do_what_is_due(&mut self) {
+        if self.again_at.is_none() && !self.lines.any_leaves() {
+            return;
+        }
+        let now = self.now();
+        if self.again_at.is_some_and(|at| at <= now) {
+            self.again_at = None;
+            self.lines.try_listener();
+        }
+        self.lines.let_go_by(now);
+    }
+
+    // Reads from the connection of this number. Where that gave octets, more may wait.
     pub fn read(&mut self, number: u64, into: &mut [u8]) -> ReadAnswer
         ensures length { length into.new ≡ length into.old }
         ensures fits { (n : ℕ) → result ≡ ReadAnswer.Some n → (1 ≤ n) × (n ≤ length into.old) }
+        ensures again { (n : ℕ) → result ≡ ReadAnswer.Some n → StandsIn self.new.lines.queue (Seen.Readable number) }
     {
-        let Some(slot) = self.slot_of(number) else {
-            return ReadAnswer::Failed;
-        };
-        let Some(line) = self.lines.get_mut(slot) else {
-            return ReadAnswer::Failed;
-        };
-        match line.stream.read(into) {
+        // There always is.
+        if !self.lines.has_room() {
+            return ReadAnswer::NotNow;
+        }
+        match self.lines.read(number, into) {
             Ok(0) => ReadAnswer::End,
             Ok(count) => {
-                if !line.is_readable {
-                    line.is_readable = true;
-                    self.queue.add(Seen::Readable(number));
-                }
+                self.lines.tell_readable(number);
                 ReadAnswer::Some(count)
             }
             Err(error) if error.kind() == ErrorKind::WouldBlock => ReadAnswer::NotNow,
+            Err(error) if error.kind() == ErrorKind::Interrupted => {
+                self.lines.tell_readable(number);
+                ReadAnswer::NotNow
+            }
             Err(_) => ReadAnswer::Failed,
         }
     }
@@ -190,117 +250,97 @@ impl<R: Net + Clock + Drop> Sockets<R> {
     pub fn write(&mut self, number: u64, piece: &[u8]) -> WriteAnswer
         ensures { (n : ℕ) → result ≡ WriteAnswer.Some n → (1 ≤ n) × (n ≤ length piece.now) }
     {
-        let Some(slot) = self.slot_of(number) else {
-            return WriteAnswer::Failed;
-        };
-        let Some(line) = self.lines.get_mut(slot) else {
-            return WriteAnswer::Failed;
-        };
-        match line.stream.write(piece) {
+        match self.lines.write(number, piece) {
             Ok(0) => WriteAnswer::NotNow,
             Ok(count) => WriteAnswer::Some(count),
             Err(error) if has_no_room(error.kind()) => WriteAnswer::NotNow,
+            Err(error) if error.kind() == ErrorKind::Interrupted => {
+                self.lines.tell_writable(number);
+                WriteAnswer::NotNow
+            }
             Err(_) => WriteAnswer::Failed,
         }
     }
 
-    // Closes the connection of this number, and takes its happenings out of the queue.
-    pub fn close(&mut self, number: u64) {
-        self.queue.forget(number);
-        let Some(slot) = self.slot_of(number) else {
-            return;
-        };
-        let _closed = self.lines.try_remove(slot);
-        self.places.retain(|place| place.number != number);
-        if self.is_held_back {
-            self.is_held_back = false;
-            self.queue.add_listener();
-        }
-    }
-
-    // Keeps the socket under this number, and has it reported under its slot.
-    fn open(&mut self, stream: TcpStream, number: u64) -> Result<u64, Failed>
-        ensures { IfOk result (λ opened. opened ≡ number) }
+    // Closes the connection of this number, and takes its happenings out of the queue. Nobody is held back then.
+    pub fn close(&mut self, number: u64)
+        ensures closed { IsClosed self.new.lines.places.items number }
+        ensures held_back { self.old.is_held_back ≡ true → HasRoom self.old.lines.queue → StandsIn self.new.lines.queue Seen.Listener }
     {
-        let mut line = Line {
-            number,
-            stream,
-            is_readable: false,
-            is_writable: false,
-        };
-        let Some(poll) = &self.poll else {
-            return Err(Failed);
-        };
-        let token = Token(self.lines.vacant_key());
-        let interests = Interest::READABLE | Interest::WRITABLE;
-        if poll
-            .registry()
-            .register(&mut line.stream, token, interests)
-            .is_err()
-        {
-            return Err(Failed);
+        let now = self.now();
+        self.lines.close(number, now);
+        if self.is_held_back || self.again_at.is_some() {
+            self.is_held_back = false;
+            self.again_at = None;
+            self.lines.try_listener();
         }
-        let Ok(slot) = self.lines.insert(line) else {
-            return Err(Failed);
-        };
-        // The memory for each connection was reserved.
-        let _room = self.places.push(Place { number, slot });
-        Ok(number)
     }
 
-    // Takes the first of what happened, which may come to stand in the queue again then.
-    fn take(&mut self) -> Option<Seen> {
-        let seen = self.queue.next()?;
-        match seen {
-            Seen::Listener => {}
-            Seen::Readable(number) => {
-                if let Some(line) = self.line_at(number) {
-                    line.is_readable = false;
-                }
+    // Closes what is open, and waits at most so many milliseconds until the peers of all that was closed have closed too.
+    pub fn finish(&mut self, most: u64) {
+        let begun = self.now();
+        let last = begun.saturating_add(most);
+        self.listener = None;
+        self.lines.close_all(begun);
+        for _ in 0..MOST_HEARD {
+            let left = last.saturating_sub(self.now());
+            if left == 0 || !self.lines.any_leaves() {
+                return;
             }
-            Seen::Writable(number) => {
-                if let Some(line) = self.line_at(number) {
-                    line.is_writable = false;
-                }
+            if self.hear(Some(Duration::from_millis(left))).is_err() {
+                return;
             }
         }
-        Some(seen)
     }
 
     // How long to wait for a happening: not at all where one stands in the queue.
-    fn wait(&mut self, until: Option<u64>) -> Option<Duration> {
-        if !self.queue.is_empty() {
+    fn wait(&mut self, until: Option<u64>) -> Option<Duration>
+        ensures at_once { 0 < count self.old.lines.queue → IsSome result }
+        ensures none { 0 < count self.old.lines.queue → IfSome result (λ wait. as_nanos wait ≡ 0) }
+    {
+        if !self.lines.is_quiet() {
             return Some(Duration::ZERO);
         }
-        let until = until?;
+        let due = earlier(self.again_at, self.lines.first_to_go());
+        let until = earlier(until, due)?;
         Some(Duration::from_millis(until.saturating_sub(self.now())))
     }
 
-    // The moment that it is now. Where the system's clock can't be read, the last answer stands.
-    fn now(&mut self) -> u64 {
-        if let Ok(since) = self.rt.since_1970() {
-            self.moment = u64::try_from(since.as_millis()).unwrap_or(u64::MAX);
-        }
-        self.moment
+    // The moment that it is now.
+    fn now(&mut self) -> u64
+        ensures { self.new ≡ record self.old { moments = self.new.moments } }
+    {
+        self.moments.now(&self.rt)
     }
+}
 
-    // The slot of the connection of this number.
-    fn slot_of(&self, number: u64) -> Option<usize> {
-        let at = self
-            .places
-            .binary_search_by_key(&number, |place| place.number)
-            .ok()?;
-        Some(self.places.get(at)?.slot)
+// The poll, where the system made one.
+fn made(poll: &io::Result<Poll>) -> Result<&Poll, WireFault> {
+    match poll {
+        Ok(poll) => Ok(poll),
+        Err(error) => Err(WireFault::System(*error)),
     }
+}
 
-    // The connection of this number.
-    fn line_at(&mut self, number: u64) -> Option<&mut Line> {
-        let slot = self.slot_of(number)?;
-        self.lines.get_mut(slot)
+// The earlier of two moments, where they are.
+fn earlier(one: Option<u64>, other: Option<u64>) -> Option<u64> {
+    match (one, other) {
+        (Some(one), Some(other)) => Some(one.min(other)),
+        (one, None) => one,
+        (None, other) => other,
     }
 }
 
 // Whether a write that failed so may be tried later: there is no room, or the connection isn't made yet.
 fn has_no_room(kind: ErrorKind) -> bool {
     kind == ErrorKind::WouldBlock || kind == ErrorKind::NotConnected
+}
+
+// Whether an accept failed by a fault of the connection that was first in line, which is gone with it: these are passed on
+// as the answer of the accept, as accept(2) says.
+fn is_of_connection(error: &io::Error) -> bool {
+    match error.raw_os_error() {
+        Some(code) => OF_CONNECTION.contains(&code),
+        None => false,
+    }
 }

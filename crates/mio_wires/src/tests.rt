@@ -9,18 +9,18 @@ use std::test::Fail;
 use std::{io, net};
 
 // A hundred milliseconds from now.
-fn soon(rt: HostRuntime) -> io::Result<u64> {
+pub fn soon(rt: HostRuntime) -> io::Result<u64> {
     let now = u64::try_from(rt.since_1970()?.as_millis()).unwrap_or(0);
     Ok(now.saturating_add(100))
 }
 
 // A listener at a port of this machine that nobody had.
-fn listener(rt: HostRuntime) -> io::Result<net::TcpListener> {
+pub fn listener(rt: HostRuntime) -> io::Result<net::TcpListener> {
     net::TcpListener::bind(&rt, SocketAddr::from((Ipv4Addr::LOCALHOST, 0)))
 }
 
 // The address of a listener, as text.
-fn address_of(rt: HostRuntime, listener: &net::TcpListener) -> Result<String, Fail> {
+pub fn address_of(rt: HostRuntime, listener: &net::TcpListener) -> Result<String, Fail> {
     let address = listener.local_addr()?;
     Ok(format!(in rt.alloc(); "{address}")?)
 }
@@ -31,7 +31,7 @@ fn free_address(rt: HostRuntime) -> Result<String, Fail> {
 }
 
 // The first connection that is accepted in a hundred turns.
-fn accepted<W: Wires>(rt: HostRuntime, wires: &mut W) -> io::Result<Option<Conn>> {
+pub fn accepted<W: Wires>(rt: HostRuntime, wires: &mut W) -> io::Result<Option<Conn>> {
     for _ in 0..100 {
         if let Happening::Accepted(conn) = wires.turn(Some(soon(rt)?)) {
             return Ok(Some(conn));
@@ -41,7 +41,7 @@ fn accepted<W: Wires>(rt: HostRuntime, wires: &mut W) -> io::Result<Option<Conn>
 }
 
 // What the first read that isn't put off gives, in a hundred turns, each read behind its happening.
-fn read_soon<W: Wires>(
+pub fn read_soon<W: Wires>(
     rt: HostRuntime,
     wires: &mut W,
     conn: Conn,
@@ -62,7 +62,7 @@ fn read_soon<W: Wires>(
 }
 
 // What the first write that isn't put off does, in a hundred turns, each write behind its happening.
-fn write_soon<W: Wires>(
+pub fn write_soon<W: Wires>(
     rt: HostRuntime,
     wires: &mut W,
     conn: Conn,
@@ -214,5 +214,49 @@ fn no_more_are_accepted_than_can_be_open(rt: HostRuntime) -> Result<(), Fail> {
     let mut peers = Vec::new(rt.alloc());
     assert!(rt; wires.listen(address.as_str()).is_ok());
     assert!(rt; holds_one_back(rt, &mut wires, address.as_str(), &mut peers)?);
+    Ok(())
+}
+
+// What the newest fault says.
+fn told(rt: HostRuntime, wires: &MioWires<HostRuntime>) -> Result<String, Fail> {
+    match wires.fault() {
+        Some(fault) => Ok(format!(in rt.alloc(); "{fault}")?),
+        None => Ok(String::new(rt.alloc())),
+    }
+}
+
+// Whether people are told where it listens, and why it doesn't.
+fn tells_people(
+    rt: HostRuntime,
+    wires: &mut MioWires<HostRuntime>,
+    taken: &str,
+) -> Result<bool, Fail> {
+    let is_silent = wires.fault().is_none() && wires.address().is_none();
+    let is_taken = wires.listen(taken).is_err()
+        && told(rt, wires)?.as_str() == "Address already in use (os error 98)";
+    let is_no_address = wires.dial("nowhere").is_err()
+        && told(rt, wires)?.as_str() == "no IP address and port";
+    let is_listening = wires.listen("127.0.0.1:0").is_ok()
+        && wires.address().is_some_and(|address| address.port() > 0);
+    Ok(is_silent && is_taken && is_no_address && is_listening)
+}
+
+// Whether a turn waits by the time that goes by, from the moment on that it was told.
+fn waits(rt: HostRuntime, wires: &mut MioWires<HostRuntime>) -> io::Result<bool> {
+    wires.keep_time(5_000);
+    let begun = rt.monotonic()?;
+    let is_quiet = wires.turn(Some(5_060)) == Happening::Quiet;
+    let took = rt.monotonic()?.saturating_sub(begun).as_millis();
+    wires.finish(10);
+    Ok(is_quiet && (60..5_000).contains(&took))
+}
+
+#[test]
+fn people_are_told_and_waits_end(rt: HostRuntime) -> Result<(), Fail> {
+    let listener = listener(rt)?;
+    let taken = address_of(rt, &listener)?;
+    let mut wires = MioWires::new(rt.alloc(), rt)?;
+    assert!(rt; tells_people(rt, &mut wires, taken.as_str())?);
+    assert!(rt; waits(rt, &mut wires)?);
     Ok(())
 }

@@ -2,13 +2,14 @@
 ghost use Rattle.std.specs.Prelude.{◌≡◌, IfOk, None};
 ghost use Rattle.mio_wires.specs.Counting.{unused};
 
+use crate::faults::WireFault;
 use crate::queue::Seen;
 use crate::sockets::Sockets;
 use er_base::NoMemory;
 use link_trait::{Conn, Failed, Happening, ReadAnswer, Wires, WriteAnswer};
 use std::alloc::Global;
 use std::marker::Model;
-use std::net::Net;
+use std::net::{Net, SocketAddr};
 use std::rt::Clock;
 
 /// Wires over TCP sockets.
@@ -18,6 +19,13 @@ use std::rt::Clock;
 /// there and else until the given moment, and answers the first of the queue. At most 257 connections are open at once:
 /// while they are, nothing is accepted, and a dial fails. Only [`new`](MioWires::new) takes memory.
 ///
+/// An accept that failed is tried again: at once where the fault was the connection's, else within a second. A connection
+/// that was accepted and can't be registered is accepted all the same, and readable, and its first read fails.
+///
+/// A connection that is closed says that no more is sent, and what still comes is read away, so that what was said before
+/// arrives: until its peer has closed too, at most 40 seconds, and at most 262,144 octets. A turn may be Quiet before its
+/// moment.
+///
 /// It tells nothing of its calls and of what a socket holds. It never answers Ended.
 #[derive(Drop)]
 pub struct MioWires<R: Net + Clock + Drop> {
@@ -26,6 +34,7 @@ pub struct MioWires<R: Net + Clock + Drop> {
     listening: bool,
     faults: u64,
     turn_faults: u64,
+    fault: Option<WireFault>,
 }
 
 impl<R: Net + Clock + Drop> Model for MioWires<R> {
@@ -52,7 +61,36 @@ impl<R: Net + Clock + Drop> MioWires<R> {
             listening: false,
             faults: 0,
             turn_faults: 0,
+            fault: None,
         })
+    }
+
+    /// Reckons each wait from this moment on, which is now by the clock of whoever says until when to wait.
+    ///
+    /// At first it is the wall clock's of [`new`](MioWires::new). What time goes by is told by the system's monotonic
+    /// clock, so that setting the wall clock moves no wait.
+    pub fn keep_time(&mut self, now: u64)
+        ensures { self.new ≡ self.old }
+    {
+        self.sockets.keep_time(now);
+    }
+
+    /// The address and the port at which it listens.
+    pub fn address(&self) -> Option<SocketAddr> {
+        self.sockets.address()
+    }
+
+    /// Why the newest listen, dial or turn that failed did so.
+    pub fn fault(&self) -> Option<WireFault> {
+        self.fault
+    }
+
+    /// Closes each connection, and waits at most so many milliseconds until the peers of all that were closed have closed
+    /// too: for the end of a program, so that what was said last arrives. Nothing is to be asked of the wires behind it.
+    pub fn finish(&mut self, most: u64)
+        ensures { self.new ≡ self.old }
+    {
+        self.sockets.finish(most);
     }
 }
 
@@ -72,9 +110,10 @@ impl<R: Net + Clock + Drop> Wires for MioWires<R> {
                 self.listening = true;
                 Ok(())
             }
-            Err(Failed) => {
+            Err(fault) => {
                 self.faults = self.faults.saturating_add(1);
                 self.turn_faults = self.turn_faults.saturating_add(1);
+                self.fault = Some(fault);
                 Err(Failed)
             }
         }
@@ -86,9 +125,10 @@ impl<R: Net + Clock + Drop> Wires for MioWires<R> {
                 self.opened = number;
                 Ok(Conn(number))
             }
-            Err(Failed) => {
+            Err(fault) => {
                 self.faults = self.faults.saturating_add(1);
                 self.turn_faults = self.turn_faults.saturating_add(1);
+                self.fault = Some(fault);
                 Err(Failed)
             }
         }
@@ -106,9 +146,10 @@ impl<R: Net + Clock + Drop> Wires for MioWires<R> {
             Ok(Some(Seen::Readable(number))) => Happening::Readable(Conn(number)),
             Ok(Some(Seen::Writable(number))) => Happening::Writable(Conn(number)),
             Ok(_) => Happening::Quiet,
-            Err(Failed) => {
+            Err(fault) => {
                 self.faults = self.faults.saturating_add(1);
                 self.turn_faults = self.turn_faults.saturating_add(1);
+                self.fault = Some(fault);
                 Happening::Failed
             }
         }

@@ -1,0 +1,391 @@
+// The connections: those that are open, with what happened at them, and those that leave.
+ghost use Rattle.std.specs.Prelude.{◌≡◌, ◌==◌, true, length, IfSome};
+ghost use Rattle.std.specs.Io.{ReadsAtMost, WritesAtMost};
+ghost use Rattle.mio_wires.specs.Standing.{HasRoom, StandsIn, IsOpen, IsOfOpen, IsClosed, count};
+
+use crate::queue::{Queue, Seen};
+use er_base::NoMemory;
+use mio::event::Event;
+use mio::net::TcpStream;
+use slab::Slab;
+use std::alloc::Global;
+use std::collections::VecDeque;
+use std::io;
+use std::io::{ErrorKind, Read, Write};
+use std::net::Shutdown;
+
+/// The most connections that are open at once: 256 that are live, and one that is accepted to be closed.
+pub const MOST_CONNECTIONS: usize = 257;
+
+// The most connections that leave at once.
+const MOST_LEAVING: usize = 256;
+
+// Each connection has a slot, below this, which is its token.
+pub const SLOTS: usize = MOST_CONNECTIONS + MOST_LEAVING;
+
+// A listener, and two happenings a connection.
+const MOST_SEEN: usize = 2 * MOST_CONNECTIONS + 1;
+
+// How long a connection leaves at the most, in milliseconds.
+const LEAVING_TIME: u64 = 40_000;
+
+// How many octets are read away from one that leaves.
+const MOST_READ_AWAY: usize = 262_144;
+
+// At so many octets a read.
+const PIECE: usize = 4_096;
+
+// A connection: its number and its socket, and whether a happening of either kind may stand in the queue.
+#[derive(Drop)]
+pub struct Line {
+    number: u64,
+    stream: TcpStream,
+    // One that was accepted and couldn't be registered: nothing is read from it and written to it.
+    is_dead: bool,
+    is_readable: bool,
+    is_writable: bool,
+    // Of one that leaves: how many octets may still come.
+    left: Option<usize>,
+}
+
+impl Line {
+    // Says that no more is sent, and whether the peer may have more to say.
+    fn shuts(&mut self) -> bool {
+        self.left = Some(MOST_READ_AWAY);
+        !self.is_dead && self.stream.shutdown(Shutdown::Write).is_ok() && !self.has_ended()
+    }
+
+    // Reads away what waits, and whether this is the end: the peer has closed, the connection failed, or too much came.
+    fn has_ended(&mut self) -> bool {
+        let mut octets = [0; PIECE];
+        for _ in 0..=MOST_READ_AWAY / PIECE {
+            match self.stream.read(&mut octets) {
+                Ok(0) => return true,
+                Ok(count) => {
+                    let left = self.left.unwrap_or(0).saturating_sub(count);
+                    self.left = Some(left);
+                    if left == 0 {
+                        return true;
+                    }
+                }
+                Err(error) if error.kind() == ErrorKind::WouldBlock => return false,
+                Err(error) if error.kind() == ErrorKind::Interrupted => {}
+                Err(_) => return true,
+            }
+        }
+        true
+    }
+}
+
+// Where the connection of a number is.
+#[derive(Clone, Copy)]
+pub struct Place {
+    number: u64,
+    slot: usize,
+}
+
+// A connection that leaves, at the latest at this moment.
+#[derive(Clone, Copy)]
+pub struct Leaving {
+    slot: usize,
+    until: u64,
+}
+
+#[derive(Drop)]
+pub struct Lines {
+    slots: Slab<Line>,
+    // The open connections by their numbers, which rise: the newest stands last.
+    places: Vec<Place>,
+    // Those that leave, the one that must be gone first in front.
+    leaving: VecDeque<Leaving>,
+    queue: Queue,
+}
+
+impl Lines {
+    // No connection, with the memory for all that can be.
+    pub fn new(alloc: Global) -> Result<Lines, NoMemory> {
+        Ok(Lines {
+            slots: Slab::with_capacity(alloc, SLOTS)?,
+            places: Vec::with_capacity(alloc, MOST_CONNECTIONS)?,
+            leaving: VecDeque::with_capacity(alloc, MOST_LEAVING)?,
+            queue: Queue::with_capacity(alloc, MOST_SEEN)?,
+        })
+    }
+
+    // Whether as many connections are open as can be.
+    pub fn is_full(&self) -> bool {
+        self.places.len() >= MOST_CONNECTIONS
+    }
+
+    // Whether no happening stands in the queue.
+    pub fn is_quiet(&self) -> bool
+        ensures { result ≡ (count self.now.queue == 0) }
+    {
+        self.queue.is_empty()
+    }
+
+    // Whether one more happening has its place in the queue.
+    pub fn has_room(&self) -> bool
+        ensures { result ≡ true → HasRoom self.now.queue }
+    {
+        self.queue.has_room()
+    }
+
+    // The slot of the connection that is opened next.
+    pub fn next_slot(&self) -> usize {
+        self.slots.vacant_key()
+    }
+
+    // Keeps the socket under this number, which is above those before it. A dead one is said to be readable, so that
+    // whoever reads from it learns of its end. False where there is no memory for it.
+    pub fn open(&mut self, number: u64, stream: TcpStream, is_dead: bool) -> bool {
+        let line = Line {
+            number,
+            stream,
+            is_dead,
+            is_readable: is_dead,
+            is_writable: false,
+            left: None,
+        };
+        let Ok(slot) = self.slots.insert(line) else {
+            return false;
+        };
+        if is_dead {
+            self.queue.add(Seen::Readable(number), false);
+        }
+        self.places.push(Place { number, slot }).is_ok()
+    }
+
+    // The listener is to be tried.
+    pub fn try_listener(&mut self)
+        ensures stands { HasRoom self.old.queue → StandsIn self.new.queue Seen.Listener }
+        ensures places { self.new.places ≡ self.old.places }
+    {
+        self.queue.add_listener();
+    }
+
+    // What is told of the connection in a slot: of an open one it comes to stand in the queue, one that leaves is read
+    // away from.
+    pub fn hear(&mut self, event: &Event) {
+        let slot = event.token().0;
+        let Some(line) = self.slots.get_mut(slot) else {
+            return;
+        };
+        if line.left.is_some() {
+            if line.has_ended() {
+                self.let_go(slot);
+            }
+            return;
+        }
+        if event.is_readable() || event.is_read_closed() || event.is_error() {
+            self.queue
+                .add(Seen::Readable(line.number), line.is_readable);
+            line.is_readable = true;
+        }
+        if event.is_writable() {
+            self.queue
+                .add(Seen::Writable(line.number), line.is_writable);
+            line.is_writable = true;
+        }
+    }
+
+    // Takes the first of what happened, where its connection is still open. It may come to stand in the queue again then.
+    pub fn take(&mut self) -> Option<Seen>
+        ensures { IfSome result (IsOfOpen self.old.places.items) }
+    {
+        let seen = self.queue.next()?;
+        match seen {
+            Seen::Listener => Some(seen),
+            Seen::Readable(number) => {
+                let slot = self.slot_of(number)?;
+                self.slots.get_mut(slot)?.is_readable = false;
+                Some(seen)
+            }
+            Seen::Writable(number) => {
+                let slot = self.slot_of(number)?;
+                self.slots.get_mut(slot)?.is_writable = false;
+                Some(seen)
+            }
+        }
+    }
+
+    // Reads from the connection of this number.
+    pub fn read(&mut self, number: u64, into: &mut [u8]) -> io::Result<usize>
+        ensures bound { ReadsAtMost result into.new }
+        ensures length { length into.new ≡ length into.old }
+        ensures queue { self.new.queue ≡ self.old.queue }
+    {
+        let Some(slot) = self.slot_of(number) else {
+            return Err(gone());
+        };
+        match self.slots.get_mut(slot) {
+            Some(line) if !line.is_dead => line.stream.read(into),
+            _ => Err(gone()),
+        }
+    }
+
+    // Writes to the connection of this number.
+    pub fn write(&mut self, number: u64, piece: &[u8]) -> io::Result<usize>
+        ensures { WritesAtMost result piece.now }
+    {
+        let Some(slot) = self.slot_of(number) else {
+            return Err(gone());
+        };
+        match self.slots.get_mut(slot) {
+            Some(line) if !line.is_dead => line.stream.write(piece),
+            _ => Err(gone()),
+        }
+    }
+
+    // Octets may wait at the connection of this number.
+    pub fn tell_readable(&mut self, number: u64)
+        ensures { HasRoom self.old.queue → StandsIn self.new.queue (Seen.Readable number) }
+    {
+        let may_stand = self.mark_readable(number);
+        self.queue.add(Seen::Readable(number), may_stand);
+    }
+
+    // There may be room for writing to the connection of this number.
+    pub fn tell_writable(&mut self, number: u64)
+        ensures { HasRoom self.old.queue → StandsIn self.new.queue (Seen.Writable number) }
+    {
+        let may_stand = self.mark_writable(number);
+        self.queue.add(Seen::Writable(number), may_stand);
+    }
+
+    // Notes that this happening stands in the queue, and whether it may have stood there before.
+    fn mark_readable(&mut self, number: u64) -> bool
+        ensures { self.new.queue ≡ self.old.queue }
+    {
+        let Some(slot) = self.slot_of(number) else {
+            return true;
+        };
+        let Some(line) = self.slots.get_mut(slot) else {
+            return true;
+        };
+        let may_stand = line.is_readable;
+        line.is_readable = true;
+        may_stand
+    }
+
+    // The same of the other kind.
+    fn mark_writable(&mut self, number: u64) -> bool
+        ensures { self.new.queue ≡ self.old.queue }
+    {
+        let Some(slot) = self.slot_of(number) else {
+            return true;
+        };
+        let Some(line) = self.slots.get_mut(slot) else {
+            return true;
+        };
+        let may_stand = line.is_writable;
+        line.is_writable = true;
+        may_stand
+    }
+
+    // The connection of this number isn't open any more: it leaves.
+    pub fn close(&mut self, number: u64, now: u64)
+        ensures closed { IsClosed self.new.places.items number }
+        ensures room { HasRoom self.old.queue → HasRoom self.new.queue }
+    {
+        self.queue.forget(number);
+        let slot = self.slot_of(number);
+        self.strike(number);
+        if let Some(slot) = slot {
+            self.leave(slot, now);
+        }
+    }
+
+    // Takes the number out of those of open connections.
+    fn strike(&mut self, number: u64)
+        ensures closed { IsClosed self.new.places.items number }
+        ensures queue { self.new.queue ≡ self.old.queue }
+    {
+        self.places.retain(|place| place.number != number);
+    }
+
+    // All connections leave.
+    pub fn close_all(&mut self, now: u64) {
+        for _ in 0..self.places.len() {
+            if let Some(place) = self.places.pop() {
+                self.leave(place.slot, now);
+            }
+        }
+    }
+
+    // The connection in this slot says that it sends no more, and goes as soon as its peer has closed too.
+    fn leave(&mut self, slot: usize, now: u64)
+        ensures places { self.new.places.items ≡ self.old.places.items }
+        ensures queue { self.new.queue ≡ self.old.queue }
+    {
+        let stays = match self.slots.get_mut(slot) {
+            Some(line) => line.shuts(),
+            None => return,
+        };
+        if !stays {
+            let _closed = self.slots.try_remove(slot);
+            return;
+        }
+        if self.leaving.len() >= MOST_LEAVING {
+            self.let_first_go();
+        }
+        let until = now.saturating_add(LEAVING_TIME);
+        let _room = self.leaving.push_back(Leaving { slot, until });
+    }
+
+    // Whether a connection leaves.
+    pub fn any_leaves(&self) -> bool {
+        !self.leaving.is_empty()
+    }
+
+    // The moment at which one that leaves has to be gone.
+    pub fn first_to_go(&self) -> Option<u64> {
+        Some(self.leaving.front()?.until)
+    }
+
+    // Closes those that have to be gone by this moment.
+    pub fn let_go_by(&mut self, now: u64) {
+        for _ in 0..self.leaving.len() {
+            match self.first_to_go() {
+                Some(until) if until <= now => self.let_first_go(),
+                _ => return,
+            }
+        }
+    }
+
+    // Closes the one that leaves longest.
+    pub fn let_first_go(&mut self)
+        ensures places { self.new.places.items ≡ self.old.places.items }
+        ensures queue { self.new.queue ≡ self.old.queue }
+    {
+        if let Some(first) = self.leaving.pop_front() {
+            let _closed = self.slots.try_remove(first.slot);
+        }
+    }
+
+    // Closes one that leaves.
+    fn let_go(&mut self, slot: usize) {
+        self.leaving.retain(|leaving| leaving.slot != slot);
+        let _closed = self.slots.try_remove(slot);
+    }
+
+    // The slot of the connection of this number.
+    fn slot_of(&self, number: u64) -> Option<usize>
+        ensures { IfSome result (λ _. IsOpen self.now.places.items number) }
+    {
+        let at = self
+            .places
+            .binary_search_by_key(&number, |place| place.number)
+            .ok()?;
+        let place = self.places.get(at)?;
+        if place.number != number {
+            return None;
+        }
+        Some(place.slot)
+    }
+}
+
+// What a read or write answers at a connection that isn't open, or is dead.
+fn gone() -> io::Error {
+    io::Error::from(ErrorKind::BrokenPipe)
+}

@@ -1,0 +1,34 @@
+// What each socket of a connection is set to.
+use libc::net as c;
+use mio::net::TcpStream;
+use std::os::fd::AsRawFd;
+
+// A peer that is silent so many seconds is asked whether it is there, then again each so many seconds, and where it
+// doesn't answer so many times, the connection has failed.
+const IDLE: i32 = 30;
+
+const BETWEEN: i32 = 10;
+
+const TIMES: i32 = 3;
+
+// Small pieces are sent at once, and a peer that is gone without a word is noticed within a minute. What can't be set
+// stays as it is: the connection works without it.
+pub fn set_for_frames(stream: &TcpStream) {
+    let _at_once = stream.set_nodelay(true);
+    let fd = stream.as_raw_fd();
+    let on = octets_of(1);
+    let idle = octets_of(IDLE);
+    let between = octets_of(BETWEEN);
+    let times = octets_of(TIMES);
+    let _kept = unsafe { c::setsockopt(fd, c::SOL_SOCKET, c::SO_KEEPALIVE, &on, 4) };
+    let _idle = unsafe { c::setsockopt(fd, c::IPPROTO_TCP, c::TCP_KEEPIDLE, &idle, 4) };
+    let _between = unsafe { c::setsockopt(fd, c::IPPROTO_TCP, c::TCP_KEEPINTVL, &between, 4) };
+    let _times = unsafe { c::setsockopt(fd, c::IPPROTO_TCP, c::TCP_KEEPCNT, &times, 4) };
+}
+
+// A number as an option's value, which stands in its first four octets.
+fn octets_of(number: i32) -> [u8; 16] {
+    let mut value = [0; 16];
+    value[..4].copy_from_slice(&number.to_ne_bytes());
+    value
+}
