@@ -446,10 +446,18 @@ module _ (only : StepsOnly) (gives : EventsGive) where
       (subst (λ (o : LinkOpening). Brought settings l.opened_at o before side heard) (sym h.opening_is)
       (subst (λ (n : ℕ). Brought settings n h.opening before side heard) (sym h.at_is) here))
 
-  pub heard_is_brought : HistoryGrows → HistoryOfOwn → HistoryOfOther → (plan : Plan) (steps : List Step) → HeardIsBrought plan steps
-  heard_is_brought grow own others plan steps n l at before after side fact heard split told =
+  stands_at : HistoryGrows → HistoryOfOwn → HistoryOfOther → (plan : Plan) (steps : List Step) (n : ℕ) (l : Link) → link_at (world_run plan steps).0 n ≡ Some l
+      → Stands plan.settings l (history_on n (world_run plan steps).1)
+  stands_at grow own others plan steps n l at =
       let lives : AtPlace (Stands plan.settings) (link_at (world_run plan steps).0 n) (history_on n (world_run plan steps).1) =
       world_lives grow own others plan (λ o. Unit {0}) (λ s. Unit {0}) (Stands plan.settings) (heard_keeps plan.settings) steps (any_steps plan steps) n in
-      let here : Stands plan.settings l (history_on n (world_run plan steps).1) =
-      subst (λ (place : Option Link). AtPlace (Stands plan.settings) place (history_on n (world_run plan steps).1)) at lives in
-      heard_at plan.settings l (history_on n (world_run plan steps).1) here before after side fact heard split told
+      subst (λ (place : Option Link). AtPlace (Stands plan.settings) place (history_on n (world_run plan steps).1)) at lives
+
+  -- the streams of a link of a world
+  pub streams_at : HistoryGrows → HistoryOfOwn → HistoryOfOther → (plan : Plan) (steps : List Step) (n : ℕ) (l : Link) → link_at (world_run plan steps).0 n ≡ Some l
+      → Streams l (history_on n (world_run plan steps).1)
+  streams_at grow own others plan steps n l at = (stands_at grow own others plan steps n l at).streams
+
+  pub heard_is_brought : HistoryGrows → HistoryOfOwn → HistoryOfOther → (plan : Plan) (steps : List Step) → HeardIsBrought plan steps
+  heard_is_brought grow own others plan steps n l at before after side fact heard split told =
+      heard_at plan.settings l (history_on n (world_run plan steps).1) (stands_at grow own others plan steps n l at) before after side fact heard split told

@@ -35,3 +35,4 @@ mod StackEnding
 mod Keyed
 mod StackOrdered
 mod OrderUnforged
+pub mod StackRuns

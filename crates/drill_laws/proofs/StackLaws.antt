@@ -19,7 +19,6 @@ use Rattle.end_pair.specs.Openings.{Opening, Agree}
 use Rattle.end_pair.specs.Links.{Link as Pair}
 use Rattle.end_pair.specs.Steps.{run}
 use Rattle.end_pair.specs.Laws.{Prefix, OneFrame, LosingLineReasons, InStep, Delivery, DeliveryBound, DrainEmpties}
-use Rattle.station_model.specs.Lines.{IsPrefix}
 use Rattle.end_pair.specs.Laws as of_pair
 use Rattle.end_pair.specs.Reasons as of_pair_reasons
 use Rattle.drill_model.specs.Outcomes.{Occurrence}

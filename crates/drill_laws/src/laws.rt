@@ -15,6 +15,7 @@ ghost use Rattle.drill_model.specs.StackReports.{OpensOrderly, CallsReport};
 ghost use Rattle.drill_model.specs.Effects.{Steps};
 ghost use Rattle.drill_model.specs.Headline.{LawfulAlways, OpensAlways, RoomAlways, InOrderAlways, LosingLineReasonsAlways, OrderIsUnforged, DeliversAlways, TakesInOrder};
 ghost use Rattle.drill_model.specs.Printing.{PrintedAsMarked, LinesInOrder};
+ghost use Rattle.drill_laws.specs.Stacks.{StacksRun};
 
 // What each call of a station does to its lists and its release.
 fn station_laws()
@@ -165,5 +166,14 @@ pub fn order_is_unforged()
     end_pair::laws::in_step_while_ordered();
     stack_laws();
     station_laws();
+    drill_model::laws::histories();
+}
+
+/// A link of level full is two ends over two lines behind steps of their own, and the stream of each end is what was passed to it.
+pub fn stacks_run()
+    ensures { StacksRun }
+{
+    stack_laws();
+    end_model::laws::events_give();
     drill_model::laws::histories();
 }

@@ -29,3 +29,4 @@ pub mod Delivered
 pub mod Bounded
 pub mod Together
 pub mod Apart
+pub mod Greeted

@@ -5,3 +5,4 @@ pub mod Steps
 pub mod Phases
 pub mod Laws
 pub mod Ordered
+pub mod Greetings

@@ -2,6 +2,7 @@
 
 ghost use Rattle.end_pair.specs.Laws.{Delivery, DeliveryBound, DrainEmpties, FewWait, InStep, LosingLineReasons, OneFrame, Prefix};
 ghost use Rattle.end_pair.specs.Ordered.{InStepWhileOrdered};
+ghost use Rattle.end_pair.specs.Greetings.{Greets};
 
 /// A line that only loses and repeats: what an end accepted is a prefix of what the other sent, whatever the keys.
 pub fn prefix()
@@ -160,6 +161,27 @@ pub fn in_step()
 /// other, and one that is connected heard a message of the other; and what a live end gave and said tells how far it is.
 pub fn in_step_while_ordered()
     ensures { InStepWhileOrdered }
+{
+    er_settings::laws::allowed_are_bounded();
+    station_model::laws::receives_give();
+    station_model::laws::ticks_give();
+    station_model::laws::others_keep();
+    station_pair::laws::calls_keep();
+    t70_header::laws::wrapping();
+    x224_tpdu::laws::writing();
+    x224_class2::laws::segments();
+    sapdu::laws::messages();
+    sapdu::laws::spelled_is_read();
+    sapdu::laws::lengths_of_spellings();
+    safety_automaton::laws::steps();
+    safety_automaton::laws::lengths();
+    cbc_mac::laws::mac_below();
+}
+
+/// Such a line: the first payload that the radio block centre took is the block of a CR with the AU1 of the engine, and the first that the engine
+/// took that of a CC with the AU2 of the radio block centre or of a DR, with the random numbers of the opening. An end may be released.
+pub fn greets()
+    ensures { Greets }
 {
     er_settings::laws::allowed_are_bounded();
     station_model::laws::receives_give();

@@ -19,7 +19,7 @@ use Rattle.tap_model.specs.Given.{IsPrefix, IsHeard}
 use Rattle.tap_model.specs.Verdicts.{number_of, first_number}
 use Rattle.end_pair.specs.Openings as pair
 use Rattle.tap_laws.specs.Progress.{GotAll, GotsNone, GotsOne, GotsAll, Stage, Begins, Waits, Speaks, Gone}
-use Rattle.tap_laws.specs.Greetings.{IsCall, IsAnswer, Confirms, Parts, StartsWith}
+use Rattle.end_pair.specs.Greetings.{IsCall, IsAnswer, Confirms, Parts, StartsWith}
 use Rattle.tap_laws.proofs.Finding.{IsFront}
 
 -- ---- lists that begin

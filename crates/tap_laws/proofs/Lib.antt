@@ -7,3 +7,4 @@ pub mod Living
 pub mod Finding
 pub mod Agreeing
 pub mod Pairs
+pub mod Tapped

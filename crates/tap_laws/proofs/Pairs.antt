@@ -1,11 +1,11 @@
 -- An audit of a link that keeps its order finds good what its ends accepted.
-use Rattle.std.proofs.Common.{◌≡◌, ◌∙◌, ℕ, true, false, List, [], ◌∷◌, ◌++◌, Option, Some, None, Ok, refl, sym, ap, ap₂, subst}
+use Rattle.std.proofs.Common.{◌≡◌, ◌∙◌, ℕ, true, false, List, [], ◌∷◌, ◌++◌, Option, Some, None, Ok, Err, refl, sym, ap, ap₂, subst}
 use Rattle.er_base.specs.declared.side.Side.{Side}
 use Rattle.er_base.specs.declared.side.Side.TheVariants.{E, R}
 use Rattle.des_block.specs.declared.triple_key.TripleKey.{TripleKey}
 use Rattle.session_keys.specs.Session.{session_of}
 use Rattle.t70_header.specs.Joining.{WrappedIsJoined}
-use Rattle.sapdu.specs.Spelling.{Au1, Au2, read_of}
+use Rattle.sapdu.specs.Spelling.{Pdu, Au1, Au2, Au3, Ar, Dt, Di, read_of}
 use Rattle.safety_automaton.specs.Rules.{IsOpen}
 use Rattle.end_model.specs.Ends.{End, Moment, opened, run}
 use Rattle.end_model.specs.Ends as end
@@ -13,13 +13,13 @@ use Rattle.end_model.specs.Origins.{StreamIsWhole}
 use Rattle.end_pair.specs.Openings.{Opening, Agree}
 use Rattle.end_pair.specs.Steps.{LinkStep, AllFit}
 use Rattle.end_pair.specs.Laws.{after, Prefix}
+use Rattle.end_pair.specs.Greetings.{Greets}
 use Rattle.tap_model.specs.Hearing.{heard, items}
 use Rattle.tap_model.specs.Given.{received, octets_of, IsPrefix, IsHeard, GivenIsHeard}
 use Rattle.tap_model.specs.Verdicts.{Read, rb_in, ra_in, number_of, first_number, session_with}
 use Rattle.tap_laws.specs.Progress.{FirstAu1, FirstAu2, Progresses, SidesProgress, LiveSides}
 use Rattle.tap_laws.specs.Runs.{calling_of, called_of, started_at, AreRuns, EndsAreRuns}
-use Rattle.tap_laws.specs.Greetings.{Greets}
-use Rattle.tap_laws.specs.Pairs.{OneKey, known_to, FindsAccepted, PairsAudited}
+use Rattle.tap_laws.specs.Pairs.{known_to, FindsAccepted, PairsAudited}
 use Rattle.tap_laws.proofs.Finding.{Agreed, finds_end}
 use Rattle.tap_laws.proofs.Agreeing.{HasHead, front_head, prefix_front, items_front, head_number, got_all, all_head, given_head, call_is, answer_is}
 
@@ -27,6 +27,7 @@ use Rattle.tap_laws.proofs.Agreeing.{HasHead, front_head, prefix_front, items_fr
 pub record Lower : Type 0 where
   pub wrapped : WrappedIsJoined
   pub prefix : Prefix
+  pub greets : Greets
   pub heard_is : GivenIsHeard
   pub streams : StreamIsWhole
   pub sides : SidesProgress
@@ -36,6 +37,24 @@ pub record Lower : Type 0 where
 none_before : (xs ys : List (List ℕ)) → IsPrefix xs ys → ys ≡ [] → xs ≡ []
 none_before [] ys h e = refl
 none_before (x ∷ xs) ys h e = let f = prefix_front (x ∷ xs) ys h in absurd (let z : x ∷ (xs ++ f.0) ≡ [] = sym f.1 ∙ e in cc)
+
+-- the number that an AU1 tells
+abbrev teller : Pdu → ℕ
+teller (Au1 id feature rb) = id
+teller (Au2 id feature ra mac) = 0
+teller (Au3 mac) = 0
+teller (Ar mac) = 0
+teller (Dt user mac) = 0
+teller (Di reason sub) = 0
+
+abbrev teller_in : Read → ℕ
+teller_in (Err fault) = 0
+teller_in (Ok read) = teller read.0
+
+-- the KMAC that is found for the engine is the engine's
+own_kmac : (s : Opening) → Agree s → (now id : ℕ) (kmac : TripleKey) → id ≡ s.engine → s.finder now id s.rbc ≡ Some kmac → kmac ≡ s.kmac
+own_kmac s agree now id kmac same found =
+    let z : Some kmac ≡ Some s.kmac = sym found ∙ ap (λ (n : ℕ). s.finder now n s.rbc) same ∙ agree now in cc
 
 -- what is known of an end by itself: the texts that it was given
 record Known_end (s : Opening) (o : end.Opening) (side : Side) (z : End) : Type 0 where
@@ -72,7 +91,7 @@ module _ (low : Lower) (s : Opening) (basic : s.settings.modulo ≡ 8) where
         is_live = low.live (calling_of s) events;
       })
 
-  module _ (greets : Greets) (steps : List LinkStep) (fit : AllFit steps) (agree : Agree s) (one : OneKey s) (kept : (after s steps).order_kept ≡ true) where
+  module _ (steps : List LinkStep) (fit : AllFit steps) (agree : Agree s) (kept : (after s steps).order_kept ≡ true) where
     abbrev e : End
     e = (after s steps).e
 
@@ -106,10 +125,13 @@ module _ (low : Lower) (s : Opening) (basic : s.settings.modulo ≡ 8) where
         let spoke : e.core.upper.sent ≡ [] → ⊥ = λ none. some (none_before r.core.upper.accepted e.core.upper.sent (low.prefix s steps fit kept).0 none) in
         let g = got_all s.finder (calling_of s) e.core.safe.safety.phase ke.given e.core.upper.accepted e.core.upper.sent ke.progress.stage spoke in
         let first : HasHead g.3.first ke.given = all_head s.finder (calling_of s) g.0 g.1 ke.given e.core.upper.accepted g.3 g.2 in
-        let answer = answer_is low.wrapped s e.stream ke.given e g.3.first ke.hears (greets s steps fit agree kept).1 first in
+        let answer = answer_is low.wrapped s e.stream ke.given e g.3.first ke.hears (low.greets s steps fit agree kept).1 first in
         let a = ra_is g.3.first s.rbc s.ra answer.0 first answer.1 in
         let b = rb_is got.first c.peer c.rb (all_head s.finder (called_of s) c front kr.given r.core.upper.accepted got is) au1.read in
-        let kmac : au1.kmac ≡ s.kmac = one au1.found.0 c.peer au1.kmac au1.found.1 in (
+        let head : HasHead got.first kr.given = all_head s.finder (called_of s) c front kr.given r.core.upper.accepted got is in
+        let call = call_is low.wrapped s r.stream kr.given r got.first kr.hears (low.greets s steps fit agree kept).0 head in
+        let peer : c.peer ≡ s.engine = ap teller_in (sym au1.read ∙ call) in
+        let kmac : au1.kmac ≡ s.kmac = own_kmac s agree au1.found.0 c.peer au1.kmac peer au1.found.1 in (
           record { ra = s.ra; rb = c.rb; keys = session_of s.kmac s.ra c.rb },
           session_is s.ra c.rb a b,
           ap₂ (λ (k : TripleKey) (n : ℕ). session_of k n c.rb) (sym kmac) (sym au1.own) ∙ sym au1.keys,
@@ -121,7 +143,7 @@ module _ (low : Lower) (s : Opening) (basic : s.settings.modulo ≡ 8) where
         let spoke : r.core.upper.sent ≡ [] → ⊥ = λ none. some (none_before e.core.upper.accepted r.core.upper.sent (low.prefix s steps fit kept).1 none) in
         let g = got_all s.finder (called_of s) r.core.safe.safety.phase kr.given r.core.upper.accepted r.core.upper.sent kr.progress.stage spoke in
         let first : HasHead g.3.first kr.given = all_head s.finder (called_of s) g.0 g.1 kr.given r.core.upper.accepted g.3 g.2 in
-        let call = call_is low.wrapped s r.stream kr.given r g.3.first kr.hears (greets s steps fit agree kept).0 first in
+        let call = call_is low.wrapped s r.stream kr.given r g.3.first kr.hears (low.greets s steps fit agree kept).0 first in
         let a = ra_is got.first c.peer c.ra au2.mac (all_head s.finder (calling_of s) c front ke.given e.core.upper.accepted got is) au2.read in
         let b = rb_is g.3.first s.engine s.rb first call in (
           record { ra = c.ra; rb = s.rb; keys = session_of s.kmac c.ra s.rb },
@@ -136,4 +158,4 @@ module _ (low : Lower) (s : Opening) (basic : s.settings.modulo ≡ 8) where
         record { at_r = at_r.prefix; at_e = at_e.prefix; all_at_r = at_r.all; all_at_e = at_e.all }
 
 pub pairs_audited : Lower → PairsAudited
-pairs_audited low greets s steps fit agree one basic kept = finds_accepted low s basic greets steps fit agree one kept
+pairs_audited low s steps fit agree basic kept = finds_accepted low s basic steps fit agree kept

@@ -1,4 +1,4 @@
 pub mod Progress
 pub mod Runs
-pub mod Greetings
 pub mod Pairs
+pub mod Worlds

@@ -1,9 +1,8 @@
 -- An audit of what two ends over two lines were passed, where these keep their order: it finds good what the ends accepted (UNISIG SUBSET-037;
 -- this profile).
-use Rattle.std.specs.Prelude.{ℕ, ◌≡◌, true, List, Some, None}
+use Rattle.std.specs.Prelude.{◌≡◌, true, List, Some, None}
 use Rattle.er_base.specs.declared.side.Side.{Side}
 use Rattle.er_base.specs.declared.side.Side.TheVariants.{E, R}
-use Rattle.des_block.specs.declared.triple_key.TripleKey.{TripleKey}
 use Rattle.end_model.specs.Ends.{End}
 use Rattle.end_pair.specs.Openings.{Opening, Agree}
 use Rattle.end_pair.specs.Steps.{LinkStep, AllFit}
@@ -11,11 +10,6 @@ use Rattle.end_pair.specs.Laws.{after}
 use Rattle.tap_model.specs.Hearing.{heard, items}
 use Rattle.tap_model.specs.Given.{IsPrefix}
 use Rattle.tap_model.specs.Verdicts.{Known, known_of, Judged, judged_from, good_texts}
-use Rattle.tap_laws.specs.Greetings.{Greets}
-
--- the radio block centre finds no other KMAC
-abbrev pub OneKey : Opening → Type 0
-OneKey s = (now id : ℕ) (kmac : TripleKey) → s.finder now id s.rbc ≡ Some kmac → kmac ≡ s.kmac
 
 -- what is known of the link, of the octets that came to each end
 abbrev pub known_to : Opening → (e r : End) → Known
@@ -35,5 +29,5 @@ pub record FindsAccepted (s : Opening) (e r : End) : Type 0 where
 
 abbrev pub PairsAudited : Type 0
 PairsAudited =
-    Greets → (s : Opening) (steps : List LinkStep) → AllFit steps → Agree s → OneKey s → s.settings.modulo ≡ 8 → (after s steps).order_kept ≡ true
+    (s : Opening) (steps : List LinkStep) → AllFit steps → Agree s → s.settings.modulo ≡ 8 → (after s steps).order_kept ≡ true
     → FindsAccepted s (after s steps).e (after s steps).r

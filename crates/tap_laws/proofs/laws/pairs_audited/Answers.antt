@@ -6,6 +6,7 @@ returns c =
     pairs_audited (record {
       wrapped = c.wrapping.ensures;
       prefix = c.prefix.ensures;
+      greets = c.greets.ensures;
       heard_is = c.given_is_heard.ensures;
       streams = c.octets_are_heard.ensures.stream;
       sides = c.sides_progress.ensures.progress;

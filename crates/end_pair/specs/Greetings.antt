@@ -1,4 +1,5 @@
--- The first payloads of a link that keeps its order (this profile): a CR with AU1, and a CC with AU2 or a DR, with the numbers of its opening.
+-- Lemmas: the first payload that each end took of a line that keeps its order, where the keys agree, an end being released or not: a CR with
+-- AU1, and a CC with AU2 or a DR, with the numbers of the opening (ITU-T X.224, T.70; UNISIG SUBSET-037).
 use Rattle.std.specs.Prelude.{ℕ, ◌≡◌, ◌≤◌, true, false, List, [], ◌∷◌, length, Ok}
 use Rattle.t70_header.specs.Blocks.{last_block}
 use Rattle.x224_tpdu.specs.Spelling.{connection_request, connection_confirm, disconnect_request}

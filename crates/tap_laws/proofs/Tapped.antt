@@ -1,0 +1,121 @@
+-- An audit of a tapped link of a world that keeps its order finds good what its ends accepted.
+use Rattle.std.proofs.Common.{◌≡◌, ◌∙◌, ℕ, Bool, true, false, not, List, Option, Some, refl, sym, ap, subst}
+use Rattle.std.specs.Prelude.{◌==◌}
+use Rattle.std.proofs.lemmas.Bool.{eq-eqb}
+use Rattle.er_base.specs.declared.side.Side.{Side}
+use Rattle.er_base.specs.declared.side.Side.TheVariants.{E, R}
+use Rattle.des_block.specs.declared.triple_key.TripleKey.{TripleKey}
+use Rattle.er_settings.specs.declared.settings.Settings.{Settings}
+use Rattle.er_tap.specs.declared.tap_line.TapLine.{TapLine}
+use Rattle.safety_automaton.specs.Keys.{Entry, key_at}
+use Rattle.safe_pair.specs.Openings.{OfKeys, key_for}
+use Rattle.end_pair.specs.Openings.{Opening, Agree}
+use Rattle.end_pair.specs.Links.{Link as Pair}
+use Rattle.end_pair.specs.Laws.{after}
+use Rattle.drill_model.specs.Outcomes.{Occurrence}
+use Rattle.drill_model.specs.Links.{Link, OfStacks}
+use Rattle.drill_model.specs.Worlds.{history_on, world_run}
+use Rattle.drill_model.specs.Kinds.{accepted_by, IsOrderKeeping}
+use Rattle.drill_laws.specs.Stacks.{IsPair, StacksRun}
+use Rattle.tap_model.specs.Hearing.{heard, items}
+use Rattle.tap_model.specs.Given.{IsPrefix}
+use Rattle.tap_model.specs.Lines.{TapOpening, stream_of}
+use Rattle.tap_model.specs.Verdicts.{known_of, Judged, judged_from, good_texts}
+use Rattle.tap_model.specs.Texts.{judged_at}
+use Rattle.tap_laws.specs.Pairs.{FindsAccepted, PairsAudited}
+use Rattle.tap_laws.specs.Worlds.{IsTapped, opened_as, IsUnreleased, FindsGood, AuditFindsAccepted}
+
+-- ---- what is judged depends on the numbers, the KMAC and both streams alone
+
+abbrev judged_of : Side → (engine rbc : ℕ) → Option TripleKey → (of_e of_r : List ℕ) → List Judged
+judged_of E engine rbc kmac of_e of_r = judged_from (known_of engine rbc kmac (items (heard E of_e)) (items (heard R of_r))) E 0 (items (heard E of_e))
+judged_of R engine rbc kmac of_e of_r = judged_from (known_of engine rbc kmac (items (heard E of_e)) (items (heard R of_r))) R 0 (items (heard R of_r))
+
+judged_same : (side : Side) (e e' r r' : ℕ) (k k' : Option TripleKey) (x x' y y' : List ℕ) → e ≡ e' → r ≡ r' → k ≡ k' → x ≡ x' → y ≡ y'
+    → judged_of side e r k x y ≡ judged_of side e' r' k' x' y'
+judged_same side e e' r r' k k' x x' y y' a b c d f =
+    ap (λ (n : ℕ). judged_of side n r k x y) a
+    ∙ ap (λ (n : ℕ). judged_of side e' n k x y) b
+    ∙ ap (λ (o : Option TripleKey). judged_of side e' r' o x y) c
+    ∙ ap (λ (os : List ℕ). judged_of side e' r' k' os y) d
+    ∙ ap (λ (os : List ℕ). judged_of side e' r' k' x' os) f
+
+-- ---- the KMAC of a link
+
+own_key : (engine rbc : ℕ) (ke : TripleKey) (kr : Option TripleKey) (ra rb : ℕ) → key_for (OfKeys engine rbc ke kr ra rb) engine rbc ≡ kr
+own_key engine rbc ke kr ra rb =
+    let e : (engine == engine) ≡ true = eq-eqb engine engine refl in
+    let r : (rbc == rbc) ≡ true = eq-eqb rbc rbc refl in
+    rw (e, r) refl
+
+not_false : (b : Bool) → not b ≡ false → b ≡ true
+not_false true e = refl
+not_false false e = absurd cc
+
+-- ---- a link
+
+module _ (audited : PairsAudited) (settings : Settings) (basic : settings.modulo ≡ 8) (l : Link) (history : List Occurrence) (p : IsPair settings l history)
+    (keeping : IsOrderKeeping l.opening history) (keys : List Entry) (lines : List TapLine) (m : ℕ) (t : IsTapped keys lines m l history) where
+  abbrev s : Opening
+  s = p.s
+
+  abbrev ends : Pair
+  ends = after p.s p.steps
+
+  numbers : OfStacks s.engine s.rbc s.kmac p.kr s.ra s.rb ≡ OfStacks t.engine t.rbc t.kmac (Some t.kmac) t.ra t.rb
+  numbers = sym p.opening_is ∙ t.link_is
+
+  engine_is : s.engine ≡ t.engine
+  engine_is = let e = numbers in cc
+
+  rbc_is : s.rbc ≡ t.rbc
+  rbc_is = let e = numbers in cc
+
+  kmac_is : s.kmac ≡ t.kmac
+  kmac_is = let e = numbers in cc
+
+  kr_is : p.kr ≡ Some s.kmac
+  kr_is = let e = numbers in cc
+
+  agree : Agree s
+  agree now = p.finds now s.engine s.rbc ∙ own_key s.engine s.rbc s.kmac p.kr s.ra s.rb ∙ kr_is
+
+  kept : ends.order_kept ≡ true
+  kept = not_false ends.order_kept (sym p.ordered ∙ keeping.ordered)
+
+  finds : FindsAccepted s ends.e ends.r
+  finds = audited s p.steps p.fit agree (ap (λ (x : Settings). x.modulo) p.settings_are ∙ basic) kept
+
+  abbrev o : TapOpening
+  o = opened_as keys lines m l history t
+
+  judged_is : (side : Side) → judged_of side s.engine s.rbc (Some s.kmac) ends.r.stream ends.e.stream
+      ≡ judged_of side t.engine t.rbc (key_at keys t.moment t.engine t.rbc) (stream_of m E lines) (stream_of m R lines)
+  judged_is side =
+      judged_same side s.engine t.engine s.rbc t.rbc (Some s.kmac) (key_at keys t.moment t.engine t.rbc) ends.r.stream (stream_of m E lines) ends.e.stream (stream_of m R lines)
+      engine_is rbc_is (ap Some kmac_is ∙ sym t.found) (p.stream_r ∙ sym t.of_e) (p.stream_e ∙ sym t.of_r)
+
+  good_of_e : good_texts (judged_of E s.engine s.rbc (Some s.kmac) ends.r.stream ends.e.stream) ≡ good_texts (judged_at (key_at keys) m o lines E)
+  good_of_e = ap good_texts (judged_is E)
+
+  good_of_r : good_texts (judged_of R s.engine s.rbc (Some s.kmac) ends.r.stream ends.e.stream) ≡ good_texts (judged_at (key_at keys) m o lines R)
+  good_of_r = ap good_texts (judged_is R)
+
+  prefix_is : (xs xs' ys ys' : List (List ℕ)) → xs' ≡ xs → ys ≡ ys' → IsPrefix xs ys → IsPrefix xs' ys'
+  prefix_is xs xs' ys ys' a b h = subst (λ (zs : List (List ℕ)). IsPrefix zs ys') (sym a) (subst (λ (zs : List (List ℕ)). IsPrefix xs zs) b h)
+
+  finds_good : FindsGood keys lines m o l history
+  finds_good =
+      let f = finds in
+      record {
+        at_r = prefix_is ends.r.core.upper.accepted (accepted_by R history) _ _ p.accepted_r good_of_e f.at_r;
+        at_e = prefix_is ends.e.core.upper.accepted (accepted_by E history) _ _ p.accepted_e good_of_r f.at_e;
+        all_at_r = λ live. p.accepted_r ∙ f.all_at_r (subst IsUnreleased p.r_is live) ∙ good_of_e;
+        all_at_e = λ live. p.accepted_e ∙ f.all_at_e (subst IsUnreleased p.e_is live) ∙ good_of_r;
+      }
+
+pub audit_finds_accepted : StacksRun → PairsAudited → AuditFindsAccepted
+audit_finds_accepted run audited plan steps fit allowed basic n l at keeping keys lines m t =
+    let history : List Occurrence = history_on n (world_run plan steps).1 in
+    let p : IsPair plan.settings l history = run plan steps fit allowed n l at t.engine t.rbc t.kmac (Some t.kmac) t.ra t.rb t.link_is in
+    finds_good audited plan.settings basic l history p keeping keys lines m t
