@@ -1,10 +1,13 @@
 -- Which names were asked for, by how the parts of a run end.
-use Rattle.std.proofs.Common.{◌≡◌, ◌⊎◌, inl, inr, ℕ, List, [], ◌∷◌, Option, Result, Ok, Err, IfOk, refl, ap, arith}
+use Rattle.std.proofs.Common.{◌≡◌, ◌⊎◌, inl, inr, ℕ, List, [], ◌∷◌, Option, Some, None, Result, Ok, Err, IfOk, refl, ap, ◌∙◌, arith}
 use Rattle.er_base.specs.declared.no_memory.NoMemory.{NoMemory as Want}
 use Rattle.er_base.specs.declared.text_fault.TextFault.{TextFault}
 use Rattle.er_base.specs.declared.text_fault.TextFault.TheVariants as text
 use Rattle.er_trace.specs.declared.trace.Trace.{Trace}
-use Rattle.safety_automaton.specs.Keys.{Entry}
+use Rattle.er_tap.specs.declared.tap.Tap.{Tap}
+use Rattle.er_tap.specs.declared.tap_line.TapLine.{TapLine}
+use Rattle.tap_model.specs.Lines.{TapFault, NoLinkAt, TwiceAt, fault_of}
+use Rattle.safety_automaton.specs.Keys.{Entry, key_at}
 use Rattle.key_store.specs.declared.key_file_fault.KeyFileFault.{KeyFileFault}
 use Rattle.key_store.specs.declared.key_file_fault.KeyFileFault.TheVariants as keys
 use Rattle.link_trait.specs.Outside.{Grew}
@@ -12,7 +15,8 @@ use Rattle.link_trait.specs.Growth.{grew_then, grew_nothing}
 use Rattle.er_program.specs.Asking.{Names, AsksLast, AsksBehindKeys, Asks}
 use Rattle.er_program.specs.Commands.{Replay}
 use Rattle.er_program.specs.LastLines.{fetch_line}
-use Rattle.er_program.specs.Answers.{Answer, AllAreTaken, OneIsRefused, IsTraceAnswer, keys_answer}
+use Rattle.er_program.specs.Answers.{Answer, AllAreTaken, OneIsRefused, IsTraceAnswer, lines_answer, tap_answer, keys_answer}
+use Rattle.er_program.specs.AuditWriting.{IsTapAnswer}
 use Rattle.er_program.specs.ReplayWriting.{EndsOne}
 use Rattle.er_program.specs.Writing.{Gives}
 use Rattle.er_program.specs.declared.status.Status.{Status}
@@ -48,6 +52,23 @@ pub asks_read : (known : List Entry) (read : Result Trace TextFault) (IsBegun : 
 asks_read known read IsBegun name before now f g (Ok s) ends =
     last_behind name s.0 ends.answer.status before now ends.stated (status_behind known read ends.answer ends.is)
 asks_read known read IsBegun name before now f g (Err why) ends = tt
+
+-- the file of a tap was read
+lines_behind : (known : List Entry) (lines : List TapLine) (first : Option TapFault) → IsBehind (lines_answer (key_at known) lines first).status
+lines_behind known lines None = inl refl
+lines_behind known lines (Some (NoLinkAt line n)) = inr (inl refl)
+lines_behind known lines (Some (TwiceAt line n)) = inr (inl refl)
+
+tap_behind : (known : List Entry) (read : Result Tap TextFault) → IsBehind (tap_answer known read).status
+tap_behind known (Err (text.At line why)) = inr (inl refl)
+tap_behind known (Err (text.NoMemory want)) = inr (inr refl)
+tap_behind known (Ok tap) = lines_behind known tap.lines (fault_of tap.lines)
+
+pub asks_tapped : (known : List Entry) (read : Result Tap TextFault) (IsBegun : List ℕ → Type 0) (name : List ℕ) (before now : Option (List ℕ)) (f g : ℕ) (r : Result Status Stop)
+    → EndsOne (IsTapAnswer known read) IsBegun before now f g r → IfOk r (λ s. AsksLast name s.0 before now)
+asks_tapped known read IsBegun name before now f g (Ok s) ends =
+    last_behind name s.0 (tap_answer known read).status before now (ends.stated ∙ ap (λ (x : Answer). x.status) ends.is) (tap_behind known read)
+asks_tapped known read IsBegun name before now f g (Err why) ends = tt
 
 -- its name wasn't fetched
 pub asks_lost : (name : List ℕ) (before now : Option (List ℕ)) (f g : ℕ) (r : Result Status Stop)

@@ -13,6 +13,8 @@ pub mod TraceTexts
 pub mod ReplayRuns
 pub mod Askings
 pub mod ReplayMeanings
+pub mod AuditRuns
+pub mod AuditMeanings
 pub mod BulkSteps
 pub mod BulkSteady
 pub mod BulkRuns

@@ -9,7 +9,7 @@ use Rattle.link_trait.specs.Growth.{grew_nothing}
 use Rattle.er_program.specs.Answers.{keys_answer}
 use Rattle.er_program.specs.KeyLines.{keys_line}
 use Rattle.er_program.specs.LastLines.{memory_line}
-use Rattle.er_program.specs.Commands.{Command, Misused, Drill, Bits, Migrate, Replay, Bulk, Serve, Call}
+use Rattle.er_program.specs.Commands.{Command, Misused, Drill, Bits, Migrate, Replay, Audit, Bulk, Serve, Call}
 use Rattle.er_program.specs.Outsides.{Outside, Traffic, traffic_of, IsLeftAlone}
 use Rattle.er_program.specs.LineRuns.{Given, key_file_of, Looped, FailsWith, LacksKey, HasLineStatus, IsStatusOfLoop, IsStatusBehindKeyFile, RunsOut, BeforeLoop, Spent, with_sink, wires_line}
 use Rattle.er_program.specs.LineWriting.{HasLooped, WiresFailed, KeyLacks, FileEnded, LineEnded, NotFetched, WasRead, LineBroke, LineMeans}
@@ -26,6 +26,7 @@ looped_status (Drill name) entries g before now status looped is = absurd looped
 looped_status (Bits name) entries g before now status looped is = absurd looped
 looped_status (Migrate keys) entries g before now status looped is = absurd looped
 looped_status (Replay keys trace) entries g before now status looped is = absurd looped
+looped_status (Audit keys tap) entries g before now status looped is = absurd looped
 looped_status (Bulk seed count) entries g before now status looped is = absurd looped
 looped_status (Serve keys address rbc turns) entries g before now status looped is = is
 looped_status (Call keys address engine rbc turns) entries g before now status looped is = record {
@@ -79,6 +80,7 @@ lacks_status (Drill name) entries before now status Written lacks is = absurd la
 lacks_status (Bits name) entries before now status Written lacks is = absurd lacks
 lacks_status (Migrate keys) entries before now status Written lacks is = absurd lacks
 lacks_status (Replay keys trace) entries before now status Written lacks is = absurd lacks
+lacks_status (Audit keys tap) entries before now status Written lacks is = absurd lacks
 lacks_status (Bulk seed count) entries before now status Written lacks is = absurd lacks
 lacks_status (Serve keys address rbc turns) entries before now status Written lacks is = absurd lacks
 lacks_status (Call keys address engine rbc turns) entries before now status Written lacks is = record {

@@ -43,7 +43,7 @@ ends_gives Is IsBegun a before now f g (Err (stop.NoMemory want)) is none gives 
     record { text = []; begun = none; written = gives.0; later = gives.1 }
 
 -- a kind of answers is another, and so are the texts where memory runs out
-ends_other : (Is Other : Answer → Type 0) (IsBegun OtherBegun : List ℕ → Type 0) (before now : Option (List ℕ)) (f g : ℕ) (r : Result Status Stop)
+pub ends_other : (Is Other : Answer → Type 0) (IsBegun OtherBegun : List ℕ → Type 0) (before now : Option (List ℕ)) (f g : ℕ) (r : Result Status Stop)
     → ((a : Answer) → Is a → Other a) → ((t : List ℕ) → IsBegun t → OtherBegun t) → EndsOne Is IsBegun before now f g r → EndsOne Other OtherBegun before now f g r
 ends_other Is Other IsBegun OtherBegun before now f g (Ok s) so begun ends =
     record { answer = ends.answer; is = so ends.answer ends.is; stated = ends.stated; printed = ends.printed; later = ends.later }
@@ -100,7 +100,7 @@ refused s f entries why before mid now c d e (Err (stop.NoMemory want)) wrote le
     }
 
 -- nothing came behind a beginning
-part_still : (before mid now : Option (List ℕ)) (all : List ℕ) → GrewPart before mid all → Grew mid now [] → GrewPart before now all
+pub part_still : (before mid now : Option (List ℕ)) (all : List ℕ) → GrewPart before mid all → Grew mid now [] → GrewPart before now all
 part_still before mid now all p none =
     let grew : Grew before now (p.part ++ []) = grew_then before mid now p.part [] p.grew none in
     record { part = p.part; rest = p.rest; is = p.is; grew = rw (append-nil p.part) at grew }

@@ -13,7 +13,7 @@ use Rattle.drill_model.specs.Texts.{drill_text}
 use Rattle.link_trait.specs.Outside.{Grew, GrewPart, Rose, HasFile}
 use Rattle.link_trait.specs.Growth.{grew_then}
 use Rattle.er_program.specs.Asking.{Asks}
-use Rattle.er_program.specs.Commands.{Command, Misused, Drill, Bits, Migrate, Replay, Bulk, Serve, Call}
+use Rattle.er_program.specs.Commands.{Command, Misused, Drill, Bits, Migrate, Replay, Audit, Bulk, Serve, Call}
 use Rattle.er_program.specs.LastLines.{fault_line, why_word, fetch_line, usage_line, memory_line}
 use Rattle.er_program.specs.Answers.{Answer, IsAnswer, HasFetched, IsFetchedAnswer, Files, FirstFault, AreDone, IsDrillAnswer, IsWhole, BreaksOff, IsScenarioAnswer, lines_of_first, fault_answer}
 use Rattle.er_program.specs.Runs.{HoldsAlways, WorldsHold, BrokeOff, AreFirstLines, HasStatus, IsSpent}
@@ -22,6 +22,7 @@ use Rattle.er_program.specs.Writing.{HasReadable, IsReadable, IsGiven, IsBegun, 
 use Rattle.er_program.specs.declared.status.Status.{Status}
 use Rattle.er_program.proofs.BitMeanings.{means_bits}
 use Rattle.er_program.proofs.KeyMeanings.{means_migrate}
+use Rattle.er_program.proofs.AuditMeanings.{means_audit}
 use Rattle.er_program.proofs.ReplayMeanings.{means_replay}
 use Rattle.er_program.proofs.BulkMeanings.{BulkHolds, means_bulk}
 
@@ -72,6 +73,7 @@ memory_complete (Drill name) files c d f g status is = λ good fine. inr is
 memory_complete (Bits name) files c d f g status is = λ good fine. inr is
 memory_complete (Migrate keys) files c d f g status is = λ good fine. inr is
 memory_complete (Replay keys trace) files c d f g status is = λ good fine. inr is
+memory_complete (Audit keys tap) files c d f g status is = λ good fine. inr is
 memory_complete (Bulk seed count) files c d f g status is = λ fine. inr is
 memory_complete (Serve keys address rbc turns) files c d f g status is = λ good fine well. inr is
 memory_complete (Call keys address engine rbc turns) files c d f g status is = λ good fine well. inr is
@@ -98,6 +100,7 @@ not_complete (Drill name) files c d f g status rose = λ good fine. absurd (fine
 not_complete (Bits name) files c d f g status rose = λ good fine. absurd (fine rose)
 not_complete (Migrate keys) files c d f g status rose = λ good fine. absurd (fine rose)
 not_complete (Replay keys trace) files c d f g status rose = λ good fine. absurd (fine rose)
+not_complete (Audit keys tap) files c d f g status rose = λ good fine. absurd (fine rose)
 not_complete (Bulk seed count) files c d f g status rose = λ fine. absurd (fine rose)
 not_complete (Serve keys address rbc turns) files c d f g status rose = λ good fine well. absurd (fine rose)
 not_complete (Call keys address engine rbc turns) files c d f g status rose = λ good fine well. absurd (fine rose)
@@ -308,6 +311,8 @@ means_finished law bulk (Migrate keys) files p q c d before now f g status asked
     means_migrate keys ends.is.fetched ends.answer files p q c d f g before now status asked ends.is.stands ends.is.is ends.stated ends.printed
 means_finished law bulk (Replay keys trace) files p q c d before now f g status asked ends =
     means_replay keys trace ends.is.fetched ends.answer files p q c d f g before now status asked ends.is.stands ends.is.is ends.stated ends.printed
+means_finished law bulk (Audit keys tap) files p q c d before now f g status asked ends =
+    means_audit keys tap ends.is.fetched ends.answer files p q c d f g before now status asked ends.is.stands ends.is.is ends.stated ends.printed
 means_finished law bulk (Bulk seed count) files p q c d before now f g status asked ends =
     means_bulk bulk seed count ends.answer files p q c d f g before now status ends.is ends.stated ends.printed
 means_finished law bulk (Serve keys address rbc turns) files p q c d before now f g status asked ends = absurd asked
@@ -320,6 +325,7 @@ answer_given (Drill name) files c d a given = given.answer
 answer_given (Bits name) files c d a given = given
 answer_given (Migrate keys) files c d a given = given
 answer_given (Replay keys trace) files c d a given = given
+answer_given (Audit keys tap) files c d a given = given
 answer_given (Bulk seed count) files c d a given = given
 answer_given (Serve keys address rbc turns) files c d a given = absurd given
 answer_given (Call keys address engine rbc turns) files c d a given = absurd given
@@ -341,6 +347,7 @@ worlds_hold law bulk (Drill name) files c d a given = record {
 worlds_hold law bulk (Bits name) files c d a given = tt
 worlds_hold law bulk (Migrate keys) files c d a given = tt
 worlds_hold law bulk (Replay keys trace) files c d a given = tt
+worlds_hold law bulk (Audit keys tap) files c d a given = tt
 worlds_hold law bulk (Bulk seed count) files c d a given = bulk seed count
 worlds_hold law bulk (Serve keys address rbc turns) files c d a given = tt
 worlds_hold law bulk (Call keys address engine rbc turns) files c d a given = tt
@@ -378,6 +385,7 @@ first_lines_hold law bulk (Drill name) files text begun =
 first_lines_hold law bulk (Bits name) files text begun = begun
 first_lines_hold law bulk (Migrate keys) files text begun = begun
 first_lines_hold law bulk (Replay keys trace) files text begun = begun
+first_lines_hold law bulk (Audit keys tap) files text begun = begun
 first_lines_hold law bulk (Bulk seed count) files text begun = (begun, bulk seed count)
 first_lines_hold law bulk (Serve keys address rbc turns) files text begun = absurd begun
 first_lines_hold law bulk (Call keys address engine rbc turns) files text begun = absurd begun

@@ -1,7 +1,7 @@
 -- What a run means by its status, for the command that it was: the facts of its parts, put together.
 use Rattle.std.proofs.Common.{◌≡◌, ◌≢◌, ◌⊎◌, inl, inr, ℕ, ◌≤◌, Bool, true, false, List, [], ◌∷◌, Option, refl, arith}
 use Rattle.link_trait.specs.Outside.{Grew, GrewPart, Kept}
-use Rattle.er_program.specs.Commands.{Command, Misused, Drill, Bits, Migrate, Replay, Bulk, Serve, Call, names_of, needs_wires}
+use Rattle.er_program.specs.Commands.{Command, Misused, Drill, Bits, Migrate, Replay, Audit, Bulk, Serve, Call, names_of, needs_wires}
 use Rattle.er_program.specs.Outsides.{Outside, Traffic, traffic_of, IsLeftAlone, IsSteady}
 use Rattle.er_program.specs.Answers.{Files}
 use Rattle.er_program.specs.LineRuns.{Given, key_file_of, RunsOut, with_sink}
@@ -145,6 +145,26 @@ off_run (Replay keys trace) g rest files before_files p q c d f h before now sta
   complete = m.complete;
   steady = steady;
 }
+off_run (Audit keys tap) g rest files before_files p q c d f h before now status off m asked steady = record {
+  known = m.known;
+  means = record {
+    done = m.done;
+    misused = m.usage;
+    unfetched = λ is.
+        let u = m.fetch is in
+        record { first = u.first; name = u.name; rest = u.rest; is = u.is; asked_for = u.asked_for; rose = u.rose; printed = u.printed };
+    refused = m.refused;
+    keyless = m.keys;
+    sunk = λ is. record { rose = (m.sink is).rose; beginning = (m.sink is).beginning };
+    wires = λ is. no_six status is m.known;
+    memory = m.memory;
+    overfull = m.overfull;
+  };
+  idle = record { calls = refl; failed = refl; turns_failed = refl; listening = refl; clock = refl };
+  asked = asked;
+  complete = m.complete;
+  steady = steady;
+}
 off_run (Bulk seed count) g rest files before_files p q c d f h before now status off m asked steady = record {
   known = m.known;
   means = record {
@@ -194,6 +214,7 @@ line_run (Drill name) g before now status on m asked part steady = absurd cc
 line_run (Bits name) g before now status on m asked part steady = absurd cc
 line_run (Migrate keys) g before now status on m asked part steady = absurd cc
 line_run (Replay keys trace) g before now status on m asked part steady = absurd cc
+line_run (Audit keys tap) g before now status on m asked part steady = absurd cc
 line_run (Bulk seed count) g before now status on m asked part steady = absurd cc
 line_run (Serve keys address rbc turns) g before now status on m asked part steady = record {
   known = m.known;

@@ -12,7 +12,7 @@ use Rattle.drill_model.specs.Worlds.{plan_of, steps_of}
 use Rattle.drill_model.specs.Faults.{fault_behind}
 use Rattle.drill_model.specs.Texts.{first_lines, drill_text}
 use Rattle.link_trait.specs.Outside.{HasFile, Rose}
-use Rattle.er_program.specs.Commands.{Command, Misused, Drill, Bits, Migrate, Replay, Bulk, Serve, Call}
+use Rattle.er_program.specs.Commands.{Command, Misused, Drill, Bits, Migrate, Replay, Audit, Bulk, Serve, Call}
 use Rattle.er_program.specs.BitTexts.{most_line_octets, bits_text}
 use Rattle.er_program.specs.BulkTexts.{bulk_plan, steps_of_bulk, totals_of_bulk, totals_line, AllDone, FirstOverfull}
 use Rattle.safety_automaton.specs.Keys.{Entry, key_at}
@@ -21,6 +21,11 @@ use Rattle.er_trace.specs.declared.entry.Entry.{Entry as TraceEntry}
 use Rattle.er_trace.specs.declared.trace.Trace.{Trace}
 use Rattle.er_trace.specs.Files.{trace_of}
 use Rattle.end_model.specs.Steps.{Finds}
+use Rattle.er_tap.specs.declared.tap.Tap.{Tap}
+use Rattle.er_tap.specs.declared.tap_line.TapLine.{TapLine}
+use Rattle.er_tap.specs.Files.{tap_of}
+use Rattle.tap_model.specs.Lines.{TapFault, NoLinkAt, TwiceAt, fault_of}
+use Rattle.tap_model.specs.Texts.{audit_text}
 use Rattle.trace_model.specs.declared.replay_fault.ReplayFault.{ReplayFault}
 use Rattle.trace_model.specs.Printed.{printed}
 use Rattle.trace_model.specs.Replays.{AreTaken, FirstRefused}
@@ -196,6 +201,45 @@ pub record IsReplayWordsAnswer (keys name : List ℕ) (files : Files) (c d : ℕ
   pub stands : HasFetched keys fetched files c d
   pub is : IsFetchedReplay keys name fetched files c d a
 
+-- ---- a key file and a tap
+
+-- a tap whose lines stand in order is audited; the first line that doesn't prints its line alone
+abbrev pub lines_answer : Finds → List TapLine → Option TapFault → Answer
+lines_answer finds lines None = record { status = 0; text = audit_text finds lines }
+lines_answer finds lines (Some (NoLinkAt line n)) = record { status = 3; text = fault_line line (codes "nolink") }
+lines_answer finds lines (Some (TwiceAt line n)) = record { status = 3; text = fault_line line (codes "twice") }
+
+-- a file that spells a tap is audited with these entries of a key file; a fault of its grammar prints its line alone
+abbrev pub tap_answer : List Entry → Result Tap TextFault → Answer
+tap_answer keys (Err (text.At line why)) = record { status = 3; text = fault_line line (why_word why) }
+tap_answer keys (Err (text.NoMemory want)) = record { status = 7; text = memory_line }
+tap_answer keys (Ok tap) = lines_answer (key_at keys) tap.lines (fault_of tap.lines)
+
+abbrev pub IsFetchedTap : List Entry → List ℕ → Option (List ℕ) → Answer → Type 0
+IsFetchedTap keys name None a = a ≡ record { status = 2; text = fetch_line name }
+IsFetchedTap keys name (Some file) a = a ≡ tap_answer keys (tap_of file)
+
+-- the answer to the file word of a tap, where the key file has these entries
+pub record IsTapFileAnswer (keys : List Entry) (name : List ℕ) (files : Files) (c d : ℕ) (a : Answer) : Type 0 where
+  pub fetched : Option (List ℕ)
+  pub stands : HasFetched name fetched files c d
+  pub is : IsFetchedTap keys name fetched a
+
+-- the tap is asked for where the key file is good
+abbrev pub IsTapAnswerBehindKeys : Result (List Entry) KeyFileFault → (name : List ℕ) → Files → ℕ → ℕ → Answer → Type 0
+IsTapAnswerBehindKeys (Err fault) name files c d a = a ≡ keys_answer fault
+IsTapAnswerBehindKeys (Ok keys) name files c d a = IsTapFileAnswer keys name files c d a
+
+abbrev pub IsFetchedAudit : (keys name : List ℕ) → Option (List ℕ) → Files → ℕ → ℕ → Answer → Type 0
+IsFetchedAudit keys name None files c d a = a ≡ record { status = 2; text = fetch_line keys }
+IsFetchedAudit keys name (Some file) files c d a = IsTapAnswerBehindKeys (keys_of file) name files c d a
+
+-- the answer to the file words of a key file and of a tap
+pub record IsAuditWordsAnswer (keys name : List ℕ) (files : Files) (c d : ℕ) (a : Answer) : Type 0 where
+  pub fetched : Option (List ℕ)
+  pub stands : HasFetched keys fetched files c d
+  pub is : IsFetchedAudit keys name fetched files c d a
+
 -- ---- a bulk run
 
 -- where its steps are all done, one line is printed, with their totals; where one isn't, too many frames would wait. No step is refused
@@ -215,6 +259,7 @@ IsAnswer (Drill name) files c d a = IsFileAnswer name files c d a
 IsAnswer (Bits name) files c d a = IsBitsAnswer name files c d a
 IsAnswer (Migrate keys) files c d a = IsMigrateAnswer keys files c d a
 IsAnswer (Replay keys trace) files c d a = IsReplayWordsAnswer keys trace files c d a
+IsAnswer (Audit keys tap) files c d a = IsAuditWordsAnswer keys tap files c d a
 IsAnswer (Bulk seed count) files c d a = IsBulkAnswer seed count a
 IsAnswer (Serve keys address rbc turns) files c d a = ⊥
 IsAnswer (Call keys address engine rbc turns) files c d a = ⊥

@@ -16,6 +16,8 @@ pub data Command : Type 0 where
   Migrate : (keys : List ℕ) → Command
   -- `replay KEYS TRACE`: the file words
   Replay : (keys trace : List ℕ) → Command
+  -- `audit KEYS TAP`: the file words
+  Audit : (keys tap : List ℕ) → Command
   -- `bulk SEED COUNT`: the numbers
   Bulk : (seed count : ℕ) → Command
   -- `serve KEYS ADDRESS RBC TURNS`
@@ -29,21 +31,25 @@ texts words = map string_bytes words
 
 -- ---- numbers
 
--- the most turns
+-- the most turns, and what stands for no bound: more than can ever be done
 abbrev pub most_turns : ℕ
 most_turns = 1000000000
+
+abbrev pub no_bound : ℕ
+no_bound = 18446744073709551615
 
 -- a number that is at most this
 abbrev pub at_most : ℕ → Option ℕ → Option ℕ
 at_most most None = None
 at_most most (Some n) = if nat_le n most then Some n else None
 
--- an ETCS number, which is below 2^24, and a number of turns, as decimal words
+-- an ETCS number, which is below 2^24, as a decimal word
 abbrev pub etcs_number : List ℕ → Option ℕ
 etcs_number word = at_most 16777215 (decimal_of word)
 
+-- a number of turns, as a decimal word or `-` for no bound
 abbrev pub turns_number : List ℕ → Option ℕ
-turns_number word = at_most most_turns (decimal_of word)
+turns_number word = if bytes_eq word (codes "-") then Some no_bound else at_most most_turns (decimal_of word)
 
 -- ---- commands by the number of their words
 
@@ -64,6 +70,7 @@ bulk_of (Some seed) (Some count) = if nat_le count most_messages then Bulk seed 
 abbrev pub command_of_three : List ℕ → List ℕ → List ℕ → Command
 command_of_three command first second =
     if bytes_eq command (codes "replay") then Replay first second else
+    if bytes_eq command (codes "audit") then Audit first second else
     if bytes_eq command (codes "bulk") then bulk_of (decimal_of first) (decimal_of second) else Misused
 
 abbrev pub serve_of : (keys address : List ℕ) → (rbc turns : Option ℕ) → Command
@@ -106,6 +113,7 @@ names_of (Drill name) = name ∷ []
 names_of (Bits name) = name ∷ []
 names_of (Migrate keys) = keys ∷ []
 names_of (Replay keys trace) = keys ∷ trace ∷ []
+names_of (Audit keys tap) = keys ∷ tap ∷ []
 names_of (Bulk seed count) = []
 names_of (Serve keys address rbc turns) = keys ∷ []
 names_of (Call keys address engine rbc turns) = keys ∷ []
@@ -117,6 +125,7 @@ needs_wires (Drill name) = false
 needs_wires (Bits name) = false
 needs_wires (Migrate keys) = false
 needs_wires (Replay keys trace) = false
+needs_wires (Audit keys tap) = false
 needs_wires (Bulk seed count) = false
 needs_wires (Serve keys address rbc turns) = true
 needs_wires (Call keys address engine rbc turns) = true

@@ -4,9 +4,12 @@ pub mod Outsides
 pub mod OutsideViews
 pub mod LastLines
 pub mod Answers
+pub mod AuditRuns
 pub mod Runs
 pub mod Writing
 pub mod WriterSinks
+pub mod Moments
+pub mod FileFaults
 pub mod BitTexts
 pub mod BitWriting
 pub mod BulkTexts
@@ -14,6 +17,7 @@ pub mod BulkRuns
 pub mod KeyLines
 pub mod KeyWriting
 pub mod ReplayWriting
+pub mod AuditWriting
 pub mod Asking
 pub mod LineRuns
 pub mod LineWriting

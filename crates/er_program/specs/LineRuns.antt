@@ -13,7 +13,7 @@ use Rattle.link_trait.specs.Outside.{Grew, GrewPart, Rose, HasFile}
 use Rattle.readiness_loop.specs.declared.line_plan.LinePlan.{LinePlan}
 use Rattle.readiness_loop.specs.declared.line_plan.Stop.{Stop}
 use Rattle.readiness_loop.specs.Claims.{serving, dialling, halt_for, HasServed, FailsToServe, BreaksOffServing, HasDialled, FailsToDial, BreaksOffDialling}
-use Rattle.er_program.specs.Commands.{Command, Misused, Drill, Bits, Migrate, Replay, Bulk, Serve, Call}
+use Rattle.er_program.specs.Commands.{Command, Misused, Drill, Bits, Migrate, Replay, Audit, Bulk, Serve, Call}
 use Rattle.er_program.specs.Outsides.{Outside, Traffic, traffic_of, of_loop, IsLeftAlone}
 use Rattle.er_program.specs.LastLines.{fetch_line, memory_line}
 use Rattle.er_program.specs.Answers.{Files, keys_answer}
@@ -46,6 +46,7 @@ key_file_of (Drill name) = []
 key_file_of (Bits name) = []
 key_file_of (Migrate keys) = keys
 key_file_of (Replay keys trace) = keys
+key_file_of (Audit keys tap) = keys
 key_file_of (Bulk seed count) = []
 key_file_of (Serve keys address rbc turns) = keys
 key_file_of (Call keys address engine rbc turns) = keys
@@ -103,6 +104,7 @@ Looped (Drill name) entries g before now = ⊥
 Looped (Bits name) entries g before now = ⊥
 Looped (Migrate keys) entries g before now = ⊥
 Looped (Replay keys trace) entries g before now = ⊥
+Looped (Audit keys tap) entries g before now = ⊥
 Looped (Bulk seed count) entries g before now = ⊥
 Looped (Serve keys address rbc turns) entries g before now =
     Stopped (λ count why. HasServed (of_loop before) (of_loop now) (serving entries (usual turns) rbc g.handed) address g.minds g.words count (halt_for why))
@@ -117,6 +119,7 @@ LoopFails (Drill name) entries g before now = ⊥
 LoopFails (Bits name) entries g before now = ⊥
 LoopFails (Migrate keys) entries g before now = ⊥
 LoopFails (Replay keys trace) entries g before now = ⊥
+LoopFails (Audit keys tap) entries g before now = ⊥
 LoopFails (Bulk seed count) entries g before now = ⊥
 LoopFails (Serve keys address rbc turns) entries g before now =
     (left : Stream) × FailsToServe (of_loop before) (of_loop now) (serving entries (usual turns) rbc g.handed) address g.minds g.words left
@@ -131,6 +134,7 @@ LoopBreaks (Drill name) entries g before now = ⊥
 LoopBreaks (Bits name) entries g before now = ⊥
 LoopBreaks (Migrate keys) entries g before now = ⊥
 LoopBreaks (Replay keys trace) entries g before now = ⊥
+LoopBreaks (Audit keys tap) entries g before now = ⊥
 LoopBreaks (Bulk seed count) entries g before now = ⊥
 LoopBreaks (Serve keys address rbc turns) entries g before now =
     BreaksOffServing (of_loop before) (of_loop now) (serving entries (usual turns) rbc g.handed) address g.minds g.words
@@ -157,6 +161,7 @@ LacksKey (Drill name) entries before now Written = ⊥
 LacksKey (Bits name) entries before now Written = ⊥
 LacksKey (Migrate keys) entries before now Written = ⊥
 LacksKey (Replay keys trace) entries before now Written = ⊥
+LacksKey (Audit keys tap) entries before now Written = ⊥
 LacksKey (Bulk seed count) entries before now Written = ⊥
 LacksKey (Serve keys address rbc turns) entries before now Written = ⊥
 LacksKey (Call keys address engine rbc turns) entries before now Written =
@@ -247,6 +252,7 @@ IsStatusOfLoop (Drill name) entries before now status = ⊥
 IsStatusOfLoop (Bits name) entries before now status = ⊥
 IsStatusOfLoop (Migrate keys) entries before now status = ⊥
 IsStatusOfLoop (Replay keys trace) entries before now status = ⊥
+IsStatusOfLoop (Audit keys tap) entries before now status = ⊥
 IsStatusOfLoop (Bulk seed count) entries before now status = ⊥
 IsStatusOfLoop (Serve keys address rbc turns) entries before now status = status ≡ 0
 IsStatusOfLoop (Call keys address engine rbc turns) entries before now status = HasPairStatus entries engine rbc before.clock now.clock status

@@ -8,7 +8,7 @@ use Rattle.link_trait.specs.Outside.{Grew, GrewPart, Kept}
 use Rattle.link_trait.specs.Wires.{Call as WiresCall}
 use Rattle.loop_visit.specs.Seeing.{seen}
 use Rattle.readiness_loop.specs.Claims as loop
-use Rattle.er_program.specs.Commands.{Command, Misused, Drill, Bits, Migrate, Replay, Bulk, Serve, Call, names_of}
+use Rattle.er_program.specs.Commands.{Command, Misused, Drill, Bits, Migrate, Replay, Audit, Bulk, Serve, Call, names_of}
 
 pub record Outside : Type 0 where
   -- the cabinet: its files, name and octets, the names that it was asked for, and how often a fetch failed
@@ -94,6 +94,7 @@ AsksClock (Drill name) before now = now ≡ before
 AsksClock (Bits name) before now = now ≡ before
 AsksClock (Migrate keys) before now = now ≡ before
 AsksClock (Replay keys trace) before now = now ≡ before
+AsksClock (Audit keys tap) before now = now ≡ before
 AsksClock (Bulk seed count) before now = now ≡ before
 AsksClock (Serve keys address rbc turns) before now = now ≡ before
 AsksClock (Call keys address engine rbc turns) before now = (now ≡ before) ⊎ ((moment : ℕ) × Grew before now (moment ∷ []))

@@ -8,7 +8,7 @@ use Rattle.drill_model.specs.Worlds.{plan_of}
 use Rattle.drill_model.specs.Texts.{drill_text}
 use Rattle.drill_model.specs.Headline.{Holds}
 use Rattle.link_trait.specs.Outside.{Grew, GrewPart, Rose, HasFile}
-use Rattle.er_program.specs.Commands.{Command, Misused, Drill, Bits, Migrate, Replay, Bulk, Serve, Call}
+use Rattle.er_program.specs.Commands.{Command, Misused, Drill, Bits, Migrate, Replay, Audit, Bulk, Serve, Call}
 use Rattle.er_program.specs.LastLines.{usage_line, memory_line, fetch_line, fault_line, refused_line, overfull_line, why_word}
 use Rattle.er_program.specs.Answers.{Answer, IsAnswer, IsScenarioAnswer, HasFetched, Files, FirstFault, AreDone, first_steps, lines_of_first, fault_answer, bits_answer, IsKeysAnswer, IsTraceAnswer, IsBulkAnswer, keys_answer}
 use Rattle.er_program.specs.BitTexts.{most_line_octets, verdict_lines, verdicts_in, bits_text}
@@ -23,6 +23,7 @@ use Rattle.trace_model.specs.Replays.{AreTaken, FirstRefused}
 use Rattle.key_store.specs.declared.key_file_fault.KeyFileFault.{KeyFileFault}
 use Rattle.key_store.specs.KeyFiles.{keys_of}
 use Rattle.er_program.specs.KeyLines.{keys_line}
+use Rattle.er_program.specs.AuditRuns.{FirstAuditText}
 
 -- ---- what holds of a world
 
@@ -198,6 +199,7 @@ AreFirstLines (Drill name) files text = (text ≡ []) ⊎ FirstLines name files 
 AreFirstLines (Bits name) files text = (text ≡ []) ⊎ FirstVerdictLines name files text
 AreFirstLines (Migrate keys) files text = text ≡ []
 AreFirstLines (Replay keys trace) files text = (text ≡ []) ⊎ FirstEventLines keys trace files text
+AreFirstLines (Audit keys tap) files text = (text ≡ []) ⊎ FirstAuditText keys tap files text
 AreFirstLines (Bulk seed count) files text = (text ≡ []) × HoldsWhereDone seed count
 AreFirstLines (Serve keys address rbc turns) files text = ⊥
 AreFirstLines (Call keys address engine rbc turns) files text = ⊥
@@ -223,6 +225,7 @@ WorldsHold (Drill name) files c d = HoldsInFile name files c d
 WorldsHold (Bits name) files c d = Unit {0}
 WorldsHold (Migrate keys) files c d = Unit {0}
 WorldsHold (Replay keys trace) files c d = Unit {0}
+WorldsHold (Audit keys tap) files c d = Unit {0}
 WorldsHold (Bulk seed count) files c d = HoldsWhereDone seed count
 WorldsHold (Serve keys address rbc turns) files c d = Unit {0}
 WorldsHold (Call keys address engine rbc turns) files c d = Unit {0}

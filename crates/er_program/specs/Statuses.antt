@@ -2,11 +2,12 @@
 -- left alone, which names it asked for, and that each status comes exactly where its cause is met.
 use Rattle.std.specs.Prelude.{◌≡◌, ◌≢◌, ◌⊎◌, ℕ, List, [], ◌∷◌, ◌++◌}
 use Rattle.link_trait.specs.Outside.{Grew, GrewPart, Rose, HasFile}
-use Rattle.er_program.specs.Commands.{Command, Misused, Drill, Bits, Migrate, Replay, Bulk, Serve, Call, names_of}
+use Rattle.er_program.specs.Commands.{Command, Misused, Drill, Bits, Migrate, Replay, Audit, Bulk, Serve, Call, names_of}
 use Rattle.er_program.specs.Outsides.{Outside, traffic_of, IsLeftAlone, IsSteady}
 use Rattle.er_program.specs.LastLines.{usage_line, fetch_line, memory_line}
 use Rattle.er_program.specs.Answers.{bits_answer}
 use Rattle.er_program.specs.Runs.{Drilled, BitsRead, Migrated, Replayed, BulkCounted, IsOutOfForm, BrokeOff, BitsTooLong, IsTraceOutOfForm, IsEventRefused, IsBulkOverfull, AreKeysRefused, IsSpent, IsTextBegun, HasStatus, HasKeysStatus, HasReplayStatus, HasBulkStatus}
+use Rattle.er_program.specs.AuditRuns.{Audited, IsTapOutOfForm, IsTapLineRefused, HasAuditStatus}
 use Rattle.er_program.specs.LineRuns.{Given, IsServed, IsPairKeyless, IsLineBegun, IsLoopFailed, IsMemoryTold, HasLineStatus}
 
 -- ---- the closed list of statuses
@@ -26,6 +27,7 @@ IsStatusOf (Drill name) s = IsFileStatus s
 IsStatusOf (Bits name) s = IsFileStatus s
 IsStatusOf (Migrate keys) s = IsFileStatus s
 IsStatusOf (Replay keys trace) s = IsFileStatus s
+IsStatusOf (Audit keys tap) s = IsFileStatus s
 IsStatusOf (Bulk seed count) s = IsFileStatus s
 IsStatusOf (Serve keys address rbc turns) s = IsLineStatus s
 IsStatusOf (Call keys address engine rbc turns) s = IsLineStatus s
@@ -39,6 +41,7 @@ IsDone (Drill name) g before now = Drilled name now.files before.held now.held
 IsDone (Bits name) g before now = BitsRead name now.files before.held now.held
 IsDone (Migrate keys) g before now = Migrated keys now.files before.held now.held
 IsDone (Replay keys trace) g before now = Replayed keys trace now.files before.held now.held
+IsDone (Audit keys tap) g before now = Audited keys tap now.files before.held now.held
 IsDone (Bulk seed count) g before now = BulkCounted seed count before.held now.held
 IsDone (Serve keys address rbc turns) g before now = IsServed (Serve keys address rbc turns) g before now
 IsDone (Call keys address engine rbc turns) g before now = IsServed (Call keys address engine rbc turns) g before now
@@ -50,6 +53,7 @@ IsMisused (Drill name) before now = ⊥
 IsMisused (Bits name) before now = ⊥
 IsMisused (Migrate keys) before now = ⊥
 IsMisused (Replay keys trace) before now = ⊥
+IsMisused (Audit keys tap) before now = ⊥
 IsMisused (Bulk seed count) before now = ⊥
 IsMisused (Serve keys address rbc turns) before now = ⊥
 IsMisused (Call keys address engine rbc turns) before now = ⊥
@@ -64,13 +68,14 @@ pub record IsUnfetched (command : Command) (before now : Outside) : Type 0 where
   pub rose : Rose before.unfetched now.unfetched
   pub printed : Grew before.held now.held (fetch_line name)
 
--- status 3: the file is out of its grammar, or a step or an event is refused
+-- status 3: the file is out of its grammar, or a step, an event or a line of a tap is refused
 abbrev pub IsRefused : Command → Outside → Outside → Type 0
 IsRefused Misused before now = ⊥
 IsRefused (Drill name) before now = IsOutOfForm name now.files before.held now.held ⊎ BrokeOff name now.files 3 before.held now.held
 IsRefused (Bits name) before now = BitsTooLong name now.files before.held now.held
 IsRefused (Migrate keys) before now = ⊥
 IsRefused (Replay keys trace) before now = IsTraceOutOfForm keys trace now.files before.held now.held ⊎ IsEventRefused keys trace now.files before.held now.held
+IsRefused (Audit keys tap) before now = IsTapOutOfForm keys tap now.files before.held now.held ⊎ IsTapLineRefused keys tap now.files before.held now.held
 IsRefused (Bulk seed count) before now = ⊥
 IsRefused (Serve keys address rbc turns) before now = ⊥
 IsRefused (Call keys address engine rbc turns) before now = ⊥
@@ -82,6 +87,7 @@ IsKeyless (Drill name) before now = ⊥
 IsKeyless (Bits name) before now = ⊥
 IsKeyless (Migrate keys) before now = AreKeysRefused keys now.files before.asked now.asked before.held now.held
 IsKeyless (Replay keys trace) before now = AreKeysRefused keys now.files before.asked now.asked before.held now.held
+IsKeyless (Audit keys tap) before now = AreKeysRefused keys now.files before.asked now.asked before.held now.held
 IsKeyless (Bulk seed count) before now = ⊥
 IsKeyless (Serve keys address rbc turns) before now = AreKeysRefused keys now.files before.asked now.asked before.held now.held
 IsKeyless (Call keys address engine rbc turns) before now = AreKeysRefused keys now.files before.asked now.asked before.held now.held ⊎ IsPairKeyless (Call keys address engine rbc turns) before now
@@ -93,6 +99,7 @@ IsBegun (Drill name) g before now = IsTextBegun (Drill name) now.files before.un
 IsBegun (Bits name) g before now = IsTextBegun (Bits name) now.files before.unfetched now.unfetched before.held now.held
 IsBegun (Migrate keys) g before now = IsTextBegun (Migrate keys) now.files before.unfetched now.unfetched before.held now.held
 IsBegun (Replay keys trace) g before now = IsTextBegun (Replay keys trace) now.files before.unfetched now.unfetched before.held now.held
+IsBegun (Audit keys tap) g before now = IsTextBegun (Audit keys tap) now.files before.unfetched now.unfetched before.held now.held
 IsBegun (Bulk seed count) g before now = IsTextBegun (Bulk seed count) now.files before.unfetched now.unfetched before.held now.held
 IsBegun (Serve keys address rbc turns) g before now = IsLineBegun (Serve keys address rbc turns) g before now
 IsBegun (Call keys address engine rbc turns) g before now = IsLineBegun (Call keys address engine rbc turns) g before now
@@ -109,6 +116,7 @@ AreWiresFailed (Drill name) g before now = ⊥
 AreWiresFailed (Bits name) g before now = ⊥
 AreWiresFailed (Migrate keys) g before now = ⊥
 AreWiresFailed (Replay keys trace) g before now = ⊥
+AreWiresFailed (Audit keys tap) g before now = ⊥
 AreWiresFailed (Bulk seed count) g before now = ⊥
 AreWiresFailed (Serve keys address rbc turns) g before now = IsLoopFailed (Serve keys address rbc turns) g before now
 AreWiresFailed (Call keys address engine rbc turns) g before now = IsLoopFailed (Call keys address engine rbc turns) g before now
@@ -120,6 +128,7 @@ IsOutOfMemory (Drill name) g before now = IsSpent (Drill name) now.files before.
 IsOutOfMemory (Bits name) g before now = IsSpent (Bits name) now.files before.held now.held
 IsOutOfMemory (Migrate keys) g before now = IsSpent (Migrate keys) now.files before.held now.held
 IsOutOfMemory (Replay keys trace) g before now = IsSpent (Replay keys trace) now.files before.held now.held
+IsOutOfMemory (Audit keys tap) g before now = IsSpent (Audit keys tap) now.files before.held now.held
 IsOutOfMemory (Bulk seed count) g before now = IsSpent (Bulk seed count) now.files before.held now.held
 IsOutOfMemory (Serve keys address rbc turns) g before now = IsMemoryTold (Serve keys address rbc turns) g before now (λ held held_now. Grew held held_now memory_line)
 IsOutOfMemory (Call keys address engine rbc turns) g before now = IsMemoryTold (Call keys address engine rbc turns) g before now (λ held held_now. Grew held held_now memory_line)
@@ -131,6 +140,7 @@ IsOverfull (Drill name) before now = BrokeOff name now.files 8 before.held now.h
 IsOverfull (Bits name) before now = ⊥
 IsOverfull (Migrate keys) before now = ⊥
 IsOverfull (Replay keys trace) before now = ⊥
+IsOverfull (Audit keys tap) before now = ⊥
 IsOverfull (Bulk seed count) before now = IsBulkOverfull seed count before.held now.held
 IsOverfull (Serve keys address rbc turns) before now = ⊥
 IsOverfull (Call keys address engine rbc turns) before now = ⊥
@@ -161,6 +171,7 @@ IsIdle (Drill name) before now status = IsLeftAlone (Drill name) (traffic_of bef
 IsIdle (Bits name) before now status = IsLeftAlone (Bits name) (traffic_of before) (traffic_of now)
 IsIdle (Migrate keys) before now status = IsLeftAlone (Migrate keys) (traffic_of before) (traffic_of now)
 IsIdle (Replay keys trace) before now status = IsLeftAlone (Replay keys trace) (traffic_of before) (traffic_of now)
+IsIdle (Audit keys tap) before now status = IsLeftAlone (Audit keys tap) (traffic_of before) (traffic_of now)
 IsIdle (Bulk seed count) before now status = IsLeftAlone (Bulk seed count) (traffic_of before) (traffic_of now)
 IsIdle (Serve keys address rbc turns) before now status = IsLineIdle (Serve keys address rbc turns) before now status
 IsIdle (Call keys address engine rbc turns) before now status = IsLineIdle (Call keys address engine rbc turns) before now status
@@ -183,6 +194,7 @@ IsComplete (Bits name) before now status = (Rose before.unfetched now.unfetched 
 IsComplete (Migrate keys) before now status = (Rose before.unfetched now.unfetched → ⊥) → (Rose before.sunk now.sunk → ⊥)
     → ((file : List ℕ) × HasFile now.files keys file × HasKeysStatus file status) ⊎ (status ≡ 7)
 IsComplete (Replay keys trace) before now status = (Rose before.unfetched now.unfetched → ⊥) → (Rose before.sunk now.sunk → ⊥) → HasReplayStatus keys trace now.files status ⊎ (status ≡ 7)
+IsComplete (Audit keys tap) before now status = (Rose before.unfetched now.unfetched → ⊥) → (Rose before.sunk now.sunk → ⊥) → HasAuditStatus keys tap now.files status ⊎ (status ≡ 7)
 IsComplete (Bulk seed count) before now status = (Rose before.sunk now.sunk → ⊥) → HasBulkStatus seed count status ⊎ (status ≡ 7)
 IsComplete (Serve keys address rbc turns) before now status = (Rose before.unfetched now.unfetched → ⊥) → (Rose before.sunk now.sunk → ⊥) → (Rose before.turns_failed now.turns_failed → ⊥)
     → HasLineStatus (Serve keys address rbc turns) before now status ⊎ (status ≡ 7)

@@ -13,9 +13,10 @@ use Rattle.er_world.specs.Standing.{KeptWorld, Ran, IsFaultBehind}
 use Rattle.drill_model.specs.Faults.{fault_behind}
 use Rattle.link_trait.specs.Outside.{Grew, GrewPart, Rose}
 use Rattle.link_trait.specs.declared.sink.Failed.{Failed}
-use Rattle.er_program.specs.Commands.{Command, Misused, Drill, Bits, Migrate, Replay, Bulk, Serve, Call}
+use Rattle.er_program.specs.Commands.{Command, Misused, Drill, Bits, Migrate, Replay, Audit, Bulk, Serve, Call}
 use Rattle.er_program.specs.LastLines.{usage_line, memory_line}
-use Rattle.er_program.specs.Answers.{Answer, IsDrillAnswer, IsScenarioAnswer, IsFileAnswer, IsBitsAnswer, Files, AreDone, first_steps, lines_of_first, fault_answer, IsMigrateAnswer, IsReplayWordsAnswer, IsBulkAnswer}
+use Rattle.er_program.specs.Answers.{Answer, IsDrillAnswer, IsScenarioAnswer, IsFileAnswer, IsBitsAnswer, Files, AreDone, first_steps, lines_of_first, fault_answer, IsMigrateAnswer, IsReplayWordsAnswer, IsAuditWordsAnswer, IsBulkAnswer}
+use Rattle.er_program.specs.AuditRuns.{FirstAuditText}
 use Rattle.er_program.specs.Runs.{Spells, FirstVerdictLines, FirstEventLines}
 use Rattle.er_program.specs.declared.status.Status.{Status}
 use Rattle.er_program.specs.declared.halt.Halt.{Halt}
@@ -162,6 +163,7 @@ IsGiven (Drill name) files c d a = IsReadAnswer name files c d a
 IsGiven (Bits name) files c d a = IsBitsAnswer name files c d a
 IsGiven (Migrate keys) files c d a = IsMigrateAnswer keys files c d a
 IsGiven (Replay keys trace) files c d a = IsReplayWordsAnswer keys trace files c d a
+IsGiven (Audit keys tap) files c d a = IsAuditWordsAnswer keys tap files c d a
 IsGiven (Bulk seed count) files c d a = IsBulkAnswer seed count a
 IsGiven (Serve keys address rbc turns) files c d a = ⊥
 IsGiven (Call keys address engine rbc turns) files c d a = ⊥
@@ -196,6 +198,7 @@ IsBegun (Drill name) files text = (text ≡ []) ⊎ StepsBegun name files text
 IsBegun (Bits name) files text = (text ≡ []) ⊎ FirstVerdictLines name files text
 IsBegun (Migrate keys) files text = text ≡ []
 IsBegun (Replay keys trace) files text = (text ≡ []) ⊎ FirstEventLines keys trace files text
+IsBegun (Audit keys tap) files text = (text ≡ []) ⊎ FirstAuditText keys tap files text
 IsBegun (Bulk seed count) files text = text ≡ []
 IsBegun (Serve keys address rbc turns) files text = ⊥
 IsBegun (Call keys address engine rbc turns) files text = ⊥

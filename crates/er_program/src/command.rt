@@ -10,6 +10,9 @@ use er_base::decimal;
 /// The most turns that a loop can be asked for (this profile).
 const MOST_TURNS: u64 = 1_000_000_000;
 
+/// The turns of a loop without a bound: more than can ever be done.
+const NO_BOUND: u64 = u64::MAX;
+
 /// The greatest ETCS number.
 const MOST_ETCS_NUMBER: u64 = 16_777_215;
 
@@ -40,6 +43,13 @@ pub enum Command<'a> {
         /// The name of the trace.
         trace: &'a str,
     },
+    /// `audit KEYS TAP`.
+    Audit {
+        /// The name of the key file.
+        keys: &'a str,
+        /// The name of the tap.
+        tap: &'a str,
+    },
     /// `bulk SEED COUNT`.
     Bulk {
         /// The seed of what is drawn.
@@ -55,7 +65,7 @@ pub enum Command<'a> {
         address: &'a str,
         /// The radio block centre.
         rbc: u32,
-        /// How many turns are done at the most.
+        /// How many turns are done at the most: to 10^9, or 2^64 - 1 where no bound was asked for.
         turns: u64,
     },
     /// `call KEYS ADDRESS ENGINE RBC TURNS`.
@@ -68,7 +78,7 @@ pub enum Command<'a> {
         engine: u32,
         /// The radio block centre that is called.
         rbc: u32,
-        /// How many turns are done at the most.
+        /// How many turns are done at the most: to 10^9, or 2^64 - 1 where no bound was asked for.
         turns: u64,
     },
 }
@@ -84,6 +94,7 @@ impl Command<'_> {
             | Command::Bits { .. }
             | Command::Migrate { .. }
             | Command::Replay { .. }
+            | Command::Audit { .. }
             | Command::Bulk { .. } => false,
             Command::Serve { .. } | Command::Call { .. } => true,
         }
@@ -133,6 +144,11 @@ fn command_of_three<'a>(command: &str, first: &'a str, second: &'a str) -> Comma
             keys: first,
             trace: second,
         }
+    } else if command == "audit" {
+        Command::Audit {
+            keys: first,
+            tap: second,
+        }
     } else if command == "bulk" {
         bulk_of(decimal(first.as_bytes()), decimal(second.as_bytes()))
     } else {
@@ -161,6 +177,9 @@ fn etcs_number(word: &str) -> Option<u32>
 fn turns_number(word: &str) -> Option<u64>
     ensures { result ≡ turns_number word.now }
 {
+    if word == "-" {
+        return Some(NO_BOUND);
+    }
     at_most(MOST_TURNS, decimal(word.as_bytes()))
 }
 

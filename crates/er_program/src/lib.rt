@@ -4,6 +4,7 @@
 //! the order of things: the layers below read, run and print.
 #![tactic(auto)]
 
+mod audit;
 mod bits;
 mod bulk;
 mod calling;
@@ -28,7 +29,7 @@ mod top;
 
 pub use command::{Command, command_from};
 pub use endings::unmade;
-pub use file_cabinet::{FileCabinet, MOST_FILE_OCTETS};
+pub use file_cabinet::{FileCabinet, FileFault, MOST_FILE_OCTETS};
 pub use link_trait::{
     Cabinet, Clock, Failed, FetchFault, MemoryCabinet, MemoryClock, MemorySink, MemoryWires, Sink,
     Wires,

@@ -14,6 +14,7 @@ ghost use Rattle.er_program.specs.OutsideViews.{AsksOne};
 ghost use Rattle.er_program.specs.Statuses.{IsStatusOf, Means, IsIdle, AreAsked, IsComplete, IsRun};
 ghost use Rattle.er_program.specs.Writing.{EndsFile, Ends};
 
+use crate::audit::audit_run;
 use crate::bits::bits_run;
 use crate::bulk::bulk_run;
 use crate::calling::call_run;
@@ -92,6 +93,7 @@ fn answered<F: Cabinet, K: Sink>(
         Command::Bits { name } => bits_run(alloc, name, cabinet, sink),
         Command::Migrate { keys } => migrate_run(alloc, keys, cabinet, sink),
         Command::Replay { keys, trace } => replay_run(alloc, keys, trace, cabinet, sink),
+        Command::Audit { keys, tap } => audit_run(alloc, keys, tap, cabinet, sink),
         Command::Bulk { seed, count } => bulk_run(alloc, seed, count, sink),
         Command::Serve { .. } | Command::Call { .. } => unreachable!(),
     }
@@ -187,6 +189,7 @@ fn line_answered<F: Cabinet, K: Sink, W: Wires, C: Clock, R: Rng>(
         | Command::Bits { .. }
         | Command::Migrate { .. }
         | Command::Replay { .. }
+        | Command::Audit { .. }
         | Command::Bulk { .. } => unreachable!(),
     }
 }
@@ -238,21 +241,24 @@ fn dispatched<F: Cabinet, K: Sink, W: Wires, C: Clock, R: Rng>(
 /// and prints a line for each verdict as soon as it comes, and then how many bits and frames there are. `migrate KEYS`
 /// fetches the key file KEYS and prints one of version 2 that has its entries, one by one in order. `replay KEYS TRACE`
 /// fetches the key file KEYS and, where it is good, the trace TRACE, gives its events to ends of their own again, and
-/// prints its text anew: each event with what came of it, as soon as it is done. `bulk SEED COUNT` does the steps that
-/// are drawn from SEED for COUNT messages, at most 10,000, and prints their totals in one line.
+/// prints its text anew: each event with what came of it, as soon as it is done. `audit KEYS TAP` fetches the key file
+/// KEYS and, where it is good, the tap TAP, and prints a line for each text that is heard of its links: what it is, and
+/// whether it is good. `bulk SEED COUNT` does the steps that are drawn from SEED for COUNT messages, at most 10,000, and
+/// prints their totals in one line.
 ///
 /// `serve KEYS ADDRESS RBC TURNS` fetches the key file KEYS, listens at ADDRESS as the radio block centre RBC, and serves
 /// each connection with one of the users, the last first, for TURNS turns at the most. `call KEYS ADDRESS ENGINE RBC TURNS`
 /// fetches the key file, asks the clock once for the moment at which the pair's key is to hold, dials ADDRESS and calls as
 /// ENGINE with the last of the users. Both go by the usual settings and print what happens as a trace. The statuses:
 ///
-/// - 0: the file was read to its end, all its steps or events are done and all was printed.
+/// - 0: the files were read to their end, all their steps or events are done and all was printed.
 /// - 1: the words fit no command; `! usage` is printed.
 /// - 2: the fetch of a file failed; `! fetch NAME` is printed, with the file's name.
 /// - 3: the file is out of its grammar; `! line LINE WHY` is printed alone. A recorded line is too long: `! line 0 long`.
 ///   Or a step is refused; behind the lines of the steps before it, `! line LINE nolink`, `! line LINE twice` or
 ///   `! line LINE back` is printed. Or an event of a trace is refused; behind the text of the events before it,
-///   `! line LINE` is printed with `noconn`, `twice`, `back`, `nokey` or `many`.
+///   `! line LINE` is printed with `noconn`, `twice`, `back`, `nokey` or `many`. Or a line of a tap names a link that no
+///   line before it opened, or opens one twice; `! line LINE nolink` or `! line LINE twice` is printed alone.
 /// - 4: the key file is refused; `! keys` is printed with its first fault, as `! keys twice 1 2`. Or the pair of a call
 ///   has no key that holds; `! keys none E R` is printed.
 /// - 5: a write to the sink failed, in place of any other status; nothing is written after it.

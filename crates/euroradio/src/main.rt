@@ -1,21 +1,36 @@
 //! The program: it makes the real objects, lets the top call do what the words ask for, and ends with its status.
 #![tactic(auto)]
 
+mod counting_sink;
+mod ears;
 mod objects;
+mod streams;
+mod tally;
+mod telling;
+mod telling_wires;
 
+use crate::counting_sink::CountingSink;
 use crate::objects::position_reports;
+use crate::streams::stand_ins;
+use crate::tally::Tally;
+use crate::telling_wires::TellingWires;
 use er_base::NoMemory;
 use er_program::{
-    Command, FileCabinet, MachineClock, Sink, Status, StdoutSink, command_from, run, run_off_line,
-    unmade,
+    Clock, Command, FileCabinet, MachineClock, Sink, Status, StdoutSink, command_from, run,
+    run_off_line, unmade,
 };
 use er_users::{Echo, SafeUser};
 use mio_wires::MioWires;
 use rand::make_rng;
 use rand_chacha::ChaCha20Rng;
-use readiness_loop::MOST_LIVE;
 use std::process::ExitCode;
 use std::{env, io};
+
+// The connections that `serve` serves in its life, one user each.
+const MOST_SERVED: usize = 65_536;
+
+// How long the end of `serve` or `call` waits for peers to close, in milliseconds.
+const MOST_LINGER: u64 = 2_000;
 
 // The words behind the program's name, or None where they aren't UTF-8.
 fn words(rt: &HostRuntime) -> Result<Option<Vec<String>>, NoMemory> {
@@ -37,10 +52,14 @@ fn on_line<K: Sink>(
 ) -> Option<Status> {
     let mut cabinet = FileCabinet::new(rt);
     let mut clock = MachineClock::new(rt);
-    let mut wires = MioWires::new(rt.alloc(), rt).ok()?;
+    let mut wires = TellingWires {
+        wires: MioWires::new(rt.alloc(), rt).ok()?,
+        rt,
+    };
+    wires.wires.keep_time(clock.now());
     let seeded: io::Result<ChaCha20Rng> = make_rng(&rt);
     let mut randoms = seeded.ok()?;
-    Some(run(
+    let status = run(
         rt.alloc(),
         words,
         &mut cabinet,
@@ -49,7 +68,11 @@ fn on_line<K: Sink>(
         &mut clock,
         &mut randoms,
         users,
-    ))
+    );
+    telling::unfetched(rt, status, cabinet.why());
+    telling::wires(rt, status, wires.wires.fault());
+    wires.wires.finish(MOST_LINGER);
+    Some(status)
 }
 
 // `serve`: the users of a radio block centre say every message back. (Users are made where they are handed to the run: a function that gave them
@@ -60,8 +83,8 @@ fn serve<K: Sink>(
     sink: &mut K,
 ) -> Result<Option<Status>, NoMemory> {
     let alloc = rt.alloc();
-    let mut users: Vec<Box<dyn SafeUser>> = Vec::with_capacity(alloc, MOST_LIVE)?;
-    for _ in 0..MOST_LIVE {
+    let mut users: Vec<Box<dyn SafeUser>> = Vec::with_capacity(alloc, MOST_SERVED)?;
+    for _ in 0..MOST_SERVED {
         let user: Box<dyn SafeUser> = Box::new(alloc, Echo::new())?;
         users.push(user)?;
     }
@@ -81,33 +104,72 @@ fn call<K: Sink>(
     Ok(on_line(rt, words, users, sink))
 }
 
-// What the words ask for. None where the objects can't be made.
-fn answered<K: Sink>(rt: HostRuntime, words: &[String], sink: &mut K) -> Option<Status> {
+// What a command without wires asks for.
+fn off_line<K: Sink>(rt: HostRuntime, words: &[String], sink: &mut K) -> Option<Status> {
+    let command = command_from(words);
+    if command.needs_wires() {
+        return None;
+    }
+    let mut cabinet = FileCabinet::new(rt);
+    let status = run_off_line(rt.alloc(), &command, &mut cabinet, sink);
+    telling::unfetched(rt, status, cabinet.why());
+    if matches!(command, Command::Misused) {
+        telling::usage(rt, words);
+    }
+    Some(status)
+}
+
+// What the words ask for, and what is told of it. None where the objects can't be made.
+fn answered<K: Sink + Drop>(
+    rt: HostRuntime,
+    words: &[String],
+    sink: &mut CountingSink<K>,
+) -> Option<Status> {
     let command = command_from(words);
     if !command.needs_wires() {
-        let mut cabinet = FileCabinet::new(rt);
-        return Some(run_off_line(rt.alloc(), &command, &mut cabinet, sink));
+        return off_line(rt, words, sink);
     }
-    match command {
-        Command::Call { .. } => call(rt, words, sink).ok()?,
-        _ => serve(rt, words, sink).ok()?,
+    let is_call = matches!(command, Command::Call { .. });
+    sink.tally = Some(Tally::new(rt.alloc()).ok()?);
+    let status = if is_call {
+        call(rt, words, sink).ok()??
+    } else {
+        serve(rt, words, sink).ok()??
+    };
+    if let Some(tally) = &sink.tally {
+        telling::counted(rt, status, tally);
+        if is_call && status.0 == 0 {
+            telling::called(rt, tally);
+        }
     }
+    Some(status)
 }
 
 fn status(rt: HostRuntime) -> Status {
-    let mut sink = StdoutSink::new(io::writer(&rt));
+    let mut sink = CountingSink {
+        sink: StdoutSink::new(io::writer(&rt)),
+        tally: None,
+    };
     let answer = match words(&rt) {
         Ok(Some(words)) => answered(rt, words.as_slice(), &mut sink),
         // Words that aren't UTF-8 fit no command.
         Ok(None) => answered(rt, &[], &mut sink),
         Err(_want) => None,
     };
-    match answer {
+    let status = match answer {
         Some(status) => status,
         None => unmade(&mut sink),
-    }
+    };
+    telling::unwritten(rt, status);
+    status
 }
 
 fn main(rt: HostRuntime) -> ExitCode {
-    ExitCode::from(status(rt).0)
+    let Some(stand_ins) = stand_ins(rt) else {
+        telling::closed(rt);
+        return ExitCode::from(5);
+    };
+    let status = status(rt);
+    drop(stand_ins);
+    ExitCode::from(status.0)
 }

@@ -1,4 +1,4 @@
-//! A user that leaves, and when it is let go.
+//! A user that leaves, and when it is let go; and one whose texts are too many, and are refused.
 
 ghost use Rattle.std.specs.Prelude.{[], None};
 ghost use Rattle.er_users.specs.Users.{Callers, mind_of};
@@ -8,6 +8,7 @@ use crate::serving::{bring, plan, randoms_behind};
 use crate::train::{CENTRE, Train, keys, put};
 use arrayvec::ArrayVec;
 use er_base::NoMemory;
+use er_end::SendRefused;
 use er_users::{Replies, SafeUser};
 use key_store::KeyStore;
 use link_trait::{Act, Clock, MemorySink, MemoryWires};
@@ -83,11 +84,64 @@ impl SafeUser for Leaver {
     }
 
     #[tactic(auto, unfolding(er_users::specs::Users::said))]
+    fn refused(&mut self, text: &[u8], _why: &SendRefused) {
+        write_down(&self.happened, b"refused ", text);
+    }
+
+    #[tactic(auto, unfolding(er_users::specs::Users::said))]
     fn released(&mut self, reason: u8, sub: u8, by_peer: bool) {
         let by = if by_peer { b'p' } else { b'l' };
         let why = [b'0' + reason % 10, b'0' + sub % 10, by];
         write_down(&self.happened, b"released ", &why);
     }
+}
+
+// A user that says eight texts to each thing that it hears, and that writes down which of them are refused, and why.
+#[derive(Drop)]
+struct Talker {
+    happened: Rc<RefCell<Happened>>,
+}
+
+fn say_eight(out: &mut Replies) {
+    for text in b"ABCDEFGH" {
+        out.say(&[*text]);
+    }
+}
+
+// The words of a refusal in a trace.
+fn words_of(why: &SendRefused) -> &'static [u8] {
+    match why {
+        SendRefused::Released(_) => b" released\n",
+        SendRefused::NotConnected => b" notconnected\n",
+        SendRefused::Length(_) => b" length\n",
+        SendRefused::Full(16) => b" full 16\n",
+        SendRefused::Full(_) => b" full\n",
+    }
+}
+
+impl SafeUser for Talker {
+    ghost mind = { λ _. mind_of Callers [] };
+
+    #[tactic(auto, unfolding(er_users::specs::Users::said))]
+    fn connected(&mut self, _peer: u32, out: &mut Replies) {
+        say_eight(out);
+    }
+
+    #[tactic(auto, unfolding(er_users::specs::Users::said))]
+    fn message(&mut self, _text: &[u8], out: &mut Replies) {
+        say_eight(out);
+    }
+
+    #[tactic(auto, unfolding(er_users::specs::Users::said))]
+    fn refused(&mut self, text: &[u8], why: &SendRefused) {
+        if let Ok(mut happened) = self.happened.try_borrow_mut() {
+            put(&mut happened, text);
+            put(&mut happened, words_of(why));
+        }
+    }
+
+    #[tactic(auto, unfolding(er_users::specs::Users::said))]
+    fn released(&mut self, _reason: u8, _sub: u8, _by_peer: bool) {}
 }
 
 // A train is accepted, and speaks for so many rounds.
@@ -104,10 +158,11 @@ fn acts(alloc: Global, keys: &KeyStore) -> Result<Vec<Act>, NoMemory> {
     Ok(acts)
 }
 
-// What is printed of the train, while what happens is written down.
+// What is printed of the train and this user, while what happens is written down.
 fn printed(
     alloc: Global,
     keys: &KeyStore,
+    user: Box<dyn SafeUser>,
     happened: &Rc<RefCell<Happened>>,
 ) -> Result<MemorySink, Fail> {
     let mut wires = MemoryWires::new(alloc, acts(alloc, keys)?, 65_536, 1_000, 65_536)?;
@@ -117,14 +172,7 @@ fn printed(
     let mut sink = MemorySink::with_capacity(alloc, 65_536)?;
     let mut randoms = randoms_behind(0);
     let mut users: Vec<Box<dyn SafeUser>> = Vec::new(alloc);
-    let happened = happened.clone()?;
-    users.push(Box::new(
-        alloc,
-        Leaver {
-            messages: 0,
-            happened,
-        },
-    )?)?;
+    users.push(user)?;
     serve(
         alloc,
         keys,
@@ -140,16 +188,22 @@ fn printed(
     Ok(sink)
 }
 
-// Whether the part stands in the text.
-fn has(text: &[u8], part: &[u8]) -> bool {
+// How often the part stands in the text.
+fn count_of(text: &[u8], part: &[u8]) -> u16 {
+    let mut count: u16 = 0;
     let mut rest = text;
     for _ in 0..text.len() {
         if rest.starts_with(part) {
-            return true;
+            count = count.saturating_add(1);
         }
         rest = rest.get(1..).unwrap_or(&[]);
     }
-    false
+    count
+}
+
+// Whether the part stands in the text.
+fn has(text: &[u8], part: &[u8]) -> bool {
+    count_of(text, part) > 0
 }
 
 #[test]
@@ -157,7 +211,11 @@ fn a_user_that_leaves_is_let_go_before_the_next_turn(rt: HostRuntime) -> Result<
     let alloc = rt.alloc();
     let keys = keys(alloc)?;
     let happened = Rc::new(alloc, RefCell::new(Happened::new()))?;
-    let sink = printed(alloc, &keys, &happened)?;
+    let leaver = Leaver {
+        messages: 0,
+        happened: happened.clone()?,
+    };
+    let sink = printed(alloc, &keys, Box::new(alloc, leaver)?, &happened)?;
     let lines = lines_of(alloc, sink.held(), b"1")?;
     assert!(rt; has(lines.as_slice(), b"> release 0\n"));
     let happened = happened.try_borrow()?;
@@ -167,5 +225,38 @@ fn a_user_that_leaves_is_let_go_before_the_next_turn(rt: HostRuntime) -> Result<
             b"message position-report-00000002\nreleased 00l\nlet go\nasked\n"
         )
     );
+    Ok(())
+}
+
+// Each text of a user that is refused, as a trace has it, and as the user writes it down.
+const REFUSED: [(&[u8], &[u8]); 8] = [
+    (b"> send 41\n< refused full 16\n", b"A full 16\n"),
+    (b"> send 42\n< refused full 16\n", b"B full 16\n"),
+    (b"> send 43\n< refused full 16\n", b"C full 16\n"),
+    (b"> send 44\n< refused full 16\n", b"D full 16\n"),
+    (b"> send 45\n< refused full 16\n", b"E full 16\n"),
+    (b"> send 46\n< refused full 16\n", b"F full 16\n"),
+    (b"> send 47\n< refused full 16\n", b"G full 16\n"),
+    (b"> send 48\n< refused full 16\n", b"H full 16\n"),
+];
+
+#[test]
+fn a_user_hears_which_of_its_texts_are_refused(rt: HostRuntime) -> Result<(), Fail> {
+    let alloc = rt.alloc();
+    let keys = keys(alloc)?;
+    let happened = Rc::new(alloc, RefCell::new(Happened::new()))?;
+    let talker = Talker {
+        happened: happened.clone()?,
+    };
+    let sink = printed(alloc, &keys, Box::new(alloc, talker)?, &happened)?;
+    let lines = lines_of(alloc, sink.held(), b"1")?;
+    let happened = happened.try_borrow()?;
+    for (printed, heard) in REFUSED {
+        assert_eq!(rt;
+            count_of(lines.as_slice(), printed),
+            count_of(happened.as_slice(), heard)
+        );
+    }
+    assert!(rt; has(happened.as_slice(), b"G full 16\nH full 16\n"));
     Ok(())
 }

@@ -9,6 +9,7 @@ use crate::serving::{randoms_behind, serve_in_memory};
 use crate::train::{Train, keys, put};
 use arrayvec::ArrayVec;
 use er_base::NoMemory;
+use er_end::SendRefused;
 use er_users::{Lister, Replies, SafeUser};
 use key_store::KeyStore;
 use rand_core::Rng;
@@ -55,6 +56,11 @@ impl SafeUser for Witness {
     fn message(&mut self, text: &[u8], out: &mut Replies) {
         write_down(&self.heard, self.name, b"message ", text);
         out.say(text);
+    }
+
+    #[tactic(auto, unfolding(er_users::specs::Users::said))]
+    fn refused(&mut self, text: &[u8], _why: &SendRefused) {
+        write_down(&self.heard, self.name, b"refused ", text);
     }
 
     #[tactic(auto, unfolding(er_users::specs::Users::said))]

@@ -8,7 +8,7 @@ use Rattle.link_trait.specs.declared.wires.WriteAnswer.{WriteAnswer}
 use Rattle.trace_model.specs.Checks.{names, role_of}
 use Rattle.loop_model.specs.Journals.{Entry}
 use Rattle.loop_model.specs.Outs.{Out, runs, acts, exactly, first_of}
-use Rattle.loop_model.specs.Sessions.{Rules, Session, is_released, most_output, Given, Begins, Hears, Sends, Takes, Leaves, Ticks, Ends, Faults, Stalls, written, breaks, end_after, outcomes_of, entry_of, octets_in, joined, fed, heard_in, leave_of, sends_of, hears, silence, dealt, waiting, takes_all, Says, nothing_said, handled}
+use Rattle.loop_model.specs.Sessions.{Rules, Session, is_released, most_output, Given, Begins, Hears, Sends, Takes, Leaves, Ticks, Ends, Faults, Stalls, written, breaks, end_after, outcomes_of, entry_of, octets_in, joined, fed, replied, heard_in, leave_of, sends_of, hears, silence, dealt, waiting, takes_all, Says, nothing_said, handled}
 use Rattle.loop_model.specs.Visits.{Flow, Going, PutOff, Failing, writes_if, writes_once, writes, fault_unless, flowed, written_unless, Wrote, settled, rests, Met, served}
 use Rattle.loop_model.specs.Visits as visits
 use Rattle.loop_model.specs.Openings.{openings}
@@ -123,14 +123,25 @@ module _ (r : Rules) (m : ℕ) where
       let octets = octets_in (outcomes_of model_ends r m s.end g) in
       record { rest = (joined model_ends r m t octets).1; is = refl; none = joined_none t octets }
 
+  replied_first : (s : Session ModelEnd) (g : Given) → IsFirst (entry_of model_ends r m s g) (replied model_ends r m s g).1
+  replied_first s (Begins engine rbc rb) = fed_first s (Begins engine rbc rb)
+  replied_first s (Hears octets) = fed_first s (Hears octets)
+  replied_first s (Sends text) = fed_first s (Sends text)
+  replied_first s Takes = fed_first s Takes
+  replied_first s (Leaves sub) = fed_first s (Leaves sub)
+  replied_first s Ticks = fed_first s Ticks
+  replied_first s Ends = fed_first s Ends
+  replied_first s Faults = fed_first s Faults
+  replied_first s Stalls = fed_first s Stalls
+
   dealt_first : (s : Session ModelEnd) (g : Given) (free : Said) → IsFirst (entry_of model_ends r m s g) (dealt model_ends r m s g free).1
   unfolding dealt
   dealt_first s g free =
       let a = fed model_ends r m s g in
       let heard = heard_in (outcomes_of model_ends r m s.end g) in
       let b = hears s.mind heard free in
-      first_more (entry_of model_ends r m s g) a.1 (runs (fed model_ends r m) (record a.0 { mind = b.0 }) b.1).1 (fed_first s g)
-      (runs_none (fed model_ends r m) IsOfEnd (λ t h fits. first_none (entry_of model_ends r m t h) (fed model_ends r m t h).1 (fed_first t h) (unnamed t.end h fits)) (record a.0 { mind = b.0 }) b.1
+      first_more (entry_of model_ends r m s g) a.1 (runs (replied model_ends r m) (record a.0 { mind = b.0 }) b.1).1 (fed_first s g)
+      (runs_none (replied model_ends r m) IsOfEnd (λ t h fits. first_none (entry_of model_ends r m t h) (replied model_ends r m t h).1 (replied_first t h) (unnamed t.end h fits)) (record a.0 { mind = b.0 }) b.1
       (replies_fit s.mind heard free))
 
   takes_none : (s : Session ModelEnd) (frees : List Said) → openings (takes_all model_ends r m s frees).1 ≡ []

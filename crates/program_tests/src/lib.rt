@@ -6,6 +6,8 @@
 #[cfg(test)]
 mod outside;
 #[cfg(test)]
+mod program_audits;
+#[cfg(test)]
 mod program_bits;
 #[cfg(test)]
 mod program_off_line;
