@@ -259,7 +259,7 @@ served() {
   local recording=$1 port server status
   shift
   port=$(free_port)
-  "$program" serve "$keys" "127.0.0.1:$port" 9 10000000 > "$work/served" &
+  "$program" serve "$keys" "127.0.0.1:$port" 9 10000000 > "$work/served" 2> /dev/null &
   server=$!
   started="$started $server"
   for _ in $(seq 100); do
@@ -283,7 +283,7 @@ called() {
   started="$started $centre"
   for _ in $(seq 100); do
     # while the centre doesn't listen yet, dialling fails, or the connection does
-    timeout 60 "$program" call "$keys" "127.0.0.1:$port" 5 9 100000 > "$work/called"
+    timeout 60 "$program" call "$keys" "127.0.0.1:$port" 5 9 100000 > "$work/called" 2> /dev/null
     status=$?
     ! grep -q '^< 1 connected' "$work/called" || break
     sleep 0.1

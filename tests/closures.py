@@ -31,9 +31,11 @@ CLAIMS = [
     ("The loop: `serve` and `dial`", "readiness_loop/specs/Claims"),
     ("The loop's journal: `lawful`", "loop_model/specs/Lawful"),
     ("`serve` and `call` of `run`", "er_program/specs/LineRuns"),
+    ("`audit` of `run`", "er_program/specs/AuditRuns"),
     ("`run`: every status of every command", "er_program/specs/Statuses"),
     ("What is heard of a tapped stream, and the verdicts", "tap_model/specs/Audits"),
     ("What an end was given is heard", "tap_model/specs/Given"),
+    ("An audit finds what was accepted", "tap_laws/specs/Worlds"),
     ("Calls on one handle in C", "er_end_c/specs/Runs"),
 ]
 # Files that are marked `-- Representation:` and named by an exported clause all the same: docs/CLAIMS.md tells them.

@@ -16,7 +16,10 @@ rbc = 9
 kmac = "0123456789abcdef23456789abcdef01456789abcdef0123"
 """
 LAST = b"! memory\n"
-SAMPLE = [1, 2, 3, 5, 8, 13, 21, 34, 55, 89, 144, 233, 377, 610]
+# The boxes of the users are grown one after the other, all alike, before anything else of the loop.
+USERS = 65_536
+SAMPLE = [1, 2, 3, 5, 8, 13, 21, 34] + [USERS + n for n in (0, 1, 2, 3, 5, 8, 13, 21, 34, 55, 89, 144, 233, 377, 610)]
+ALL = [*range(1, 20), *range(USERS - 10, USERS + 100_000)]
 keys = os.path.join(work, "keys")
 mark = os.path.join(work, "refused")
 trace = os.path.join(work, "trace")
@@ -45,14 +48,14 @@ def served(number):
     port = free_port()
     address = f"127.0.0.1:{port}"
     environment = dict(os.environ, LD_PRELOAD=shim, REFUSE=str(number), REFUSED=mark)
-    server = subprocess.Popen([program, "serve", keys, address, "9", "60"], stdout=subprocess.PIPE, env=environment)
+    server = subprocess.Popen([program, "serve", keys, address, "9", "60"], stdout=subprocess.PIPE, stderr=subprocess.DEVNULL, env=environment)
     for _ in range(200):
         if server.poll() is not None or is_listening(port):
             break
         time.sleep(0.01)
     trains = 0
     while server.poll() is None and trains < 40:
-        subprocess.run([program, "call", keys, address, "5", "9", "200"], stdout=subprocess.DEVNULL, timeout=60)
+        subprocess.run([program, "call", keys, address, "5", "9", "200"], stdout=subprocess.DEVNULL, stderr=subprocess.DEVNULL, timeout=60)
         trains += 1
     text, _ = server.communicate(timeout=60)
     return server.returncode, text, os.path.exists(mark)
@@ -69,7 +72,7 @@ def is_beginning(text):
 
 
 refused = borne = failed = 0
-for number in SAMPLE if which == "sample" else range(1, 100_000):
+for number in SAMPLE if which == "sample" else ALL:
     status, text, came = served(number)
     if not came:
         if status != 0 or not is_beginning(text):

@@ -58,10 +58,10 @@ for example in examples/*; do
   fi
 done
 
-# The tour: the first block of README behind its heading is a drill file, the second what it prints.
+# The tour: the first block of README behind its heading is a drill file, the third what it prints.
 work=$(mktemp -d)
 awk -v work="$work" '/^## A tour/ { tour = 1 } tour && /^```/ { fence++; next }
-  tour && fence == 1 { print > (work "/scenario") } tour && fence == 3 { print > (work "/stdout") } fence > 3 { exit }' README.md
+  tour && fence == 1 { print > (work "/scenario") } tour && fence == 5 { print > (work "/stdout") } fence > 5 { exit }' README.md
 echo 0 > "$work/status"
 judge "README's tour" "$work" drill scenario
 rm -rf "$work"

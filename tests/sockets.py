@@ -1,4 +1,5 @@
-"""One `serve` and many clients on the loopback address; what each train and the recording must show. Then one whose peer never reads."""
+"""One `serve` and many clients on the loopback address; what each train and the recording must show. Then one whose peer never reads, and peers that
+send much at once, shut their side or are said farewell to."""
 
 import os
 import re
@@ -7,6 +8,10 @@ import subprocess
 import sys
 import tempfile
 import time
+
+sys.dont_write_bytecode = True
+
+from serving import parts_of, replays_to_itself  # noqa: E402
 
 program = sys.argv[1]
 REPORTS = [f"position-report-{n:08}".encode().hex() for n in (1, 2, 3)]
@@ -59,7 +64,7 @@ def serving(work, turns):
     address = f"127.0.0.1:{port}"
     recording = os.path.join(work, "recording")
     with open(recording, "wb") as out:
-        server = subprocess.Popen([program, "serve", keys, address, "9", turns], stdout=out)
+        server = subprocess.Popen([program, "serve", keys, address, "9", turns], stdout=out, stderr=subprocess.DEVNULL)
     for _ in range(100):
         try:
             return server, connected(port), recording, port
@@ -90,6 +95,62 @@ def never_reads():
         deaf.close()
 
 
+def frame(address, control):
+    """A frame without information."""
+    check_sequence = 0xFFFF
+    for octet in (address, control):
+        check_sequence ^= octet
+        for _ in range(8):
+            check_sequence = check_sequence >> 1 ^ (0x8408 if check_sequence & 1 else 0)
+    return bytes((0x7E, address, control)) + (check_sequence ^ 0xFFFF).to_bytes(2, "little") + b"\x7e"
+
+
+def heard(client, most):
+    """What a client hears until the server has closed, at most so many octets, and whether it closed without a reset."""
+    got = b""
+    try:
+        while len(got) < most:
+            piece = client.recv(min(most - len(got), 65_536))
+            if not piece:
+                return got, True
+            got += piece
+    except OSError:
+        return got, False
+    return got, False
+
+
+def farewells():
+    """What is said at the end arrives: to one that sent 5,000 octets at once, one that shut its side, and one that goes on sending behind the release."""
+    sabm, ua, disc = frame(0x01, 0x3F), frame(0x01, 0x73), frame(0x01, 0x53)
+    with tempfile.TemporaryDirectory() as work:
+        server, probe, recording, port = serving(work, "1000000")
+        much = connected(port)
+        much.sendall(sabm * 834)
+        got, _ = heard(much, 6 * 834)
+        check(got == ua * 834, f"5,004 octets at once are all answered: {len(got)}")
+        half = connected(port)
+        half.sendall(sabm)
+        half.shutdown(socket.SHUT_WR)
+        got, closed = heard(half, 1_000)
+        check(got[:6] == ua and closed, f"one that shut its side is answered, and then closed: {got.hex()} {closed}")
+        late = connected(port)
+        late.sendall(sabm + disc)
+        time.sleep(0.3)
+        late.sendall(sabm * 200)
+        time.sleep(0.3)
+        got, closed = heard(late, 1_000)
+        check(got[:6] == ua and len(got) > 6 and closed, f"the answer to a release arrives, whatever comes behind it: {got.hex()} {closed}")
+        begun = time.monotonic()
+        other = connected(port)
+        other.sendall(sabm)
+        got, _ = heard(other, 6)
+        check(got == ua and time.monotonic() - begun < 1, "a connection that leaves holds nobody up")
+        for client in (probe, much, half, late, other):
+            client.close()
+        server.terminate()
+        server.wait()
+
+
 def is_train(told):
     """A whole session of a train: connected, three reports sent, each echoed, taken in order, then the user's release."""
     taken = [w.split()[1] for w in told if w.startswith("taken ")]
@@ -115,7 +176,7 @@ with tempfile.TemporaryDirectory() as work:
     alone_told = events_of(alone.stdout.decode(), "1")
     check(alone.returncode == 0 and is_train(alone_told), f"a train alone: {alone.returncode} {alone_told}")
     trains = [
-        subprocess.Popen([program, "call", keys, address, "5", "9", "10000"], stdout=subprocess.PIPE) for _ in range(10)
+        subprocess.Popen([program, "call", keys, address, "5", "9", "10000"], stdout=subprocess.PIPE, stderr=subprocess.DEVNULL) for _ in range(10)
     ]
     for n, train in enumerate(trains):
         text = train.communicate(timeout=60)[0].decode()
@@ -143,7 +204,11 @@ with tempfile.TemporaryDirectory() as work:
     check(all("connected 5" in t and t[-1].startswith("released 0 0 peer") for t in whole), "each of them connected and left")
     again = subprocess.run([program, "replay", keys, recording], capture_output=True, timeout=60)
     check(again.returncode == 0 and again.stdout == text, "the recording replays to itself")
+    parts, told = parts_of(recording, os.path.join(work, "parts"))
+    check(len(parts) == 15 and told == [], f"fifteen parts, and nothing left out: {len(parts)} {told}")
+    check(replays_to_itself(program, keys, parts), "each part replays to itself")
 
 never_reads()
+farewells()
 print(f"{checks} checks, {failed} failed")
 sys.exit(1 if failed else 0)

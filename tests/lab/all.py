@@ -1,4 +1,4 @@
-"""All tests of the laboratory's decoder and captures. Usage: all.py PROGRAM. Closes with 'N passed, M failed'."""
+"""All tests of the laboratory's decoder, captures and split recordings. Usage: all.py PROGRAM. Closes with 'N passed, M failed'."""
 import os
 import sys
 
@@ -10,6 +10,7 @@ import capture_tests  # noqa: E402
 import decoder_tests  # noqa: E402
 import product_tests  # noqa: E402
 import recorded_tests  # noqa: E402
+import recording_tests  # noqa: E402
 import sources_tests  # noqa: E402
 import vector_tests  # noqa: E402
 from judge import Judge  # noqa: E402
@@ -22,10 +23,12 @@ def main():
     decoder_tests.run(judge)
     sources_tests.run(judge)
     recorded_tests.run(judge)
+    recording_tests.run(judge)
     built = os.access(program, os.X_OK)
     judge.same(f"{program} is built", built, True)
     if built:
         capture_tests.run(judge, program)
+        recording_tests.against(judge, program)
         product_tests.run(judge, program)
         vector_tests.run(judge, program)
     return judge.close()

@@ -193,6 +193,39 @@ def _arguments(forms, words):
     raise BadWord(f"{name} with other words than it takes: {' '.join(words[1:])[:40]}")
 
 
+def trace_header(words):
+    """The settings that the first line of a trace tells, by their names."""
+    if words[:2] != ["trace", "1"] or len(words) != 8:
+        raise BadWord("no header of a trace: `trace 1` and six numbers are wanted")
+    return dict(zip(SETTINGS, map(decimal, words[2:])))
+
+
+@dataclass(frozen=True)
+class TraceLine:
+    """A line of a trace behind its header: an event at a moment, or an outcome, which has no moment of its own."""
+
+    moment: Optional[int]
+    conn: int
+    word: str
+    words: tuple
+    octets: bytes
+
+
+def trace_line(words):
+    """What a line of a trace tells that begins with `>` or `<`."""
+    is_event = words[0] == ">"
+    at = 3 if is_event else 2
+    kind, table = ("an event", EVENTS) if is_event else ("an outcome", OUTCOMES)
+    if len(words) <= at:
+        raise BadWord(f"{kind} without its word")
+    if words[at] not in table:
+        raise BadWord(f"no word of {kind}: {words[at][:40]}")
+    moment = decimal(words[1], LAST_MOMENT) if is_event else None
+    conn = decimal(words[at - 1])
+    forms = [EVENTS[words[at]]] if is_event else OUTCOMES[words[at]]
+    return TraceLine(moment, conn, words[at], tuple(words[at + 1:]), _arguments(forms, words[at:]))
+
+
 class _Reader:
     """What the three readers share: the links by their numbers."""
 
@@ -255,41 +288,24 @@ class _TraceReader(_Reader):
             self.begun = True
             if self._header(words):
                 return
-        if words[0] == ">":
-            self._event(number, words)
-        elif words[0] == "<":
-            self._outcome(number, words)
+        if words[0] in (">", "<"):
+            self._told(number, words)
         elif words[0] == "!":
             self.reading.notes.append(Item(number, OUTCOME, None, "!", tuple(words[1:])))
         else:
             raise BadWord(f"no line of a trace: {words[0][:40]}")
 
     def _header(self, words):
-        if words[0] == "trace" and words[1:2] == ["1"] and len(words) == 8:
-            self.reading.settings = dict(zip(SETTINGS, map(decimal, words[2:])))
-            return True
         if words[0] == "trace":
-            raise BadWord("no header of a trace: `trace 1` and six numbers are wanted")
+            self.reading.settings = trace_header(words)
+            return True
         return False
 
-    def _event(self, number, words):
-        if len(words) < 4:
-            raise BadWord("an event without its word")
-        if words[3] not in EVENTS:
-            raise BadWord(f"no word of an event: {words[3][:40]}")
-        moment, conn = decimal(words[1], LAST_MOMENT), decimal(words[2])
-        octets = _arguments([EVENTS[words[3]]], words[3:])
-        self.moment = moment
-        self._add(number, conn, False, words[3], tuple(words[4:]), octets)
-
-    def _outcome(self, number, words):
-        if len(words) < 3:
-            raise BadWord("an outcome without its word")
-        if words[2] not in OUTCOMES:
-            raise BadWord(f"no word of an outcome: {words[2][:40]}")
-        conn = decimal(words[1])
-        octets = _arguments(OUTCOMES[words[2]], words[2:])
-        self._add(number, conn, True, words[2], tuple(words[3:]), octets)
+    def _told(self, number, words):
+        told = trace_line(words)
+        if told.moment is not None:
+            self.moment = told.moment
+        self._add(number, told.conn, told.moment is None, told.word, told.words, told.octets)
 
     def _add(self, number, conn, own, name, words, octets):
         fresh = conn not in self.by_number

@@ -1,0 +1,233 @@
+"""Days of operation of the built program: the wall clock is set, 300 trains come one after the other, turns have no bound, limits of the system
+are met, and what is told on the standard error."""
+
+import os
+import re
+import resource
+import signal
+import socket
+import subprocess
+import sys
+import threading
+import time
+
+program, work = sys.argv[1:]
+shim = os.path.join(work, "clock.so")
+KMAC = "0123456789abcdef23456789abcdef01456789abcdef0123"
+KEYS = f'version = 1\n\n[[key]]\nengine = 5\nrbc = 9\nkmac = "{KMAC}"\n'
+REPORTS = [f"position-report-{n:08}" for n in (1, 2, 3)]
+passed = failed = 0
+
+
+def check(holds, what):
+    global passed, failed
+    if holds:
+        passed += 1
+    else:
+        failed += 1
+        print("failed:", what)
+
+
+def path(name):
+    return os.path.join(work, name)
+
+
+keys = path("keys")
+with open(keys, "w") as f:
+    f.write(KEYS)
+
+
+def ended(words, **more):
+    """The status, the standard output and the standard error of a run."""
+    done = subprocess.run([program, *words], capture_output=True, timeout=120, **more)
+    return done.returncode, done.stdout.decode(), done.stderr.decode()
+
+
+class Server:
+    """A `serve` at a port that the system chose, which its standard error tells."""
+
+    def __init__(self, turns, **more):
+        self.recording = path("recording")
+        self.out = open(self.recording, "wb")
+        self.process = subprocess.Popen(
+            [program, "serve", keys, "127.0.0.1:0", "9", turns], stdout=self.out, stderr=subprocess.PIPE, **more
+        )
+        line = self.process.stderr.readline().decode()
+        told = re.fullmatch(r"euroradio: listening at (127\.0\.0\.1:\d+)\n", line)
+        if not told:
+            sys.exit(f"the address isn't told: {line!r}")
+        self.address = told[1]
+
+    def call(self):
+        return ended(["call", keys, self.address, "5", "9", "1000"])
+
+    def kept(self, field):
+        """A line of what the system tells of the process."""
+        with open(f"/proc/{self.process.pid}/status") as f:
+            return next(line.split(":")[1].strip() for line in f if line.startswith(field))
+
+    def end(self, number):
+        """The status and the rest of the standard error, once this signal was sent. None: it ends by itself."""
+        if number is not None:
+            self.process.send_signal(number)
+        rest = self.process.stderr.read().decode()
+        status = self.process.wait(timeout=60)
+        self.out.close()
+        return status, rest
+
+    def replays(self):
+        """Whether the recording is whole lines, and replays to itself."""
+        with open(self.recording, "rb") as f:
+            text = f.read()
+        status, again, _ = ended(["replay", keys, self.recording])
+        return text.endswith(b"\n") and status == 0 and again.encode() == text
+
+
+def secrets(text):
+    """What mustn't be on the standard error: octets of keys, texts and random numbers are long words of hexadecimal digits, a report is text."""
+    return re.findall(r"[0-9a-fA-F]{8,}|position-report", text)
+
+
+# ---- the wall clock is set while a call waits for a peer that says nothing
+
+def silent_call(seconds, results):
+    """A call to a peer that takes octets and says nothing, whose wall clock is set ahead by so many seconds after 1.5 s: when each set-up frame came, and
+    what was recorded."""
+    with socket.socket() as listener:
+        listener.bind(("127.0.0.1", 0))
+        listener.listen()
+        mark = path(f"shifted{seconds}")
+        environment = dict(os.environ, LD_PRELOAD=shim, SHIFT=str(seconds), AFTER="1500", SHIFTED=mark)
+        port = listener.getsockname()[1]
+        call = subprocess.Popen(
+            [program, "call", keys, f"127.0.0.1:{port}", "5", "9", "1000"], stdout=subprocess.PIPE, stderr=subprocess.PIPE, env=environment
+        )
+        line, _ = listener.accept()
+        line.settimeout(12)
+        came = []
+        begun = time.monotonic()
+        try:
+            while got := line.recv(4096):
+                came.append((time.monotonic() - begun, got.hex()))
+        except OSError:
+            pass
+        line.close()
+        text, told = call.communicate(timeout=60)
+    results[seconds] = came, text.decode(), told.decode(), os.path.exists(mark)
+
+
+results = {}
+threads = [threading.Thread(target=silent_call, args=(seconds, results)) for seconds in (-60, 0, 60)]
+for thread in threads:
+    thread.start()
+for thread in threads:
+    thread.join()
+now = int(subprocess.run(["date", "+%s"], capture_output=True, env=dict(os.environ, LD_PRELOAD=shim, SHIFT="60", AFTER="0")).stdout)
+check(55 <= now - time.time() <= 65, "what sets the clock does so")
+for seconds, (came, text, told, looked) in results.items():
+    frames = [at for at, octets in came if octets == "7e013febdf7e"]
+    check(looked, f"the program looks at a clock that was set by {seconds} s")
+    check(len(frames) == 6, f"set by {seconds} s: six set-up frames: {came}")
+    steps = [b - a for a, b in zip(frames, frames[1:])]
+    check(all(0.5 <= step <= 2.5 for step in steps), f"set by {seconds} s: a set-up frame each second: {steps}")
+    check("< 1 released 1 1 local\n" in text, f"set by {seconds} s: given up with 1.1: {text[-200:]}")
+    moments = [int(m) for m in re.findall(r"^> (\d+) ", text, re.M)]
+    check(moments == sorted(moments) and 5_500 <= moments[-1] - moments[0] <= 15_000, f"set by {seconds} s: moments go on: {moments}")
+    check("released, 1.1 local" in told, f"what became of the call is told: {told}")
+
+# ---- no bound of turns, 300 trains one after the other, what a kill leaves
+
+server = Server("-")
+idle = server.kept("VmHWM")
+served = 0
+for _ in range(300):
+    status, text, told = server.call()
+    taken = re.findall(r"^< 1 taken ([0-9a-f]+)$", text, re.M)
+    served += status == 0 and [bytes.fromhex(t).decode() for t in taken] == REPORTS and "released, 0.0 local" in told
+    if secrets(told):
+        check(False, f"a secret on the standard error: {told}")
+check(served == 300, f"300 trains one after the other are served: {served}")
+check(len(os.listdir(f"/proc/{server.process.pid}/fd")) < 20, "their sockets are closed")
+busy = server.kept("VmHWM")
+status, rest = server.end(signal.SIGTERM)
+check(status == -signal.SIGTERM, f"a kill ends the server: {status}")
+check(server.replays(), "what a kill leaves replays to itself")
+print(f"an idle server takes {idle}, after 300 trains {busy}")
+
+# ---- a bound of turns, and the line of counts
+
+server = Server("40")
+for _ in range(8):
+    server.call()
+status, rest = server.end(None)
+check(status == 0 and server.replays(), f"a server ends by its turns: {status}")
+line = rest.splitlines()[-1:] or [""]
+counted = re.match(r"euroradio: connections (\d+), turned away 0, connected (\d+), messages accepted (\d+), said (\d+), refused 0, frames (\d+), bad 0", line[0])
+with open(server.recording) as f:
+    text = f.read()
+for what, word in ((1, r"> \d+ \d+ answer "), (2, r"< \d+ connected "), (3, r"< \d+ accepted "), (4, r"> \d+ \d+ send ")):
+    check(counted and int(counted[what]) == len(re.findall("^" + word, text, re.M)), f"the count of {word!r}: {line}")
+check(not secrets(rest), f"no secret on the standard error: {rest}")
+
+# ---- bad frames are counted: a set-up frame, three whose check sequence doesn't fit, then flags until the turns are done
+
+server = Server("12")
+host, port = server.address.split(":")
+with socket.create_connection((host, int(port))) as line:
+    line.sendall(bytes.fromhex("7e013febdf7e" + "7e01ffffff7e" * 3))
+    for _ in range(200):
+        if server.process.poll() is not None:
+            break
+        try:
+            line.sendall(b"~")
+        except OSError:
+            pass
+        time.sleep(0.02)
+status, rest = server.end(None)
+check(status == 0 and "frames 1, bad 3" in rest, f"bad frames are counted: {status} {rest}")
+
+# ---- an interrupt
+
+server = Server("-")
+server.call()
+status, rest = server.end(signal.SIGINT)
+check(status == -signal.SIGINT and server.replays(), f"an interrupt ends the server, and what it leaves replays: {status}")
+
+# ---- why
+
+with socket.socket() as other:
+    other.bind(("127.0.0.1", 0))
+    other.listen()
+    port = other.getsockname()[1]
+    status, text, told = ended(["serve", keys, f"127.0.0.1:{port}", "9", "1"])
+    check((status, text) == (6, "! wires\n") and "in use" in told, f"an address in use: {status} {told}")
+for address in ("localhost:1", "127.0.0.1:65536", "127.0.0.1", ""):
+    status, text, told = ended(["serve", keys, address, "9", "-"])
+    check((status, text) == (6, "! wires\n") and "no IP address" in told, f"no address {address!r}: {status} {told}")
+status, text, told = ended(["drill", path("nothing")])
+check((status, text) == (2, f"! fetch {path('nothing')}\n") and "No such file" in told, f"no such file: {status} {told}")
+status, text, told = ended(["drill", work])
+check(status == 2 and "directory" in told, f"a folder: {status} {told}")
+with open(path("long"), "wb") as f:
+    f.truncate(33_554_433)
+status, text, told = ended(["replay", keys, path("long")])
+check(status == 2 and "33554432" in told, f"a file that is too long: {status} {told}")
+for words in (["--help"], ["--version"], [], ["serve", keys, "127.0.0.1:0", "9", "--"], ["bulk", "1", "-"], ["serve", keys, "127.0.0.1:0", "9", "1000000001"]):
+    status, text, told = ended(words)
+    check((status, text) == (1, "! usage\n") and told.startswith("euroradio" if words == ["--version"] else "usage: euroradio"), f"{words}: {status} {told[:60]}")
+
+# ---- a file that may not grow: the system kills, unless its signal is ignored
+
+def limited(ignored):
+    def before():
+        signal.signal(signal.SIGXFSZ, signal.SIG_IGN if ignored else signal.SIG_DFL)
+        resource.setrlimit(resource.RLIMIT_FSIZE, (1, 1))
+    with open(path("short"), "wb") as out:
+        return subprocess.run([program, "bulk", "1", "0"], stdout=out, preexec_fn=before, restore_signals=False, timeout=20).returncode
+
+
+check(limited(True) == 5, "a file that may not grow, the signal ignored: 5")
+check(limited(False) in (5, -signal.SIGXFSZ), "a file that may not grow: 5, or the system's signal")
+
+print(f"{passed} passed, {failed} failed")
+sys.exit(1 if failed or not passed else 0)

@@ -1,0 +1,116 @@
+"""How `serve` is run as a service: running.py PROGRAM."""
+
+import os
+import re
+import shlex
+import shutil
+import subprocess
+import sys
+import tempfile
+import time
+
+sys.dont_write_bytecode = True
+
+from serving import KEYS, connected, events_of, free_port, is_listened_at, is_train, parts_of, replays_to_itself  # noqa: E402
+
+program = os.path.abspath(sys.argv[1])
+UNIT = "examples/running/euroradio.service"
+INSTALLED = "/usr/local/bin/euroradio"
+checks = failed = 0
+
+
+def check(holds, what):
+    global checks, failed
+    checks += 1
+    if not holds:
+        failed += 1
+        print("failed:", what)
+
+
+def begun_call(port):
+    return subprocess.Popen([program, "call", keys, f"127.0.0.1:{port}", "5", "9", "100000"], stdout=subprocess.PIPE, stderr=subprocess.DEVNULL)
+
+
+def is_served(call):
+    text = call.communicate(timeout=60)[0].decode()
+    return call.returncode == 0 and is_train(events_of(text, "1"))
+
+
+def unit():
+    """The unit has no word that systemd doesn't know; its command serves, and its recording replays."""
+    if shutil.which("systemd-analyze"):
+        said = subprocess.run(["systemd-analyze", "verify", UNIT], capture_output=True, text=True, check=False).stderr
+        check(os.path.basename(UNIT) not in said, f"systemd-analyze: {said}")
+    else:
+        print("systemd-analyze isn't installed: the unit's words weren't looked at")
+    with open(UNIT) as text:
+        command = re.search(r"^ExecStart=(.*)$", text.read(), re.M)[1]
+    check(command.count(INSTALLED) == 1, "the command names the program once")
+    # What systemd makes of the line: %% is %, $$ is $, and quotes as a shell's.
+    words = shlex.split(command.replace("%%", "%").replace("$$", "$").replace(INSTALLED, shlex.quote(program)))
+    state, port = os.path.join(work, "state"), free_port()
+    os.mkdir(state)
+    environment = dict(os.environ, CREDENTIALS_DIRECTORY=work, STATE_DIRECTORY=state, ADDRESS=f"127.0.0.1:{port}", RBC="9")
+    server = subprocess.Popen(words, env=environment, stderr=subprocess.DEVNULL)
+    check(is_listened_at(port), "the unit's command listens")
+    check(is_served(begun_call(port)), "the unit's command serves a train")
+    server.terminate()
+    server.wait(timeout=60)
+    names = os.listdir(state)
+    check(len(names) == 1 and re.fullmatch(r"\d{8}T\d{6}Z\.recording", names[0]), f"one recording, named by its start: {names}")
+    parts, told = parts_of(os.path.join(state, names[0]), os.path.join(work, "parts"))
+    check(len(parts) == 1 and not told and replays_to_itself(program, keys, parts), f"its recording replays: {parts} {told}")
+
+
+def through_a_pipe():
+    """A recording that is cut into files of 5,000 octets by `split` is whole when they are joined."""
+    port, pieces = free_port(), os.path.join(work, "pieces")
+    os.mkdir(pieces)
+    splitter = subprocess.Popen(["split", "-C", "5000", "-a", "5", "-d", "-", os.path.join(pieces, "recording-")], stdin=subprocess.PIPE)
+    server = subprocess.Popen([program, "serve", keys, f"127.0.0.1:{port}", "9", "1000000"], stdout=splitter.stdin, stderr=subprocess.DEVNULL)
+    splitter.stdin.close()
+    check(is_listened_at(port), "a server into a pipe listens")
+    check(all(is_served(begun_call(port)) for _ in range(10)), "it serves")
+    server.terminate()
+    server.wait(timeout=60)
+    splitter.wait(timeout=60)
+    names = sorted(os.listdir(pieces))
+    joined = os.path.join(work, "joined")
+    with open(joined, "wb") as whole:
+        for name in names:
+            with open(os.path.join(pieces, name), "rb") as piece:
+                whole.write(piece.read())
+    parts, told = parts_of(joined, os.path.join(work, "joined-parts"))
+    check(len(names) > 3, f"several files: {len(names)}")
+    check(len(parts) == 10 and not told and replays_to_itself(program, keys, parts), f"joined they replay: {len(parts)} {told}")
+
+
+def unread_pipe():
+    """Where nobody reads the pipe of the recording, all trains stand still, and go on once it is read."""
+    port = free_port()
+    server = subprocess.Popen([program, "serve", keys, f"127.0.0.1:{port}", "9", "1000000"], stdout=subprocess.PIPE, stderr=subprocess.DEVNULL)
+    check(is_listened_at(port), "a server into a pipe that isn't read listens")
+    with connected(port) as stranger:
+        stranger.sendall(b"\x7e" * 60_000)
+        time.sleep(1)
+        call = begun_call(port)
+        time.sleep(2)
+        check(call.poll() is None, "a train stands still")
+        reader = subprocess.Popen(["cat"], stdin=server.stdout, stdout=subprocess.DEVNULL)
+        check(is_served(call), "it goes on")
+    server.terminate()
+    server.wait(timeout=60)
+    server.stdout.close()
+    reader.wait(timeout=60)
+
+
+with tempfile.TemporaryDirectory() as work:
+    keys = os.path.join(work, "keys")
+    with open(keys, "w") as file:
+        file.write(KEYS)
+    unit()
+    through_a_pipe()
+    unread_pipe()
+
+print(f"{checks} checks, {failed} failed")
+sys.exit(1 if failed else 0)
