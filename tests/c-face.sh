@@ -121,7 +121,6 @@ document() {
   "$cc" $strict -Wno-unused-variable $include -c -o /dev/null "$work/document.c"
 }
 
-judge "the C of README.md" document README.md
 judge "the C of docs/EMBEDDING.md" document docs/EMBEDDING.md
 judge "C99 without a warning" compiles "$cc" "$strict"
 judge "C++ without a warning" compiles c++ "-x c++ -std=c++11 -Wall -Wextra -Wpedantic -Werror"

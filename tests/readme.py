@@ -1,4 +1,4 @@
-"""Runs the commands of the pages' code blocks.
+"""Runs the commands of the pages' code blocks, and looks whether what the pages link to is there.
 
 A block's first line says what it is, behind its language:
 
@@ -8,11 +8,11 @@ A block's first line says what it is, behind its language:
 | ```sh stays | the same in a terminal of its own: it runs beside the commands behind it, until one of them ends it, or the page ends |
 | ```text printed | what the command before printed, or wrote to the file that it wrote to |
 | ```text begins | what that begins with |
-| ```text file NAME | what a file of this name holds, which commands behind it read |
 | ```text is PATH | what this file of the repository holds |
-| ```text, ```c, .. | a text that isn't run |
+| ```c of PATH, ```rust of PATH, .. | lines that stand so, one behind the other, in this file, which may indent all of them |
+| ```text | a text that isn't run |
 
-A block without a language is refused, so that none is left out by oversight. What isn't run is in the lists here.
+A block without a language is refused, and one of a program that doesn't say where its lines stand, so that none is left out by oversight. What isn't run is in the lists here.
 """
 import os
 import re
@@ -25,7 +25,9 @@ import time
 
 sys.dont_write_bytecode = True
 TOP = os.path.dirname(os.path.dirname(os.path.abspath(__file__)))
-PAGES = ("README.md", "docs/RUNNING.md", "docs/LABORATORY.md")
+PAGES = ("README.md", "docs/FORMATS.md", "docs/SPEED.md", "docs/RUNNING.md", "docs/LABORATORY.md")
+
+LINK = re.compile(r"\]\(((?!\w+:)[^)\s]+)\)")
 
 # Commands that aren't run, by how they begin, and why.
 LEFT_OUT = {
@@ -65,12 +67,23 @@ class Pages:
             elif info[1:2] == ["is"]:
                 with open(os.path.join(TOP, info[2])) as file:
                     self.check(file.readlines() == lines, f"{where}: {info[2]} holds something else")
-            elif info[1:2] == ["file"]:
-                with open(os.path.join(self.folder, info[2]), "w") as file:
-                    file.writelines(lines)
+            elif info[1:2] == ["of"]:
+                with open(os.path.join(TOP, info[2])) as file:
+                    self.check(is_quoted(lines, file.readlines()), f"{where}: {info[2]} has no such lines")
             elif info[1:] in (["printed"], ["begins"]):
                 self.compare(where, printed, "".join(lines), info[1])
+            elif info[0] != "text":
+                self.check(False, f"{where}: lines of a program that don't say where they stand")
         self.end()
+
+    def links(self, path):
+        """Each link of a page to a file of the repository, and to a heading in it."""
+        for target in LINK.findall(read(path)):
+            name, _, heading = target.partition("#")
+            to = os.path.normpath(os.path.join(os.path.dirname(path), name)) if name else path
+            self.check(os.path.exists(os.path.join(TOP, to)), f"{path}: there is no {target}")
+            if heading:
+                self.check(heading in [anchor(line) for line in read(to).split("\n") if line.startswith("#")], f"{path}: {to} has no heading {heading}")
 
     def command(self, where, command, stays):
         """Runs a command; answers what it printed, None where it wasn't run."""
@@ -120,6 +133,16 @@ class Pages:
         self.staying.clear()
 
 
+def read(path):
+    with open(os.path.join(TOP, path)) as page:
+        return page.read()
+
+
+def anchor(heading):
+    """By what a link names a heading."""
+    return re.sub(r"[^\w -]", "", heading.lstrip("# ")).lower().replace(" ", "-")
+
+
 def blocks(path):
     """(number of its first line, the words behind ```, its lines) of each code block of a page."""
     info, found = None, []
@@ -132,6 +155,18 @@ def blocks(path):
             else:
                 yield begin, info, found
                 info = None
+
+
+def is_quoted(lines, whole):
+    """Whether these lines stand so in a file, each with as many spaces before it as the first, or empty."""
+    if not lines:
+        return False
+    for start in range(len(whole) - len(lines) + 1):
+        first = whole[start]
+        spaces = first[: len(first) - len(first.lstrip(" "))]
+        if [spaces + line if line.strip() else line for line in lines] == whole[start : start + len(lines)]:
+            return True
+    return False
 
 
 def commands(lines):
@@ -180,6 +215,8 @@ def main():
         pages = Pages(folder)
         for path in PAGES:
             pages.page(path)
+        for path in ["README.md"] + [f"docs/{name}" for name in sorted(os.listdir(os.path.join(TOP, "docs"))) if name.endswith(".md")]:
+            pages.links(path)
     print(f"{pages.passed} passed, {pages.failed} failed")
     return 1 if pages.failed or not pages.passed else 0
 

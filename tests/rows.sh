@@ -1,7 +1,7 @@
 #!/usr/bin/env bash
 # Runs the built program on each folder of tests/rows: `args` has its words, one a line; the folder's other files lie where it
-# runs; `stdout` and `status` are what it must print and end with. Each file of examples/ has such a folder, example-NAME, and README's
-# tour is run too. Closes with 'N passed, M failed'.
+# runs; `stdout` and `status` are what it must print and end with. Each file of examples/ has such a folder, example-NAME.
+# Closes with 'N passed, M failed'.
 set -u
 cd "$(dirname "$0")/.." || exit 1
 top=$PWD
@@ -57,14 +57,6 @@ for example in examples/*; do
     echo "examples/$name has no row"
   fi
 done
-
-# The tour: the first block of README behind its heading is a drill file, the third what it prints.
-work=$(mktemp -d)
-awk -v work="$work" '/^## A tour/ { tour = 1 } tour && /^```/ { fence++; next }
-  tour && fence == 1 { print > (work "/scenario") } tour && fence == 5 { print > (work "/stdout") } fence > 5 { exit }' README.md
-echo 0 > "$work/status"
-judge "README's tour" "$work" drill scenario
-rm -rf "$work"
 
 echo "$passed passed, $failed failed"
 [ "$failed" -eq 0 ] && [ "$passed" -gt 0 ]

@@ -1,0 +1,83 @@
+//! An end, and what a program that embeds it has beside it.
+
+ghost use Rattle.std.specs.Prelude.{◌≤◌};
+
+use des_block::TripleKey;
+use er_base::NoMemory;
+use er_end::End;
+use er_settings::Settings;
+use key_store::KeyStore;
+use std::alloc::Global;
+
+/// The ETCS number of the engine.
+pub const ENGINE: u32 = 5;
+
+/// The ETCS number of the radio block centre.
+pub const CENTRE: u32 = 9;
+
+/// An end, the octets that are to go to the line and to its user, and the peer's number once it is connected.
+#[derive(Drop)]
+pub struct Side {
+    end: End,
+    pub to_line: Vec<u8>,
+    pub to_user: Vec<u8>,
+    pub peer: Option<u32>,
+}
+
+impl Side {
+    /// A radio block centre: its end waits for a call.
+    pub fn centre(alloc: Global, random: u64, now: u64) -> Result<Side, NoMemory>
+        requires { now ≤ 1000000000000000 }
+    {
+        let end = End::answer(alloc, &Settings::usual(), CENTRE, random, now)?;
+        Ok(Side::new(alloc, end))
+    }
+
+    /// An engine: its end calls the radio block centre.
+    pub fn engine(alloc: Global, kmac: TripleKey, random: u64, now: u64) -> Result<Side, NoMemory>
+        requires { now ≤ 1000000000000000 }
+    {
+        let settings = Settings::usual();
+        let end = End::call(alloc, &settings, ENGINE, CENTRE, kmac, random, now)?;
+        let mut side = Side::new(alloc, end);
+        side.to_line.extend_from_slice(side.end.start(now).out)?;
+        Ok(side)
+    }
+
+    /// Octets came from the line, and go to the end frame by frame.
+    pub fn receive(&mut self, keys: &KeyStore, now: u64, octets: &[u8]) -> Result<(), NoMemory>
+        requires { now ≤ 1000000000000000 }
+    {
+        let mut rest = octets;
+        while !rest.is_empty() {
+            let (used, deeds) = self.end.octets(keys, now, rest);
+            self.to_line.extend_from_slice(deeds.out)?;
+            self.peer = self.peer.or(deeds.connected);
+            if let Some(taken) = self.end.take(now) {
+                self.to_user.extend_from_slice(taken.text)?;
+                self.to_line.extend_from_slice(taken.out)?;
+            }
+            rest = &rest[used..];
+        }
+        Ok(())
+    }
+
+    /// The user sends a message; one that is refused isn't sent.
+    pub fn send(&mut self, now: u64, message: &[u8]) -> Result<(), NoMemory>
+        requires { now ≤ 1000000000000000 }
+    {
+        if let Ok(deeds) = self.end.send(now, message) {
+            self.to_line.extend_from_slice(deeds.out)?;
+        }
+        Ok(())
+    }
+
+    fn new(alloc: Global, end: End) -> Side {
+        Side {
+            end,
+            to_line: Vec::new(alloc),
+            to_user: Vec::new(alloc),
+            peer: None,
+        }
+    }
+}
