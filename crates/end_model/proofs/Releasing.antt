@@ -240,11 +240,11 @@ module _ (receives : stations.ReceivesGive) (steps_only : StepsOnly) (steps_each
           (kept_if (is_some_octets (sent_by a.1)) _ z calm begun begun) begun
 
       -- the station tells one thing
-      one_deed : (why : Release) (d : LinkDeed) → d.payload ≡ None → d.up ≡ false → d.released ≡ Some why → d ≡ record { up = false; payload = None; released = Some why }
+      one_deed : (why : Release) (d : LinkDeed) → d.payload ≡ None → d.up ≡ false → d.released ≡ Some why → d ≡ record { up = false; payload = None; more = []; released = Some why }
       one_deed why d p u r =
-          ap (λ (v : Option (List ℕ)). record { up = d.up; payload = v; released = d.released }) p
-          ∙ ap (λ (b : Bool). record { up = b; payload = None; released = d.released }) u
-          ∙ ap (λ (o : Option Release). record { up = false; payload = None; released = o }) r
+          ap (λ (v : Option (List ℕ)). record { up = d.up; payload = v; more = []; released = d.released }) p
+          ∙ ap (λ (b : Bool). record { up = b; payload = None; more = []; released = d.released }) u
+          ∙ ap (λ (o : Option Release). record { up = false; payload = None; more = []; released = o }) r
 
       station_why : (why : Release) (d : LinkDeed) → (station_behind x now verdict).deed ≡ d → d.payload ≡ None → d.up ≡ false → d.released ≡ Some why
           → (d.released ≡ None) ⊎ (d.released ≡ Some (release_of cause.FrameError)) ⊎ (d.released ≡ Some (release_of cause.PeerDisconnected)) → Why why

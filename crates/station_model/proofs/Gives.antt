@@ -55,7 +55,7 @@ still x y h t d = record {
 refused : (x : Station) → Received x (refuses_frame x)
 refused x = record { handed = refl; taken = sym (append-nil x.taken); released = inr (inl refl) }
 
-came_up : (x y : Station) → y.handed ≡ x.handed → y.taken ≡ x.taken → y.deed ≡ record { up = true; payload = None; released = None } → Received x y
+came_up : (x y : Station) → y.handed ≡ x.handed → y.taken ≡ x.taken → y.deed ≡ record { up = true; payload = None; more = []; released = None } → Received x y
 came_up x y h t d = record {
   handed = h;
   taken = t ∙ sym (append-nil x.taken) ∙ ap (λ (e : Deed). x.taken ++ option_to_list e.payload) (sym d);
