@@ -1,5 +1,5 @@
 -- A frame that a station sent, read by the other one: it comes to the row of its control, with its numbers modulo the modulo.
-use Rattle.std.proofs.Common.{◌≡◌, ◌<◌, ◌≤◌, ⊥, Bool, true, false, not, length, Some, refl, arith}
+use Rattle.std.proofs.Common.{◌≡◌, ◌<◌, ◌≤◌, Bool, true, false, not, length, Some, refl, arith}
 use Rattle.std.proofs.Math.Nat.{mod-lt}
 use Rattle.hdlc_frames.specs.Controls.{control_octets, IsBelow}
 use Rattle.hdlc_frames.specs.ControlOctets.{control_of}
