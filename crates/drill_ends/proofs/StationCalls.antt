@@ -107,7 +107,7 @@ nothing_told before = sym (append-nil before)
 -- ---- the user releases
 
 pub quit_stands : (k : Kept) (room : Stored) (sub : ℕ) (s : Station) → Stands k [] room no_deed (closes s)
-    → Stands k [] room (record { up = false; payload = None; released = Some (release_of (User sub)) }) (quits sub s)
+    → Stands k [] room (record { up = false; payload = None; more = []; released = Some (release_of (User sub)) }) (quits sub s)
 quit_stands k room sub s h = record { is = h.is; order = h.order; given = h.given; deed = refl; text = h.text }
 
 -- ---- the user sends

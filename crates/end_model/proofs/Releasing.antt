@@ -240,21 +240,22 @@ module _ (receives : stations.ReceivesGive) (steps_only : StepsOnly) (steps_each
           (kept_if (is_some_octets (sent_by a.1)) _ z calm begun begun) begun
 
       -- the station tells one thing
-      one_deed : (why : Release) (d : LinkDeed) → d.payload ≡ None → d.up ≡ false → d.released ≡ Some why → d ≡ record { up = false; payload = None; released = Some why }
-      one_deed why d p u r =
-          ap (λ (v : Option (List ℕ)). record { up = d.up; payload = v; released = d.released }) p
-          ∙ ap (λ (b : Bool). record { up = b; payload = None; released = d.released }) u
-          ∙ ap (λ (o : Option Release). record { up = false; payload = None; released = o }) r
+      one_deed : (why : Release) (d : LinkDeed) → d.payload ≡ None → d.more ≡ [] → d.up ≡ false → d.released ≡ Some why → d ≡ record { up = false; payload = None; more = []; released = Some why }
+      one_deed why d p m u r =
+          ap (λ (v : Option (List ℕ)). record { up = d.up; payload = v; more = d.more; released = d.released }) p
+          ∙ ap (λ (v : List (List ℕ)). record { up = d.up; payload = None; more = v; released = d.released }) m
+          ∙ ap (λ (b : Bool). record { up = b; payload = None; more = []; released = d.released }) u
+          ∙ ap (λ (o : Option Release). record { up = false; payload = None; more = []; released = o }) r
 
-      station_why : (why : Release) (d : LinkDeed) → (station_behind x now verdict).deed ≡ d → d.payload ≡ None → d.up ≡ false → d.released ≡ Some why
+      station_why : (why : Release) (d : LinkDeed) → (station_behind x now verdict).deed ≡ d → d.payload ≡ None → d.more ≡ [] → d.up ≡ false → d.released ≡ Some why
           → (d.released ≡ None) ⊎ (d.released ≡ Some (release_of cause.FrameError)) ⊎ (d.released ≡ Some (release_of cause.PeerDisconnected)) → Why why
-      station_why why d e p u r (inl none) = absurd (let f = sym r ∙ none in cc)
-      station_why why d e p u r (inr (inl f)) =
+      station_why why d e p m u r (inl none) = absurd (let f = sym r ∙ none in cc)
+      station_why why d e p m u r (inr (inl f)) =
           let same : why ≡ release_of cause.FrameError = let g = sym r ∙ f in cc in
-          IsError (e ∙ one_deed (release_of cause.FrameError) d p u f) same
-      station_why why d e p u r (inr (inr f)) =
+          IsError (e ∙ one_deed (release_of cause.FrameError) d p m u f) same
+      station_why why d e p m u r (inr (inr f)) =
           let same : why ≡ release_of cause.PeerDisconnected = let g = sym r ∙ f in cc in
-          IsDisconnect (e ∙ one_deed (release_of cause.PeerDisconnected) d p u f) same
+          IsDisconnect (e ∙ one_deed (release_of cause.PeerDisconnected) d p m u f) same
 
       link_fate : (payload : Option (List ℕ)) (up : Bool) (released : Option Release) → (station_behind x now verdict).deed.payload ≡ payload
           → (station_behind x now verdict).deed.up ≡ up → (station_behind x now verdict).deed.released ≡ released
@@ -262,7 +263,8 @@ module _ (receives : stations.ReceivesGive) (steps_only : StepsOnly) (steps_each
       link_fate (Some payload) up released p u r = block_fate payload p (joining.step x.joined payload).1 refl
       link_fate None true released p u r = Stays up_calm
       link_fate None false (Some why) p u r =
-          Goes why refl (station_why why (station_behind x now verdict).deed refl p u r (receives (max x.moment now) verdict (settled x.line) refl).released)
+          let given = receives (max x.moment now) verdict (settled x.line) refl in
+          Goes why refl (station_why why (station_behind x now verdict).deed refl p given.single u r given.released)
       link_fate None false None p u r = Stays begun
 
       -- where the end is live, an event goes on

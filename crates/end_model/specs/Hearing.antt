@@ -1,6 +1,6 @@
 -- What an event gives to the safety side of an end (UNISIG SUBSET-037): the request of its user, the request to connect as the link came up,
 -- or the text that the station, the blocks and the transport made of a frame (ISO/IEC 13239, ITU-T T.70, ITU-T X.224).
-use Rattle.std.specs.Prelude.{ℕ, ◌≡◌, max, true, List, Option, Some, None, Ok}
+use Rattle.std.specs.Prelude.{ℕ, ◌≡◌, max, true, List, [], Option, Some, None, Ok}
 use Rattle.er_base.specs.declared.cause.Cause.{Cause}
 use Rattle.hdlc_frames.specs.Framing.{Verdict}
 use Rattle.station_model.specs.Stations.{Station, settled}
@@ -47,7 +47,7 @@ IsGiven event (Some t) = t.event ≡ event
 
 -- a frame brought the link up, at an end that calls and whose safety side hasn't begun
 pub record CallsNow (x : Core) (now : ℕ) (verdict : Verdict) : Type 0 where
-  pub up : (station_behind x now verdict).deed ≡ record { up = true; payload = None; released = None }
+  pub up : (station_behind x now verdict).deed ≡ record { up = true; payload = None; more = []; released = None }
   pub transport : (x.upper.transport.is_caller ≡ true) × (x.upper.transport.stage ≡ New)
   pub ready : is_ready x.safe.safety.phase ≡ true
 

@@ -1,6 +1,6 @@
 -- The table of releases: why an end is released, in the words of the layer that finds it, and that it is released exactly then (this profile;
 -- UNISIG SUBSET-037, ITU-T X.224, ITU-T T.70, ISO/IEC 13239).
-use Rattle.std.specs.Prelude.{ℕ, ◌≡◌, ◌≤◌, max, false, List, ◌∷◌, ◌++◌, Some, None, Ok, Err}
+use Rattle.std.specs.Prelude.{ℕ, ◌≡◌, ◌≤◌, max, false, List, [], ◌∷◌, ◌++◌, Some, None, Ok, Err}
 use Rattle.std.specs.List.{Contains}
 use Rattle.er_base.specs.declared.release.Release.{Release}
 use Rattle.er_base.specs.declared.cause.Cause.{Cause}
@@ -44,7 +44,7 @@ pub record AtFrame (now : ℕ) (event : Event) (m : End) (Fact : FrameFact) : Ty
 
 -- the station told a release, and nothing besides
 abbrev pub StationReleases : Release → FrameFact
-StationReleases why finds now x verdict = (station_behind x now verdict).deed ≡ record { up = false; payload = None; released = Some why }
+StationReleases why finds now x verdict = (station_behind x now verdict).deed ≡ record { up = false; payload = None; more = []; released = Some why }
 
 -- the payload that the station took is no block, or makes a TPDU that is too long
 abbrev pub BlockIsFaulty : FrameFact

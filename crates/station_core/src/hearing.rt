@@ -1,6 +1,6 @@
 //! What a station does at a frame that comes.
 
-ghost use Rattle.std.specs.Prelude.{◌≡◌, ◌+◌, ◌-◌, ◌*◌, ◌%◌, ◌<◌, ◌≤◌, ◌++◌, ℕ, List, length, option_map, IfSome, Some, None, true, false};
+ghost use Rattle.std.specs.Prelude.{◌≡◌, ◌+◌, ◌-◌, ◌*◌, ◌%◌, ◌<◌, ◌≤◌, [], ◌++◌, ℕ, List, length, option_map, IfSome, Some, None, true, false};
 ghost use Rattle.er_base.specs.Stored.{Stored, HasRoom};
 ghost use Rattle.hdlc_frames.specs.Controls.{IsBelow};
 ghost use Rattle.hdlc_frames.specs.ControlOctets.{control_of};
@@ -87,7 +87,7 @@ impl StationCore {
 
     // The station is Down for this cause.
     pub(crate) fn let_go(&mut self, cause: Cause) -> Release
-        ensures tells { (out : Stored) → Tells self.old out self.new out (record { up = false; payload = None; released = Some result }) (releases cause) }
+        ensures tells { (out : Stored) → Tells self.old out self.new out (record { up = false; payload = None; more = []; released = Some result }) (releases cause) }
         ensures ahead { self.new.ahead ≡ self.old.ahead }
         ensures window { self.new.window ≡ self.old.window }
         ensures within { (out : Stored) (n : ℕ) → Within self.old out self.new out n }
@@ -171,10 +171,11 @@ impl StationCore {
 
     /// The next payload is taken.
     pub fn accept(&mut self)
-        ensures tells { (payload : List ℕ) (out : Stored) → Tells self.old out self.new out (record { up = false; payload = Some payload; released = None }) (accepts payload) }
+        ensures tells { (payload : List ℕ) (out : Stored) → Tells self.old out self.new out (record { up = false; payload = Some payload; more = []; released = None }) (accepts payload) }
         ensures ahead { self.new.ahead ≡ self.old.ahead }
         ensures window { self.new.window ≡ self.old.window }
         ensures within { (out : Stored) (n : ℕ) → Within self.old out self.new out n }
+        ensures begun { self.new.begun ≡ true }
     {
         self.got = (self.got + 1) % modulo_of(self.extended);
         self.begun = true;
@@ -279,7 +280,7 @@ impl StationCore {
 
     // The link came up.
     fn come_up(&mut self)
-        ensures tells { (out : Stored) → Tells self.old out self.new out (record { up = true; payload = None; released = None }) comes_up }
+        ensures tells { (out : Stored) → Tells self.old out self.new out (record { up = true; payload = None; more = []; released = None }) comes_up }
         ensures ahead { self.new.ahead ≡ self.old.ahead }
         ensures window { self.new.window ≡ self.old.window }
     {
@@ -328,8 +329,8 @@ impl StationCore {
         self.expiries = 0;
     }
 
-    // UA at a calling station that asked for the set-up.
-    fn agreed(&mut self) -> Told
+    /// UA at a calling station that asked for the set-up.
+    pub fn agreed(&mut self) -> Told
         ensures tells { (information : List ℕ) (out : Stored) → Tells self.old out self.new out (told_as information result) (λ s. comes_up (record s { timer = None; expiries = 0 })) }
         ensures ahead { self.new.ahead ≡ self.old.ahead }
         ensures window { self.new.window ≡ self.old.window }

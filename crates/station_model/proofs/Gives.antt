@@ -35,6 +35,7 @@ received_sent x y h =
     record {
       handed = s.0 ∙ h.handed;
       taken = s.1 ∙ h.taken ∙ ap (λ (d : Deed). x.taken ++ option_to_list d.payload) (sym s.2);
+      single = ap (λ (d : Deed). d.more) s.2 ∙ h.single;
       released = elim h.released [
         | inl a ↦ inl (ap (λ (d : Deed). d.released) s.2 ∙ a)
         | inr (inl a) ↦ inr (inl (ap (λ (d : Deed). d.released) s.2 ∙ a))
@@ -49,23 +50,25 @@ still : (x y : Station) → y.handed ≡ x.handed → y.taken ≡ x.taken → y.
 still x y h t d = record {
   handed = h;
   taken = t ∙ sym (append-nil x.taken) ∙ ap (λ (e : Deed). x.taken ++ option_to_list e.payload) (sym d);
+  single = ap (λ (e : Deed). e.more) d;
   released = inl (ap (λ (e : Deed). e.released) d);
 }
 
 refused : (x : Station) → Received x (refuses_frame x)
-refused x = record { handed = refl; taken = sym (append-nil x.taken); released = inr (inl refl) }
+refused x = record { handed = refl; taken = sym (append-nil x.taken); single = refl; released = inr (inl refl) }
 
-came_up : (x y : Station) → y.handed ≡ x.handed → y.taken ≡ x.taken → y.deed ≡ record { up = true; payload = None; released = None } → Received x y
+came_up : (x y : Station) → y.handed ≡ x.handed → y.taken ≡ x.taken → y.deed ≡ record { up = true; payload = None; more = []; released = None } → Received x y
 came_up x y h t d = record {
   handed = h;
   taken = t ∙ sym (append-nil x.taken) ∙ ap (λ (e : Deed). x.taken ++ option_to_list e.payload) (sym d);
+  single = ap (λ (e : Deed). e.more) d;
   released = inl (ap (λ (e : Deed). e.released) d);
 }
 
 took : (ns : ℕ) (payload : List ℕ) (x y : Station) → y.handed ≡ x.handed → y.taken ≡ x.taken → y.deed ≡ no_deed → Received x (takes ns payload y)
 took ns payload x y h t d =
     cond_both (length y.taken % modulo y.extended == ns) (accepts payload y) (rejects y) (Received x)
-    (λ e. record { handed = h; taken = ap (λ (ts : List (List ℕ)). ts ++ payload ∷ []) t; released = inl refl })
+    (λ e. record { handed = h; taken = ap (λ (ts : List (List ℕ)). ts ++ payload ∷ []) t; single = refl; released = inl refl })
     (λ e. cond_both y.gap (puts (Rr (length y.taken)) y) (puts (Rej (length y.taken)) (record y { gap = true })) (Received x)
     (λ e. still x (puts (Rr (length y.taken)) y) h t d) (λ e. still x (puts (Rej (length y.taken)) (record y { gap = true })) h t d))
 
@@ -102,10 +105,10 @@ rowed Setting (control.Rej nr) information x d = strayed x d
 rowed Setting (control.Srej nr) information x d = refused x
 rowed Setting (control.Sabm poll) information x d = refused x
 rowed Setting (control.Sabme poll) information x d = refused x
-rowed Setting (control.Disc poll) information x d = record { handed = refl; taken = sym (append-nil x.taken); released = inr (inr refl) }
+rowed Setting (control.Disc poll) information x d = record { handed = refl; taken = sym (append-nil x.taken); single = refl; released = inr (inr refl) }
 rowed Setting control.Ua information x d = came_up x _ refl refl refl
-rowed Setting control.Dm information x d = record { handed = refl; taken = sym (append-nil x.taken); released = inr (inr refl) }
-rowed Setting control.Frmr information x d = record { handed = refl; taken = sym (append-nil x.taken); released = inr (inr refl) }
+rowed Setting control.Dm information x d = record { handed = refl; taken = sym (append-nil x.taken); single = refl; released = inr (inr refl) }
+rowed Setting control.Frmr information x d = record { handed = refl; taken = sym (append-nil x.taken); single = refl; released = inr (inr refl) }
 rowed Up (control.Info ns nr) information x d =
     numbered (named x.extended x.acked (x.sent - x.acked) nr) (takes ns information) x (λ n. took ns information x (acknowledges n x) refl refl d)
 rowed Up (control.Rr nr) information x d =
@@ -118,10 +121,10 @@ rowed Up (control.Rej nr) information x d =
 rowed Up (control.Srej nr) information x d = refused x
 rowed Up (control.Sabm poll) information x d = set_up poll x d
 rowed Up (control.Sabme poll) information x d = set_up poll x d
-rowed Up (control.Disc poll) information x d = record { handed = refl; taken = sym (append-nil x.taken); released = inr (inr refl) }
+rowed Up (control.Disc poll) information x d = record { handed = refl; taken = sym (append-nil x.taken); single = refl; released = inr (inr refl) }
 rowed Up control.Ua information x d = strayed x d
-rowed Up control.Dm information x d = record { handed = refl; taken = sym (append-nil x.taken); released = inr (inr refl) }
-rowed Up control.Frmr information x d = record { handed = refl; taken = sym (append-nil x.taken); released = inr (inr refl) }
+rowed Up control.Dm information x d = record { handed = refl; taken = sym (append-nil x.taken); single = refl; released = inr (inr refl) }
+rowed Up control.Frmr information x d = record { handed = refl; taken = sym (append-nil x.taken); single = refl; released = inr (inr refl) }
 rowed Down c information x d = still x x refl refl d
 
 erred : (p : Phase) (x : Station) → x.deed ≡ no_deed → Received x (errs p x)
@@ -149,7 +152,7 @@ heard Aborted x d = still x _ refl refl d
 
 -- a moment is seen before
 seen : (now : ℕ) (x y : Station) → Received (sees now x) y → Received x y
-seen now x y h = record { handed = h.handed; taken = h.taken; released = h.released }
+seen now x y h = record { handed = h.handed; taken = h.taken; single = h.single; released = h.released }
 
 pub receives_give : ReceivesGive
 receives_give now v x d =

@@ -148,7 +148,7 @@ pub data TimeCause (now : ℕ) (s : Station) (why : Cause) : Type 0 where
 pub record IsReleasedFor (why : Cause) (t : Station) : Type 0 where
   pub down : t.phase ≡ Down
   pub released : t.released ≡ Some (release_of why)
-  pub deed : t.deed ≡ record { up = false; payload = None; released = Some (release_of why) }
+  pub deed : t.deed ≡ record { up = false; payload = None; more = []; released = Some (release_of why) }
 
 -- a body is one of octets
 abbrev pub IsOfOctets : Verdict → Type 0

@@ -1,6 +1,6 @@
 -- What stands between a station and its two neighbours (ISO/IEC 13239, asynchronous balanced mode): the octets of the frames that a call
 -- sent, the frames that new octets close, the release by its own user, and whether a moment finds T1 expired.
-use Rattle.std.specs.Prelude.{ℕ, max, Bool, false, List, ◌++◌, length, drop, map, Some, None}
+use Rattle.std.specs.Prelude.{ℕ, max, Bool, false, List, [], ◌++◌, length, drop, map, Some, None}
 use Rattle.er_base.specs.declared.cause.Cause.TheVariants.{User}
 use Rattle.er_base.specs.Causes.{release_of}
 use Rattle.hdlc_frames.specs.Framing.{Verdict, frames_of}
@@ -21,7 +21,7 @@ news before octets = drop (length (frames_of before)) (frames_of (before ++ octe
 abbrev pub quits : ℕ → Station → Station
 quits sub s = record (closes s) {
   released = Some (release_of (User sub));
-  deed = record { up = false; payload = None; released = Some (release_of (User sub)) };
+  deed = record { up = false; payload = None; more = []; released = Some (release_of (User sub)) };
 }
 
 -- T1 of a station is found expired

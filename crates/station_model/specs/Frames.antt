@@ -10,8 +10,8 @@ use Rattle.hdlc_frames.specs.Spelling.{spelling}
 pub data Frame : Type 0 where
   -- an I frame with N(S), N(R) and its payload
   Info : (ns nr : ℕ) (payload : List ℕ) → Frame
-  -- receive ready and reject, with N(R)
-  Rr Rej : (nr : ℕ) → Frame
+  -- receive ready, reject and selective reject, with N(R)
+  Rr Rej Srej : (nr : ℕ) → Frame
   -- the set-up frame, disconnect, disconnected mode
   SetUp Disc Dm : Frame
   -- unnumbered acknowledgement, with its F bit
@@ -32,6 +32,7 @@ abbrev pub shown : Bool → Frame → Control
 shown extended (Info ns nr payload) = control.Info (ns % modulo extended) (nr % modulo extended)
 shown extended (Rr nr) = control.Rr (nr % modulo extended)
 shown extended (Rej nr) = control.Rej (nr % modulo extended)
+shown extended (Srej nr) = control.Srej (nr % modulo extended)
 shown extended SetUp = set_up extended
 shown extended Disc = control.Disc true
 shown extended Dm = control.Dm
@@ -42,6 +43,7 @@ abbrev pub poll_final : Frame → Bool
 poll_final (Info ns nr payload) = false
 poll_final (Rr nr) = false
 poll_final (Rej nr) = false
+poll_final (Srej nr) = false
 poll_final SetUp = true
 poll_final Disc = true
 poll_final Dm = true
@@ -52,6 +54,7 @@ abbrev pub information : Frame → List ℕ
 information (Info ns nr payload) = payload
 information (Rr nr) = []
 information (Rej nr) = []
+information (Srej nr) = []
 information SetUp = []
 information Disc = []
 information Dm = []
@@ -68,6 +71,7 @@ abbrev pub sent_address : Bool → Frame → ℕ
 sent_address calling (Info ns nr payload) = address_of (not calling)
 sent_address calling (Rr nr) = address_of calling
 sent_address calling (Rej nr) = address_of calling
+sent_address calling (Srej nr) = address_of calling
 sent_address calling SetUp = address_of (not calling)
 sent_address calling Disc = address_of (not calling)
 sent_address calling Dm = address_of calling

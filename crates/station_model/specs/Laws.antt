@@ -11,10 +11,11 @@ use Rattle.station_model.specs.Calls.{starts, receives, hands, finishes, ticks, 
 abbrev pub LeavesPayloads : Station → Station → Type 0
 LeavesPayloads s t = (t.handed ≡ s.handed) × (t.taken ≡ s.taken)
 
--- a frame that comes leaves what was handed down alone, and what is told of a payload is what is taken
+-- a frame that comes leaves what was handed down alone, and what is told of a payload is what is taken, one at most
 pub record Received (s t : Station) : Type 0 where
   pub handed : t.handed ≡ s.handed
   pub taken : t.taken ≡ s.taken ++ option_to_list t.deed.payload
+  pub single : t.deed.more ≡ []
   -- it releases for a frame error or since the peer disconnected
   pub released : (t.deed.released ≡ None) ⊎ (t.deed.released ≡ Some (release_of FrameError)) ⊎ (t.deed.released ≡ Some (release_of PeerDisconnected))
 

@@ -2,6 +2,7 @@ pub mod Frames
 pub mod Stations
 pub mod Sending
 pub mod Receiving
+pub mod Selective
 pub mod Calls
 pub mod Events
 pub mod Lines
@@ -11,3 +12,4 @@ pub mod Timing
 pub mod Causes
 pub mod LastFrames
 pub mod KnownAnswers
+pub mod SelectiveAnswers

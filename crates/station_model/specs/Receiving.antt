@@ -94,7 +94,7 @@ accepts payload s = record s {
   taken = s.taken ++ payload ∷ [];
   gap = false;
   owed = true;
-  deed = record { up = false; payload = Some payload; released = None };
+  deed = record { up = false; payload = Some payload; more = []; released = None };
 }
 
 -- the frame isn't the next one: REJ asks for the next one once, RR says it again
@@ -116,7 +116,7 @@ repeats_rejected s = if nat_lt s.acked s.sent then starts_timer (sends_again s) 
 
 -- the link came up
 abbrev pub comes_up : Station → Station
-comes_up s = record s { phase = Up; deed = record { up = true; payload = None; released = None } }
+comes_up s = record s { phase = Up; deed = record { up = true; payload = None; more = []; released = None } }
 
 -- UA with the P bit of the command as its F bit
 abbrev pub agrees : Bool → Station → Station

@@ -17,7 +17,7 @@ releases cause s = record s {
   phase = Down;
   timer = None;
   released = Some (release_of cause);
-  deed = record { up = false; payload = None; released = Some (release_of cause) };
+  deed = record { up = false; payload = None; more = []; released = Some (release_of cause) };
 }
 
 -- a frame that the station may not accept: it answers DM

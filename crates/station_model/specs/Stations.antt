@@ -11,10 +11,12 @@ use Rattle.station_model.specs.Frames.{Frame}
 pub record Deed : Type 0 where
   pub up : Bool
   pub payload : Option (List ℕ)
+  -- the payloads that were taken behind that one: none but at a station with selective reject
+  pub more : List (List ℕ)
   pub released : Option Release
 
 abbrev pub no_deed : Deed
-no_deed = record { up = false; payload = None; released = None }
+no_deed = record { up = false; payload = None; more = []; released = None }
 
 pub record Station : Type 0 where
   -- ---- from its making
@@ -40,6 +42,10 @@ pub record Station : Type 0 where
   pub taken : List (List ℕ)
   -- the gap mark: a REJ was sent, and the frame that it asks for didn't come yet
   pub gap : Bool
+  -- at a station with selective reject: the numbers and payloads of the frames that came and wait for one before them
+  pub held : List (ℕ × List ℕ)
+  -- and the numbers that it asked for by SREJ and that didn't come yet
+  pub asked : List ℕ
   -- the busy mark: the peer sent RNR
   pub busy : Bool
   -- an I frame was taken, and nothing sent since shows it
@@ -75,6 +81,8 @@ made calling extended window n2 t1 = record {
   sent = 0;
   taken = [];
   gap = false;
+  held = [];
+  asked = [];
   busy = false;
   owed = false;
   expiries = 0;

@@ -5,7 +5,7 @@ use Rattle.std.specs.Prelude.{nat_lt, ◌==◌}
 use Rattle.std.proofs.lemmas.Bool.{cond_both, or_cases, ltb-true}
 use Rattle.er_base.specs.declared.side.Side.{Side}
 use Rattle.er_base.specs.declared.side.Side.TheVariants.{E, R}
-use Rattle.station_model.specs.Frames.{Frame, Info, Rr, Rej, SetUp, Disc, Dm, Ua, modulo}
+use Rattle.station_model.specs.Frames.{Frame, Info, Rr, Rej, Srej, SetUp, Disc, Dm, Ua, modulo}
 use Rattle.station_model.specs.Stations.{Station, is_down}
 use Rattle.station_model.specs.Events.{quits, is_late}
 use Rattle.station_model.specs.Lines.{altered, next_of}
@@ -26,6 +26,7 @@ rrs [] = 0
 rrs (Info ns nr payload ∷ fs) = rrs fs
 rrs (Rr nr ∷ fs) = rrs fs + 1
 rrs (Rej nr ∷ fs) = rrs fs
+rrs (Srej nr ∷ fs) = rrs fs
 rrs (SetUp ∷ fs) = rrs fs
 rrs (Disc ∷ fs) = rrs fs
 rrs (Dm ∷ fs) = rrs fs
@@ -37,6 +38,7 @@ data_length [] h = refl
 data_length (Info ns nr payload ∷ fs) h = let more : length fs ≡ length (infos fs) + rrs fs = data_length fs h.1 in omega arith
 data_length (Rr nr ∷ fs) h = let more : length fs ≡ length (infos fs) + rrs fs = data_length fs h.1 in omega arith
 data_length (Rej nr ∷ fs) h = absurd h.0
+data_length (Srej nr ∷ fs) h = absurd h.0
 data_length (SetUp ∷ fs) h = absurd h.0
 data_length (Disc ∷ fs) h = absurd h.0
 data_length (Dm ∷ fs) h = absurd h.0
@@ -48,6 +50,7 @@ rrs_bound low high owed [] h c = omega (arith, c)
 rrs_bound low high owed (Info ns nr payload ∷ fs) h c = omega (arith, c.0, rrs_bound nr high owed fs h c.1)
 rrs_bound low high owed (Rr nr ∷ fs) h c = omega (arith, h.0, rrs_bound nr high owed fs h.1 c.1)
 rrs_bound low high owed (Rej nr ∷ fs) h c = omega (arith, c.0, rrs_bound nr high owed fs h c.1)
+rrs_bound low high owed (Srej nr ∷ fs) h c = rrs_bound low high owed fs h c
 rrs_bound low high owed (SetUp ∷ fs) h c = rrs_bound low high owed fs h c
 rrs_bound low high owed (Disc ∷ fs) h c = rrs_bound low high owed fs h c
 rrs_bound low high owed (Dm ∷ fs) h c = rrs_bound low high owed fs h c

@@ -6,7 +6,7 @@ use Rattle.hdlc_frames.specs.Framing.{Frame as Frame_found}
 use Rattle.hdlc_frames.specs.Laws.{ControlReadsBack}
 use Rattle.station_model.specs.declared.phase.Phase.{Phase}
 use Rattle.station_model.specs.declared.phase.Phase.TheVariants.{Up}
-use Rattle.station_model.specs.Frames.{Frame, Info, Rr, Rej, SetUp, Disc, Dm, Ua, modulo, shown, information, sent_address, sent_body}
+use Rattle.station_model.specs.Frames.{Frame, Info, Rr, Rej, Srej, SetUp, Disc, Dm, Ua, modulo, shown, information, sent_address, sent_body}
 use Rattle.station_model.specs.Stations.{Station, is_down, sees, puts}
 use Rattle.station_model.specs.Sending.{info_at, can_send, waiting, sends_next, sends_up_to, sends_waiting, settles, expires, expires_if_due}
 use Rattle.station_model.specs.Receiving.{acknowledges, acknowledging, accepts, rejects, takes, marks_busy, row, hears}
@@ -49,6 +49,7 @@ rises_rr low high [] h = (h refl, λ e. absurd (true≢false (sym e)))
 rises_rr low high (Info ns nr p ∷ fs) h = rises_rr nr high fs h
 rises_rr low high (Rr nr ∷ fs) h = (h.0, rises_rr nr high fs h.1)
 rises_rr low high (Rej nr ∷ fs) h = rises_rr nr high fs h
+rises_rr low high (Srej nr ∷ fs) h = rises_rr low high fs h
 rises_rr low high (SetUp ∷ fs) h = rises_rr low high fs h
 rises_rr low high (Disc ∷ fs) h = rises_rr low high fs h
 rises_rr low high (Dm ∷ fs) h = rises_rr low high fs h
@@ -59,6 +60,7 @@ rises_info low high n p owed [] h = λ e. absurd (true≢false (sym e))
 rises_info low high n p owed (Info ns nr q ∷ fs) h = rises_info nr high n p owed fs h
 rises_info low high n p owed (Rr nr ∷ fs) h = (h.0, rises_info nr high n p owed fs h.1)
 rises_info low high n p owed (Rej nr ∷ fs) h = rises_info nr high n p owed fs h
+rises_info low high n p owed (Srej nr ∷ fs) h = rises_info low high n p owed fs h
 rises_info low high n p owed (SetUp ∷ fs) h = rises_info low high n p owed fs h
 rises_info low high n p owed (Disc ∷ fs) h = rises_info low high n p owed fs h
 rises_info low high n p owed (Dm ∷ fs) h = rises_info low high n p owed fs h
@@ -73,6 +75,7 @@ rises_taken low high owed [] h ends = λ e. below_more low high owed h ends
 rises_taken low high owed (Info ns nr p ∷ fs) h ends = rises_taken nr high owed fs h ends
 rises_taken low high owed (Rr nr ∷ fs) h ends = (h.0, rises_taken nr high owed fs h.1 ends)
 rises_taken low high owed (Rej nr ∷ fs) h ends = rises_taken nr high owed fs h ends
+rises_taken low high owed (Srej nr ∷ fs) h ends = rises_taken low high owed fs h ends
 rises_taken low high owed (SetUp ∷ fs) h ends = rises_taken low high owed fs h ends
 rises_taken low high owed (Disc ∷ fs) h ends = rises_taken low high owed fs h ends
 rises_taken low high owed (Dm ∷ fs) h ends = rises_taken low high owed fs h ends
@@ -240,6 +243,7 @@ answered_flows law c n k w now x (Rr r) fs y given h s =
     ∙ ap (λ t. finishes (sends_waiting t)) (rr_is law k (w ++ x.said) z r fs y s.0.0 h)))
     (ends_well c (n + 1) w (marks_busy false (acknowledges r z)) fs y given (rr_heard_flows c n (w ++ x.said) z r fs y s))
 answered_flows law c n k w now x (Rej r) fs y given h s = absurd s.3.0
+answered_flows law c n k w now x (Srej r) fs y given h s = absurd s.3.0
 answered_flows law c n k w now x SetUp fs y given h s = absurd s.3.0
 answered_flows law c n k w now x Disc fs y given h s = absurd s.3.0
 answered_flows law c n k w now x Dm fs y given h s = absurd s.3.0

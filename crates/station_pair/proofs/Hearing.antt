@@ -5,7 +5,7 @@ use Rattle.hdlc_frames.specs.Controls.{control_octets, IsBelow}
 use Rattle.hdlc_frames.specs.ControlOctets.{control_of}
 use Rattle.hdlc_frames.specs.Framing.{Frame as Frame_found}
 use Rattle.hdlc_frames.specs.Laws.{ControlReadsBack}
-use Rattle.station_model.specs.Frames.{Frame, Info, Rr, Rej, SetUp, Disc, Dm, Ua, modulo, shown, poll_final, information, sent_address, table_octets, sent_body}
+use Rattle.station_model.specs.Frames.{Frame, Info, Rr, Rej, Srej, SetUp, Disc, Dm, Ua, modulo, shown, poll_final, information, sent_address, table_octets, sent_body}
 use Rattle.station_model.specs.Stations.{Station}
 use Rattle.station_model.specs.Receiving.{is_known_address, is_addressed, is_error, row, hears}
 
@@ -14,6 +14,7 @@ has_octets : (e : Bool) (f : Frame) → control_octets (modulo e) (shown e f) (p
 has_octets true (Info ns nr payload) = refl
 has_octets true (Rr nr) = refl
 has_octets true (Rej nr) = refl
+has_octets true (Srej nr) = refl
 has_octets true SetUp = refl
 has_octets true Disc = refl
 has_octets true Dm = refl
@@ -21,6 +22,7 @@ has_octets true (Ua final) = refl
 has_octets false (Info ns nr payload) = refl
 has_octets false (Rr nr) = refl
 has_octets false (Rej nr) = refl
+has_octets false (Srej nr) = refl
 has_octets false SetUp = refl
 has_octets false Disc = refl
 has_octets false Dm = refl
@@ -34,6 +36,7 @@ is_below : (e : Bool) (f : Frame) → IsBelow (modulo e) (shown e f)
 is_below e (Info ns nr payload) = (mod-lt ns (some_modulo e), mod-lt nr (some_modulo e))
 is_below e (Rr nr) = mod-lt nr (some_modulo e)
 is_below e (Rej nr) = mod-lt nr (some_modulo e)
+is_below e (Srej nr) = mod-lt nr (some_modulo e)
 is_below true SetUp = tt
 is_below false SetUp = tt
 is_below e Disc = tt
@@ -48,6 +51,7 @@ known : (c : Bool) (f : Frame) → is_known_address (sent_address c f) ≡ true
 known true (Info ns nr payload) = refl
 known true (Rr nr) = refl
 known true (Rej nr) = refl
+known true (Srej nr) = refl
 known true SetUp = refl
 known true Disc = refl
 known true Dm = refl
@@ -55,6 +59,7 @@ known true (Ua final) = refl
 known false (Info ns nr payload) = refl
 known false (Rr nr) = refl
 known false (Rej nr) = refl
+known false (Srej nr) = refl
 known false SetUp = refl
 known false Disc = refl
 known false Dm = refl
@@ -64,6 +69,7 @@ addressed : (c e : Bool) (f : Frame) → is_addressed c (sent_address (not c) f)
 addressed true e (Info ns nr payload) = refl
 addressed true e (Rr nr) = refl
 addressed true e (Rej nr) = refl
+addressed true e (Srej nr) = refl
 addressed true true SetUp = refl
 addressed true false SetUp = refl
 addressed true e Disc = refl
@@ -72,17 +78,19 @@ addressed true e (Ua final) = refl
 addressed false e (Info ns nr payload) = refl
 addressed false e (Rr nr) = refl
 addressed false e (Rej nr) = refl
+addressed false e (Srej nr) = refl
 addressed false true SetUp = refl
 addressed false false SetUp = refl
 addressed false e Disc = refl
 addressed false e Dm = refl
 addressed false e (Ua final) = refl
 
--- the set-up frame comes to called stations alone
+-- the set-up frame comes to called stations alone, and SREJ to none
 abbrev pub MayCome : Bool → Frame → Type 0
 MayCome c (Info ns nr payload) = Unit {0}
 MayCome c (Rr nr) = Unit {0}
 MayCome c (Rej nr) = Unit {0}
+MayCome c (Srej nr) = ⊥
 MayCome c SetUp = c ≡ false
 MayCome c Disc = Unit {0}
 MayCome c Dm = Unit {0}
@@ -92,6 +100,7 @@ no_error : (c e : Bool) (f : Frame) → MayCome c f → is_error c (shown e f) (
 no_error c e (Info ns nr payload) h = refl
 no_error c e (Rr nr) h = refl
 no_error c e (Rej nr) h = refl
+no_error c e (Srej nr) h = absurd h
 no_error true true SetUp h = absurd cc
 no_error true false SetUp h = absurd cc
 no_error false true SetUp h = refl
@@ -110,6 +119,7 @@ body_some : (e : Bool) (f : Frame) → 1 ≤ length (sent_body e f)
 body_some true (Info ns nr payload) = omega arith
 body_some true (Rr nr) = omega arith
 body_some true (Rej nr) = omega arith
+body_some true (Srej nr) = omega arith
 body_some true SetUp = omega arith
 body_some true Disc = omega arith
 body_some true Dm = omega arith
@@ -117,6 +127,7 @@ body_some true (Ua final) = omega arith
 body_some false (Info ns nr payload) = omega arith
 body_some false (Rr nr) = omega arith
 body_some false (Rej nr) = omega arith
+body_some false (Srej nr) = omega arith
 body_some false SetUp = omega arith
 body_some false Disc = omega arith
 body_some false Dm = omega arith
@@ -126,6 +137,7 @@ body_short : (e : Bool) (f : Frame) → length (information f) ≤ 1026 → leng
 body_short true (Info ns nr payload) h = omega arith
 body_short true (Rr nr) h = omega arith
 body_short true (Rej nr) h = omega arith
+body_short true (Srej nr) h = omega arith
 body_short true SetUp h = omega arith
 body_short true Disc h = omega arith
 body_short true Dm h = omega arith
@@ -133,6 +145,7 @@ body_short true (Ua final) h = omega arith
 body_short false (Info ns nr payload) h = omega arith
 body_short false (Rr nr) h = omega arith
 body_short false (Rej nr) h = omega arith
+body_short false (Srej nr) h = omega arith
 body_short false SetUp h = omega arith
 body_short false Disc h = omega arith
 body_short false Dm h = omega arith

@@ -3,7 +3,7 @@ use Rattle.std.proofs.Common.{◌≡◌, ℕ, ◌≤◌, Bool, not, List, [], �
 use Rattle.std.proofs.lemmas.List.{map-append}
 use Rattle.hdlc_frames.specs.Framing.{Frame as Frame_found}
 use Rattle.hdlc_frames.specs.Laws.{ControlReadsBack, FlagParts, FrameAlone}
-use Rattle.station_model.specs.Frames.{Frame, Info, Rr, Rej, SetUp, Disc, Dm, Ua, information, sent_address, sent_body, sent_octets}
+use Rattle.station_model.specs.Frames.{Frame, Info, Rr, Rej, Srej, SetUp, Disc, Dm, Ua, information, sent_address, sent_body, sent_octets}
 use Rattle.station_model.specs.Stations.{Station, settled}
 use Rattle.station_model.specs.Calls.{receives, finishes}
 use Rattle.station_model.specs.Events.{said_octets, news}
@@ -84,6 +84,7 @@ short_info : (k : ℕ) (lx : List Frame) (x : Station) (f : Frame) (fs : List Fr
 short_info k lx x (Info n r p) fs y h = subst (λ (q : List ℕ). length q ≤ 1026) (sym h.1.0.chain.1) (short_at y.handed n h.1.4)
 short_info k lx x (Rr r) fs y h = omega arith
 short_info k lx x (Rej r) fs y h = omega arith
+short_info k lx x (Srej r) fs y h = omega arith
 short_info k lx x SetUp fs y h = omega arith
 short_info k lx x Disc fs y h = omega arith
 short_info k lx x Dm fs y h = omega arith

@@ -4,7 +4,7 @@ use Rattle.std.proofs.lemmas.Bool.{cond_both}
 use Rattle.hdlc_frames.specs.Laws.{ControlReadsBack}
 use Rattle.station_model.specs.declared.phase.Phase.{Phase}
 use Rattle.station_model.specs.declared.phase.Phase.TheVariants.{Up}
-use Rattle.station_model.specs.Frames.{Frame, Info, Rr, Rej, SetUp, Disc, Dm, Ua, shown}
+use Rattle.station_model.specs.Frames.{Frame, Info, Rr, Rej, Srej, SetUp, Disc, Dm, Ua, shown}
 use Rattle.station_model.specs.Stations.{Station, is_up, is_down, sees, settled}
 use Rattle.station_model.specs.Sending.{can_send, waiting, sends_next, sends_up_to, sends_waiting, settles, expires_if_due}
 use Rattle.station_model.specs.Receiving.{acknowledges, accepts, marks_busy, agrees, comes_up, row, hears}
@@ -139,6 +139,7 @@ up_receives law c k n w now x (Rr r) fs y h s =
     (sym (heard_live now y (Rr r) x (ap is_down s.0.0.0) ∙ ap sends_waiting (rr_is law k (w ++ x.said) z r fs y s.0.0.0 h)))
     (flushed c (n + 1) w (marks_busy false (acknowledges r z)) fs y s.2 (rr_heard_flows c n (w ++ x.said) z r fs y s.0))
 up_receives law c k n w now x (Rej r) fs y h s = absurd s.0.3.0
+up_receives law c k n w now x (Srej r) fs y h s = absurd s.0.3.0
 up_receives law c k n w now x SetUp fs y h s = absurd s.0.3.0
 up_receives law c k n w now x Disc fs y h s = absurd s.0.3.0
 up_receives law c k n w now x Dm fs y h s = absurd s.0.3.0

@@ -6,11 +6,11 @@ use Rattle.er_base.specs.declared.cause.Cause.TheVariants.{PeerDisconnected}
 use Rattle.er_base.specs.Causes.{release_of}
 use Rattle.station_model.specs.declared.phase.Phase.{Phase}
 use Rattle.station_model.specs.declared.phase.Phase.TheVariants.{Idle, Setting, Up, Down}
-use Rattle.station_model.specs.Frames.{Frame, Info, Rr, Rej, SetUp, Disc, Dm, Ua, modulo, set_up, shown, information}
+use Rattle.station_model.specs.Frames.{Frame, Info, Rr, Rej, Srej, SetUp, Disc, Dm, Ua, modulo, set_up, shown, information}
 use Rattle.station_model.specs.Stations.{Station, puts}
 use Rattle.station_model.specs.Sending.{releases, refuses_frame, sends_again, starts_timer}
 use Rattle.station_model.specs.Receiving.{named, acknowledges, acknowledging, accepts, rejects, takes, marks_busy, repeats_rejected, comes_up, agrees, row_idle, row_up, row}
-use Rattle.station_pair.specs.Invariant.{Way, least_mark, greatest_mark, Half, Pair, Both, infos, numbers, marks}
+use Rattle.station_pair.specs.Invariant.{Climbs, Way, least_mark, greatest_mark, Half, Pair, Both, infos, numbers, marks}
 use Rattle.station_pair.proofs.Ways.{climbs_le, climbs_low, way_ack, way_number_gone, way_number_twice, way_frame_gone, way_frame_twice, way_take, way_tells, way_bounds}
 use Rattle.station_pair.proofs.Keeps.{puts_quiet, puts_shown, sends_again_keeps, down_keeps}
 use Rattle.station_pair.proofs.Hearing.{MayCome}
@@ -69,6 +69,14 @@ half_shown_twice k r i m ns x y h = (way_number_twice k x.handed x.acked x.sent 
 
 -- ---- the first frame goes, or stands twice
 
+greatest_le : (c : Bool) (sent : ℕ) → greatest_mark c sent ≤ 1
+greatest_le true sent = omega arith
+greatest_le false sent = omega arith
+
+-- no SREJ waits: its mark would be above the greatest one
+no_selective : (c : Bool) (taken : List (List ℕ)) (sent : ℕ) (m : List ℕ) → Climbs (least_mark c taken) (2 ∷ m) (greatest_mark c sent) → ⊥
+no_selective c taken sent m h = let above : 2 ≤ greatest_mark c sent = climbs_le 2 (greatest_mark c sent) m h.1 in let below = greatest_le c sent in omega (arith, above, below)
+
 half_info_gone : (k n : ℕ) (p : List ℕ) (i : List (ℕ × List ℕ)) (m ns : List ℕ) (y x : Station) → Half k ((n, p) ∷ i) (1 ∷ m) ns y x → Half k i m ns y x
 half_info_gone k n p i m ns y x h = (
   way_frame_gone k y.handed y.acked y.sent x.taken i ns (n, p) h.0,
@@ -95,6 +103,7 @@ first_gone k lx x (Info n r p) fs y h =
     (half_shown k r (infos lx) (marks lx) (numbers fs) x y h.0, half_info_gone k n p (infos fs) (marks fs) (numbers lx) y x h.1, h.2, h.3, h.4)
 first_gone k lx x (Rr r) fs y h = (half_shown k r (infos lx) (marks lx) (numbers fs) x y h.0, h.1, h.2, h.3, h.4)
 first_gone k lx x (Rej r) fs y h = (half_shown k r (infos lx) (marks lx) (numbers fs) x y h.0, h.1, h.2, h.3, h.4)
+first_gone k lx x (Srej r) fs y h = absurd (no_selective y.calling x.taken y.sent (marks fs) h.1.1)
 first_gone k lx x SetUp fs y h = (h.0, half_mark_gone k (infos fs) (marks fs) (numbers lx) y x h.1, h.2, h.3, h.4)
 first_gone k lx x Disc fs y h = h
 first_gone k lx x Dm fs y h = h
@@ -114,6 +123,7 @@ first_twice k lx x (Info n r p) fs y h = (
 )
 first_twice k lx x (Rr r) fs y h = (half_shown_twice k r (infos lx) (marks lx) (numbers fs) x y h.0, h.1, h.2, h.3, h.4)
 first_twice k lx x (Rej r) fs y h = (half_shown_twice k r (infos lx) (marks lx) (numbers fs) x y h.0, h.1, h.2, h.3, h.4)
+first_twice k lx x (Srej r) fs y h = absurd (no_selective y.calling x.taken y.sent (marks fs) h.1.1)
 first_twice k lx x SetUp fs y h = (h.0, half_mark_twice k (infos fs) (marks fs) (numbers lx) y x h.1, h.2, h.3, h.4)
 first_twice k lx x Disc fs y h = h
 first_twice k lx x Dm fs y h = h
@@ -133,6 +143,7 @@ pub may_come : (k : ℕ) (lx : List Frame) (x : Station) (f : Frame) (fs : List 
 may_come k lx x (Info n r p) fs y h = tt
 may_come k lx x (Rr r) fs y h = tt
 may_come k lx x (Rej r) fs y h = tt
+may_come k lx x (Srej r) fs y h = no_selective y.calling x.taken y.sent (marks fs) h.1.1
 may_come k lx x SetUp fs y h = (set_up_at k lx x fs y h).0
 may_come k lx x Disc fs y h = tt
 may_come k lx x Dm fs y h = tt
@@ -206,6 +217,7 @@ pub row_keeps : (k : ℕ) (w : List Frame) (p : Phase) (x : Station) (f : Frame)
 row_keeps k w Idle x (Info n r q) fs y b = first_gone k (w ++ x.said) (record x { phase = Idle }) (Info n r q) fs y b
 row_keeps k w Idle x (Rr r) fs y b = first_gone k (w ++ x.said) (record x { phase = Idle }) (Rr r) fs y b
 row_keeps k w Idle x (Rej r) fs y b = first_gone k (w ++ x.said) (record x { phase = Idle }) (Rej r) fs y b
+row_keeps k w Idle x (Srej r) fs y b = absurd (no_selective y.calling x.taken y.sent (marks fs) b.1.1)
 row_keeps k w Idle x SetUp fs y b =
     set_up_idle k w x.extended (record x { phase = Idle }) fs y (first_gone k (w ++ x.said) (record x { phase = Idle }) SetUp fs y b)
 row_keeps k w Idle x Disc fs y b = b
@@ -214,6 +226,7 @@ row_keeps k w Idle x (Ua final) fs y b = b
 row_keeps k w Setting x (Info n r q) fs y b = first_gone k (w ++ x.said) (record x { phase = Setting }) (Info n r q) fs y b
 row_keeps k w Setting x (Rr r) fs y b = first_gone k (w ++ x.said) (record x { phase = Setting }) (Rr r) fs y b
 row_keeps k w Setting x (Rej r) fs y b = first_gone k (w ++ x.said) (record x { phase = Setting }) (Rej r) fs y b
+row_keeps k w Setting x (Srej r) fs y b = absurd (no_selective y.calling x.taken y.sent (marks fs) b.1.1)
 row_keeps k w Setting x SetUp fs y b =
     absurd (true≢false (sym b.0.2.1 ∙ (set_up_at k (w ++ x.said) (record x { phase = Setting }) fs y b).0))
 row_keeps k w Setting x Disc fs y b =
@@ -238,6 +251,7 @@ row_keeps k w Up x (Rej r) fs y b =
     let a = half_ack k r (infos (w ++ x.said)) (marks (w ++ x.said)) (numbers fs) u y b.0 in
     subst (λ (o : Option ℕ). Both k w (acknowledging o (λ t. repeats_rejected (marks_busy false t)) u) fs y) (sym e)
     (repeat_keeps k w (marks_busy false (acknowledges r u)) fs y (first_gone k (w ++ x.said) (acknowledges r u) (Rej r) fs y (a, b.1, b.2, b.3, b.4)))
+row_keeps k w Up x (Srej r) fs y b = absurd (no_selective y.calling x.taken y.sent (marks fs) b.1.1)
 row_keeps k w Up x SetUp fs y b =
     set_up_up k w x.extended (record x { phase = Up }) fs y (set_up_at k (w ++ x.said) (record x { phase = Up }) fs y b).1
     (first_gone k (w ++ x.said) (record x { phase = Up }) SetUp fs y b)

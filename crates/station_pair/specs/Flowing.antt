@@ -1,7 +1,7 @@
 -- Lemmas: what flows between two stations while their line loses nothing, and repeats nothing; no claim rests on it.
 use Rattle.std.specs.Prelude.{◌≡◌, ◌⊎◌, ℕ, ◌+◌, ◌<◌, ◌≤◌, Bool, true, false, not, List, [], ◌∷◌, ◌++◌, length}
 use Rattle.station_model.specs.declared.phase.Phase.TheVariants.{Idle, Setting, Up}
-use Rattle.station_model.specs.Frames.{Frame, Info, Rr, Rej, SetUp, Disc, Dm, Ua}
+use Rattle.station_model.specs.Frames.{Frame, Info, Rr, Rej, Srej, SetUp, Disc, Dm, Ua}
 use Rattle.station_model.specs.Stations.{Station}
 use Rattle.station_model.specs.Sending.{can_send}
 use Rattle.station_pair.specs.Invariant.{infos, numbers}
@@ -23,6 +23,7 @@ abbrev pub IsData : Frame → Type 0
 IsData (Info ns nr payload) = Unit {0}
 IsData (Rr nr) = Unit {0}
 IsData (Rej nr) = ⊥
+IsData (Srej nr) = ⊥
 IsData SetUp = ⊥
 IsData Disc = ⊥
 IsData Dm = ⊥
@@ -57,6 +58,7 @@ Rises low [] high owed = owed ≡ true → low < high
 Rises low (Info ns nr payload ∷ fs) high owed = Rises nr fs high owed
 Rises low (Rr nr ∷ fs) high owed = (low < nr) × Rises nr fs high owed
 Rises low (Rej nr ∷ fs) high owed = Rises nr fs high owed
+Rises low (Srej nr ∷ fs) high owed = Rises low fs high owed
 Rises low (SetUp ∷ fs) high owed = Rises low fs high owed
 Rises low (Disc ∷ fs) high owed = Rises low fs high owed
 Rises low (Dm ∷ fs) high owed = Rises low fs high owed

@@ -3,7 +3,7 @@ use Rattle.std.specs.Prelude.{◌≡◌, ℕ, ◌+◌, ◌≤◌, min, max, Bool
 use Rattle.std.specs.List.{flat_map}
 use Rattle.station_model.specs.declared.phase.Phase.{Phase}
 use Rattle.station_model.specs.declared.phase.Phase.TheVariants.{Idle, Setting, Up, Down}
-use Rattle.station_model.specs.Frames.{Frame, Info, Rr, Rej, SetUp, Disc, Dm, Ua, modulo}
+use Rattle.station_model.specs.Frames.{Frame, Info, Rr, Rej, Srej, SetUp, Disc, Dm, Ua, modulo}
 use Rattle.station_model.specs.Stations.{Station}
 use Rattle.station_pair.specs.Laws.{IsLosingLineRelease}
 
@@ -14,6 +14,7 @@ abbrev pub info_of : Frame → List (ℕ × List ℕ)
 info_of (Info ns nr payload) = (ns, payload) ∷ []
 info_of (Rr nr) = []
 info_of (Rej nr) = []
+info_of (Srej nr) = []
 info_of SetUp = []
 info_of Disc = []
 info_of Dm = []
@@ -27,6 +28,7 @@ abbrev pub number_of : Frame → List ℕ
 number_of (Info ns nr payload) = nr ∷ []
 number_of (Rr nr) = nr ∷ []
 number_of (Rej nr) = nr ∷ []
+number_of (Srej nr) = []
 number_of SetUp = []
 number_of Disc = []
 number_of Dm = []
@@ -35,11 +37,12 @@ number_of (Ua final) = []
 abbrev pub numbers : List Frame → List ℕ
 numbers l = flat_map number_of l
 
--- the set-up frame has the mark 0, an I frame the mark 1
+-- the set-up frame has the mark 0, an I frame the mark 1, and SREJ, which no station with go-back sends, the mark 2
 abbrev pub mark_of : Frame → List ℕ
 mark_of (Info ns nr payload) = 1 ∷ []
 mark_of (Rr nr) = []
 mark_of (Rej nr) = []
+mark_of (Srej nr) = 2 ∷ []
 mark_of SetUp = 0 ∷ []
 mark_of Disc = []
 mark_of Dm = []

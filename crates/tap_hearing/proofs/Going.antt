@@ -126,7 +126,7 @@ module _ (turns : HearingTurns) (calling : Bool) (finds : Finds) (now : ℕ) (v 
 
   left_goes : IsLeft x.line (station_behind x now v) → Claim (noted (comes model finds now v x))
   left_goes left =
-      let d : station.Deed = record { up = false; payload = None; released = Some left.0 } in
+      let d : station.Deed = record { up = false; payload = None; more = []; released = Some left.0 } in
       let e = came finds now v x d l.live (ap (λ (u : Tuned). u.deed) left.1) in
       nothing_left (noted (comes model finds now v x)) left.0 (ap (λ (n : Noted). n.released) e) (ap (λ (n : Noted). n.received) e)
       (ap (λ (n : Noted). n.line.taken) e ∙ ap (λ (u : Tuned). u.taken) left.1)
@@ -143,7 +143,7 @@ module _ (turns : HearingTurns) (calling : Bool) (finds : Finds) (now : ℕ) (v 
 
   -- the link comes up
   abbrev up_line : Tuned
-  up_line = record (tuned (settled x.line)) { phase = Up; deed = record { up = true; payload = None; released = None } }
+  up_line = record (tuned (settled x.line)) { phase = Up; deed = record { up = true; payload = None; more = []; released = None } }
 
   up_noted : noted (comes_up model z) ≡ record (noted z) { received = [] }
   up_noted =
@@ -158,7 +158,7 @@ module _ (turns : HearingTurns) (calling : Bool) (finds : Finds) (now : ℕ) (v 
       let n : Noted = record (noted x) { line = up_line; received = [] } in
       let f : Fresh (noted x) = l.fresh closed in
       let e : noted (comes model finds now v x) ≡ n =
-      came finds now v x (record { up = true; payload = None; released = None }) l.live (ap (λ (u : Tuned). u.deed) up)
+      came finds now v x (record { up = true; payload = None; more = []; released = None }) l.live (ap (λ (u : Tuned). u.deed) up)
       ∙ up_noted ∙ ap (λ (u : Tuned). record (noted x) { line = u; received = [] }) up in
       let anew : open_ear ≡ ear_at true n =
       ap (λ (t : List (List ℕ)). record open_ear { count = length t }) (sym f.taken)
@@ -173,7 +173,7 @@ module _ (turns : HearingTurns) (calling : Bool) (finds : Finds) (now : ℕ) (v 
   -- ---- a payload
 
   module _ (is_open : opened ≡ true) (piece : List ℕ) (is : weight_in opened side k.count read ≡ Counts piece)
-      (took : tuned (station_behind x now v) ≡ record (tuned (settled x.line)) { taken = x.line.taken ++ piece ∷ []; deed = record { up = false; payload = Some piece; released = None } }) where
+      (took : tuned (station_behind x now v) ≡ record (tuned (settled x.line)) { taken = x.line.taken ++ piece ∷ []; deed = record { up = false; payload = Some piece; more = []; released = None } }) where
     abbrev joined : List ℕ × joining.Answer
     joined = joining.step x.joined piece
 
@@ -238,7 +238,7 @@ module _ (turns : HearingTurns) (calling : Bool) (finds : Finds) (now : ℕ) (v 
 
     payload_goes : Claim (noted (comes model finds now v x))
     payload_goes =
-        let e = came finds now v x (record { up = false; payload = Some piece; released = None }) l.live (ap (λ (u : Tuned). u.deed) took) in
+        let e = came finds now v x (record { up = false; payload = Some piece; more = []; released = None }) l.live (ap (λ (u : Tuned). u.deed) took) in
         subst Claim (sym e) (follows_goes (noted (block_at model finds joined.1 w)) (block_follows calling finds w w_listens refl joined.1))
 
   -- ---- whatever the frame is

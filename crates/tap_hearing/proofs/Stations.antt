@@ -38,14 +38,14 @@ shape opened calling s = record s { calling = calling; extended = false; phase =
 
 -- it is released
 abbrev pub IsLeft : Station → Station → Type 0
-IsLeft s t = (why : Release) × (tuned t ≡ record (tuned s) { phase = Down; deed = record { up = false; payload = None; released = Some why } })
+IsLeft s t = (why : Release) × (tuned t ≡ record (tuned s) { phase = Down; deed = record { up = false; payload = None; more = []; released = Some why } })
 
 -- it does what the frame is to an ear, or it is released
 abbrev pub Does : Weight → Station → Station → Type 0
 Does Nothing s t = (tuned t ≡ tuned s) ⊎ IsLeft s t
-Does Opens s t = (tuned t ≡ record (tuned s) { phase = Up; deed = record { up = true; payload = None; released = None } }) ⊎ IsLeft s t
+Does Opens s t = (tuned t ≡ record (tuned s) { phase = Up; deed = record { up = true; payload = None; more = []; released = None } }) ⊎ IsLeft s t
 Does (Counts piece) s t =
-    (tuned t ≡ record (tuned s) { taken = s.taken ++ piece ∷ []; deed = record { up = false; payload = Some piece; released = None } }) ⊎ IsLeft s t
+    (tuned t ≡ record (tuned s) { taken = s.taken ++ piece ∷ []; deed = record { up = false; payload = Some piece; more = []; released = None } }) ⊎ IsLeft s t
 Does EndsIt s t = IsLeft s t
 
 pub leaves : (w : Weight) (s t : Station) → IsLeft s t → Does w s t
@@ -92,7 +92,7 @@ gone : (w : Weight) (s t : Station) → tuned t ≡ tuned s → Does w s (releas
 gone w s t e =
     leaves w s (releases PeerDisconnected t) (
       release_of PeerDisconnected,
-      ap (λ (v : Tuned). record v { phase = Down; deed = record { up = false; payload = None; released = Some (release_of PeerDisconnected) } }) e,
+      ap (λ (v : Tuned). record v { phase = Down; deed = record { up = false; payload = None; more = []; released = Some (release_of PeerDisconnected) } }) e,
     )
 
 gone_unless : (information : List ℕ) (w : Weight) (s t : Station) → tuned t ≡ tuned s → Does w s (if is_some_octets information then refuses_frame s else releases PeerDisconnected t)
