@@ -23,6 +23,10 @@ HasRoom queue = deque_len queue.seen < deque_capacity queue.seen
 abbrev pub IsOpen : List Place → ℕ → Type 0
 IsOpen places number = (place : Place) × Contains places place × (place.number ≡ number)
 
+-- the connection of this number is open, and has this slot
+abbrev pub HasSlot : List Place → ℕ → ℕ → Type 0
+HasSlot places number slot = (place : Place) × Contains places place × (place.number ≡ number) × (place.slot ≡ slot)
+
 -- no connection of this number is open
 abbrev pub IsClosed : List Place → ℕ → Type 0
 IsClosed places number = All (λ place. place.number ≢ number) places

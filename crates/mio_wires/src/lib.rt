@@ -4,6 +4,7 @@
 //! reaches the real thing is shown by its tests.
 #![tactic(auto)]
 
+mod accepting;
 mod faults;
 mod lines;
 mod moments;

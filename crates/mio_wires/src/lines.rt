@@ -1,7 +1,9 @@
 // The connections: those that are open, with what happened at them, and those that leave.
-ghost use Rattle.std.specs.Prelude.{◌≡◌, ◌==◌, true, length, IfSome};
+ghost use Rattle.std.specs.Prelude.{◌≡◌, ◌==◌, ◌⊎◌, true, length, Ok, IfSome};
+ghost use Rattle.std.specs.IoError.{error_kind};
 ghost use Rattle.std.specs.Io.{ReadsAtMost, WritesAtMost};
-ghost use Rattle.mio_wires.specs.Standing.{HasRoom, StandsIn, IsOpen, IsOfOpen, IsClosed, count};
+ghost use Rattle.mio_wires.specs.Standing.{HasRoom, StandsIn, IsOpen, HasSlot, IsOfOpen, IsClosed, count};
+ghost use Rattle.mio_wires.specs.Awaiting.{LeavesNothing, AwaitsRoom};
 
 use crate::queue::{Queue, Seen};
 use er_base::NoMemory;
@@ -35,24 +37,47 @@ const MOST_READ_AWAY: usize = 262_144;
 // At so many octets a read.
 const PIECE: usize = 4_096;
 
+// How a connection begins.
+#[derive(Clone, Copy, PartialEq, Eq)]
+pub enum Start {
+    Accepted,
+    // It isn't made yet, which is told as room for writing.
+    Dialled,
+    // It was accepted and couldn't be registered: nothing is read from it and written to it.
+    Dead,
+}
+
 // A connection: its number and its socket, and whether a happening of either kind may stand in the queue.
 #[derive(Drop)]
 pub struct Line {
     number: u64,
     stream: TcpStream,
-    // One that was accepted and couldn't be registered: nothing is read from it and written to it.
     is_dead: bool,
     is_readable: bool,
     is_writable: bool,
+    // Whether room for writing is to be told: a socket reports it beside all that comes, and mostly nobody waits for it.
+    awaits_room: bool,
     // Of one that leaves: how many octets may still come.
     left: Option<usize>,
 }
 
 impl Line {
-    // Says that no more is sent, and whether the peer may have more to say.
+    // Says that no more is sent, where the peer may have more to say, and whether it may. Else closing the socket says it.
     fn shuts(&mut self) -> bool {
         self.left = Some(MOST_READ_AWAY);
-        !self.is_dead && self.stream.shutdown(Shutdown::Write).is_ok() && !self.has_ended()
+        !self.is_dead && !self.has_ended() && self.stream.shutdown(Shutdown::Write).is_ok()
+    }
+
+    // Writes. Where that leaves octets, room is to be told.
+    fn write(&mut self, piece: &[u8]) -> io::Result<usize>
+        ensures bound { WritesAtMost result piece.now }
+        ensures awaits { (result ≡ Ok (length piece.now)) ⊎ (self.new.awaits_room ≡ true) }
+    {
+        let answer = self.stream.write(piece);
+        if !is_whole(&answer, piece.len()) {
+            self.awaits_room = true;
+        }
+        answer
     }
 
     // Reads away what waits, and whether this is the end: the peer has closed, the connection failed, or too much came.
@@ -138,13 +163,15 @@ impl Lines {
 
     // Keeps the socket under this number, which is above those before it. A dead one is said to be readable, so that
     // whoever reads from it learns of its end. False where there is no memory for it.
-    pub fn open(&mut self, number: u64, stream: TcpStream, is_dead: bool) -> bool {
+    pub fn open(&mut self, number: u64, stream: TcpStream, start: Start) -> bool {
+        let is_dead = start == Start::Dead;
         let line = Line {
             number,
             stream,
             is_dead,
             is_readable: is_dead,
             is_writable: false,
+            awaits_room: start == Start::Dialled,
             left: None,
         };
         let Ok(slot) = self.slots.insert(line) else {
@@ -182,7 +209,8 @@ impl Lines {
                 .add(Seen::Readable(line.number), line.is_readable);
             line.is_readable = true;
         }
-        if event.is_writable() {
+        if event.is_writable() && line.awaits_room {
+            line.awaits_room = false;
             self.queue
                 .add(Seen::Writable(line.number), line.is_writable);
             line.is_writable = true;
@@ -224,15 +252,17 @@ impl Lines {
         }
     }
 
-    // Writes to the connection of this number.
+    // Writes to the connection of this number. Where that leaves octets, room is to be told, but for one that is gone.
     pub fn write(&mut self, number: u64, piece: &[u8]) -> io::Result<usize>
-        ensures { WritesAtMost result piece.now }
+        ensures bound { WritesAtMost result piece.now }
+        ensures awaits { LeavesNothing result (length piece.now) ⊎ AwaitsRoom self.new number }
+        ensures queue { self.new.queue ≡ self.old.queue }
     {
         let Some(slot) = self.slot_of(number) else {
             return Err(gone());
         };
         match self.slots.get_mut(slot) {
-            Some(line) if !line.is_dead => line.stream.write(piece),
+            Some(line) if !line.is_dead => line.write(piece),
             _ => Err(gone()),
         }
     }
@@ -371,7 +401,8 @@ impl Lines {
 
     // The slot of the connection of this number.
     fn slot_of(&self, number: u64) -> Option<usize>
-        ensures { IfSome result (λ _. IsOpen self.now.places.items number) }
+        ensures open { IfSome result (λ _. IsOpen self.now.places.items number) }
+        ensures place { IfSome result (HasSlot self.now.places.items number) }
     {
         let at = self
             .places
@@ -385,7 +416,19 @@ impl Lines {
     }
 }
 
+// Whether a write took the whole piece.
+fn is_whole(answer: &io::Result<usize>, length: usize) -> bool
+    ensures { result ≡ true → answer.now ≡ Ok length }
+{
+    match answer {
+        Ok(count) => *count == length,
+        Err(_) => false,
+    }
+}
+
 // What a read or write answers at a connection that isn't open, or is dead.
-fn gone() -> io::Error {
+fn gone() -> io::Error
+    ensures { error_kind result ≡ ErrorKind.BrokenPipe }
+{
     io::Error::from(ErrorKind::BrokenPipe)
 }

@@ -1,24 +1,26 @@
 // The sockets, what `mio` reports of them, and nothing of numbers and counts of faults.
-ghost use Rattle.std.specs.Prelude.{◌≡◌, ◌<◌, ◌≤◌, ◌+◌, ◌⊎◌, ℕ, length, IfOk, IfSome, IsSome, true};
+ghost use Rattle.std.specs.Prelude.{◌≡◌, ◌<◌, ◌≤◌, ◌+◌, ◌⊎◌, ℕ, length, IfOk, IfSome, IsSome, true, false};
 ghost use Rattle.std.specs.Duration.{as_nanos};
 ghost use Rattle.std.specs.IoError.{error_kind};
 ghost use Rattle.mio_wires.specs.Standing.{HasRoom, StandsIn, IsClosed, count};
+ghost use Rattle.mio_wires.specs.Awaiting.{AwaitsRoom};
 
+use crate::accepting::accept;
 use crate::faults::WireFault;
-use crate::lines::{Lines, SLOTS};
+use crate::lines::{Lines, SLOTS, Start};
 use crate::moments::Moments;
 use crate::options::set_for_frames;
 use crate::queue::Seen;
 use er_base::NoMemory;
 use link_trait::{ReadAnswer, WriteAnswer};
-use mio::net::TcpStream;
+use mio::net::{TcpListener, TcpStream};
 use mio::{Events, Interest, Poll, Token};
 use std::alloc::Global;
+use std::io;
 use std::io::{ErrorKind, Read, Write};
 use std::net::{Net, SocketAddr};
 use std::rt::Clock;
 use std::time::Duration;
-use std::{io, net};
 
 // A connection's token is its slot, which is below this.
 const LISTENER: Token = Token(SLOTS);
@@ -28,6 +30,10 @@ const ACCEPT_AGAIN: u64 = 500;
 
 // Where the fault is the connection's it is tried at once, so many times in a row.
 const MOST_AT_ONCE: u8 = 64;
+
+// So many answers in a row at the most come from the queue, and the system isn't asked what happened. A connection at which
+// something always stands keeps neither peers that come nor other connections from being heard of for longer.
+const MOST_UNASKED: u8 = 16;
 
 // How often it is heard of connections that leave before the wires end.
 const MOST_HEARD: u32 = 1_000_000;
@@ -40,7 +46,7 @@ pub struct Sockets<R: Net + Clock + Drop> {
     rt: R,
     poll: io::Result<Poll>,
     events: Events,
-    listener: Option<net::TcpListener>,
+    listener: Option<TcpListener>,
     lines: Lines,
     // Whether peers may wait at the listener until a connection is closed.
     is_held_back: bool,
@@ -48,6 +54,8 @@ pub struct Sockets<R: Net + Clock + Drop> {
     again_at: Option<u64>,
     // How many accepts in a row were tried again at once.
     at_once: u8,
+    // How many answers in a row came from the queue.
+    unasked: u8,
     moments: Moments,
 }
 
@@ -65,6 +73,7 @@ impl<R: Net + Clock + Drop> Sockets<R> {
             is_held_back: false,
             again_at: None,
             at_once: 0,
+            unasked: 0,
             moments,
         })
     }
@@ -74,16 +83,17 @@ impl<R: Net + Clock + Drop> Sockets<R> {
         self.moments = Moments::from(&self.rt, now);
     }
 
-    // Listens at an IP address and a port.
+    // Listens at an IP address and a port. The connections that are accepted are set as the listener is.
     pub fn listen(&mut self, address: &str) -> Result<(), WireFault> {
         let poll = made(&self.poll)?;
         let Ok(address) = address.parse::<SocketAddr>() else {
             return Err(WireFault::NoAddress);
         };
-        let mut listener = mio::net::TcpListener::bind(&self.rt, address)?;
+        let mut listener = TcpListener::bind(&self.rt, address)?;
+        set_for_frames(&listener);
         poll.registry()
             .register(&mut listener, LISTENER, Interest::READABLE)?;
-        self.listener = Some(net::TcpListener::from(listener));
+        self.listener = Some(listener);
         Ok(())
     }
 
@@ -106,8 +116,9 @@ impl<R: Net + Clock + Drop> Sockets<R> {
             return Err(WireFault::NoAddress);
         };
         let mut stream = TcpStream::connect(&self.rt, address)?;
+        set_for_frames(&stream);
         self.register(&mut stream)?;
-        if !self.lines.open(number, stream, false) {
+        if !self.lines.open(number, stream, Start::Dialled) {
             return Err(WireFault::Full);
         }
         Ok(number)
@@ -115,18 +126,20 @@ impl<R: Net + Clock + Drop> Sockets<R> {
 
     // Accepts a peer's connection, where one waits and there is room, and answers its number, the next behind the newest.
     pub fn accept(&mut self, newest: u64) -> Option<u64>
-        ensures { IfSome result (λ number. number ≡ newest + 1) }
+        ensures number { IfSome result (λ number. number ≡ newest + 1) }
+        ensures more { IfSome result (λ _. self.new.unasked ≡ 16) }
     {
         let number = newest.checked_add(1)?;
         if self.lines.is_full() {
             self.is_held_back = true;
             return None;
         }
-        match self.listener.as_ref()?.accept() {
-            Ok((stream, _)) => {
+        match accept(self.listener.as_ref()?) {
+            Ok(stream) => {
                 self.at_once = 0;
-                self.lines.try_listener();
-                self.keep_accepted(stream, number)
+                let kept = self.keep_accepted(stream, number);
+                self.ask_for_more();
+                kept
             }
             Err(error) => {
                 self.put_off(&error);
@@ -135,23 +148,41 @@ impl<R: Net + Clock + Drop> Sockets<R> {
         }
     }
 
+    // Has the listener reported again where another peer waits, and the system asked at the next turn: an accept that finds
+    // nobody costs ten times as much.
+    fn ask_for_more(&mut self)
+        ensures { self.new.unasked ≡ 16 }
+    {
+        self.unasked = MOST_UNASKED;
+        let (Ok(poll), Some(listener)) = (&self.poll, &mut self.listener) else {
+            return;
+        };
+        let asked = poll
+            .registry()
+            .reregister(listener, LISTENER, Interest::READABLE);
+        if asked.is_err() {
+            self.lines.try_listener();
+        }
+    }
+
     // Keeps an accepted connection. One that can't be registered is kept too, as one that is dead.
-    fn keep_accepted(&mut self, stream: net::TcpStream, number: u64) -> Option<u64>
+    fn keep_accepted(&mut self, stream: TcpStream, number: u64) -> Option<u64>
         ensures { IfSome result (λ kept. kept ≡ number) }
     {
-        let is_set = stream.set_nonblocking(true).is_ok();
-        let mut stream = TcpStream::from_std(stream);
-        let is_dead = !is_set || self.register(&mut stream).is_err();
-        if self.lines.open(number, stream, is_dead) {
+        let mut stream = stream;
+        let start = match self.register(&mut stream) {
+            Ok(()) => Start::Accepted,
+            Err(_) => Start::Dead,
+        };
+        if self.lines.open(number, stream, start) {
             Some(number)
         } else {
             None
         }
     }
 
-    // Has the socket reported under the slot that it gets, and sets what it is to be set to.
+    // Has the socket reported under the slot that it gets.
     fn register(&self, stream: &mut TcpStream) -> Result<(), WireFault> {
-        set_for_frames(stream);
         let token = Token(self.lines.next_slot());
         made(&self.poll)?
             .registry()
@@ -184,11 +215,31 @@ impl<R: Net + Clock + Drop> Sockets<R> {
         }
     }
 
-    // Waits for the next happening, at the latest until this moment, and takes the first one. None where there is none.
+    // Takes the first happening, where none stands in the queue once one comes, at the latest until this moment. None where
+    // there is none.
     pub fn next(&mut self, until: Option<u64>) -> Result<Option<Seen>, WireFault> {
-        let wait = self.wait(until);
-        self.hear(wait)?;
+        if !self.answers_unasked() {
+            let wait = self.wait(until);
+            self.hear(wait)?;
+        }
         Ok(self.lines.take())
+    }
+
+    // Whether an answer comes from the queue, and the system isn't asked what happened: only where something stands there, and
+    // so many times in a row at the most.
+    fn answers_unasked(&mut self) -> bool
+        ensures stands { result ≡ true → 0 < count self.old.lines.queue }
+        ensures most { result ≡ true → self.new.unasked ≤ 16 }
+        ensures counted { result ≡ true → self.new.unasked ≡ self.old.unasked + 1 }
+        ensures asks { result ≡ false → self.new.unasked ≡ 0 }
+        ensures lines { self.new.lines ≡ self.old.lines }
+    {
+        if self.lines.is_quiet() || self.unasked >= MOST_UNASKED {
+            self.unasked = 0;
+            return false;
+        }
+        self.unasked += 1;
+        true
     }
 
     // Waits at most so long, and hears of all that happened.
@@ -246,9 +297,10 @@ impl<R: Net + Clock + Drop> Sockets<R> {
         }
     }
 
-    // Writes to the connection of this number. One that isn't made yet has no room.
+    // Writes to the connection of this number. One that isn't made yet has no room. That there is room is told then.
     pub fn write(&mut self, number: u64, piece: &[u8]) -> WriteAnswer
-        ensures { (n : ℕ) → result ≡ WriteAnswer.Some n → (1 ≤ n) × (n ≤ length piece.now) }
+        ensures fits { (n : ℕ) → result ≡ WriteAnswer.Some n → (1 ≤ n) × (n ≤ length piece.now) }
+        ensures told { result ≡ WriteAnswer.NotNow → 0 < length piece.now → HasRoom self.old.lines.queue → AwaitsRoom self.new.lines number ⊎ StandsIn self.new.lines.queue (Seen.Writable number) }
     {
         match self.lines.write(number, piece) {
             Ok(0) => WriteAnswer::NotNow,
@@ -332,7 +384,9 @@ fn earlier(one: Option<u64>, other: Option<u64>) -> Option<u64> {
 }
 
 // Whether a write that failed so may be tried later: there is no room, or the connection isn't made yet.
-fn has_no_room(kind: ErrorKind) -> bool {
+fn has_no_room(kind: ErrorKind) -> bool
+    ensures { result ≡ true → (kind ≡ ErrorKind.WouldBlock) ⊎ (kind ≡ ErrorKind.NotConnected) }
+{
     kind == ErrorKind::WouldBlock || kind == ErrorKind::NotConnected
 }
 

@@ -1,5 +1,6 @@
 ghost use Rattle.std.specs.Prelude.{◌<◌, length};
 
+use crate::options::{is_set_for_frames, set_for_frames};
 use crate::{MOST_CONNECTIONS, MioWires};
 use link_trait::{Conn, Failed, Happening, ReadAnswer, Wires, WriteAnswer};
 use std::io::{Read, Write};
@@ -258,5 +259,78 @@ fn people_are_told_and_waits_end(rt: HostRuntime) -> Result<(), Fail> {
     let mut wires = MioWires::new(rt.alloc(), rt)?;
     assert!(rt; tells_people(rt, &mut wires, taken.as_str())?);
     assert!(rt; waits(rt, &mut wires)?);
+    Ok(())
+}
+
+// Whether the peer at this address is accepted within so many turns, in which connection 1 never stops being readable.
+fn is_accepted_beside<W: Wires>(
+    rt: HostRuntime,
+    wires: &mut W,
+    address: &str,
+    turns: u32,
+) -> io::Result<bool> {
+    let _peer = net::TcpStream::connect(&rt, address)?;
+    for _ in 0..turns {
+        match wires.turn(Some(soon(rt)?)) {
+            Happening::Accepted(_) => return Ok(true),
+            Happening::Readable(Conn(1)) => {
+                if wires.read(Conn(1), &mut [0; 1]) != ReadAnswer::Some(1) {
+                    return Ok(false);
+                }
+            }
+            _ => {}
+        }
+    }
+    Ok(false)
+}
+
+// Whether peers are accepted, though octets of the first one wait at each turn.
+fn hears_of_others<W: Wires>(rt: HostRuntime, wires: &mut W, address: &str) -> io::Result<bool> {
+    let mut busy = net::TcpStream::connect(&rt, address)?;
+    busy.write_all(&[7; 200])?;
+    let is_first = accepted(rt, wires)? == Some(Conn(1));
+    let is_heard = is_accepted_beside(rt, wires, address, 40)?;
+    Ok(is_first && is_heard && is_accepted_beside(rt, wires, address, 40)?)
+}
+
+#[test]
+fn one_that_is_always_readable_holds_nobody_back(rt: HostRuntime) -> Result<(), Fail> {
+    let address = free_address(rt)?;
+    let mut wires = MioWires::new(rt.alloc(), rt)?;
+    assert!(rt; wires.listen(address.as_str()).is_ok());
+    assert!(rt; hears_of_others(rt, &mut wires, address.as_str())?);
+    Ok(())
+}
+
+// Whether a connection, though there is room at it, isn't told to be writable.
+fn is_not_told_of_room<W: Wires>(rt: HostRuntime, wires: &mut W, conn: Conn) -> io::Result<bool> {
+    for _ in 0..5 {
+        let is_written = wires.write(conn, b"octets") == WriteAnswer::Some(6);
+        if !is_written || wires.turn(Some(soon(rt)?)) == Happening::Writable(conn) {
+            return Ok(false);
+        }
+    }
+    Ok(true)
+}
+
+#[test]
+fn room_that_nobody_waits_for_is_not_told(rt: HostRuntime) -> Result<(), Fail> {
+    let address = free_address(rt)?;
+    let mut wires = MioWires::new(rt.alloc(), rt)?;
+    assert!(rt; wires.listen(address.as_str()).is_ok());
+    let _peer = net::TcpStream::connect(&rt, address.as_str())?;
+    assert!(rt; accepted(rt, &mut wires)? == Some(Conn(1)));
+    assert!(rt; is_not_told_of_room(rt, &mut wires, Conn(1))?);
+    Ok(())
+}
+
+#[test]
+fn an_accepted_connection_is_set_as_its_listener(rt: HostRuntime) -> Result<(), Fail> {
+    let listener = listener(rt)?;
+    set_for_frames(&listener);
+    let peer = net::TcpStream::connect(&rt, listener.local_addr()?)?;
+    let (accepted, _) = listener.accept()?;
+    assert!(rt; is_set_for_frames(&accepted));
+    assert!(rt; !is_set_for_frames(&peer));
     Ok(())
 }

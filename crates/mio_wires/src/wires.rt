@@ -15,9 +15,13 @@ use std::rt::Clock;
 /// Wires over TCP sockets.
 ///
 /// An address is an IP address and a port, as `127.0.0.1:4711`; a listen or dial of any other text fails, and no name is
-/// looked up. What happened stands in a queue, each happening once. A turn polls, without waiting where something stands
-/// there and else until the given moment, and answers the first of the queue. At most 257 connections are open at once:
-/// while they are, nothing is accepted, and a dial fails. Only [`new`](MioWires::new) takes memory.
+/// looked up. What happened stands in a queue, each happening once, and a turn answers the first. Where none stands there it
+/// polls before, until the given moment; where one does it polls only behind sixteen answers and behind an accepted
+/// connection, and doesn't wait. At most 257 connections are open at once: while they are, nothing is accepted, and a dial
+/// fails. Only [`new`](MioWires::new) takes memory.
+///
+/// A connection is writable once it was dialled and is made, and once there is room behind a write that took less than the
+/// whole piece. Other room isn't told.
 ///
 /// An accept that failed is tried again: at once where the fault was the connection's, else within a second. A connection
 /// that was accepted and can't be registered is accepted all the same, and readable, and its first read fails.
