@@ -1,2 +1,4 @@
 mod KeptLines
+mod PlainLines
 mod TapLines
+mod Values

@@ -1,18 +1,19 @@
 -- The lines so far, before what those that are left say.
-use Rattle.std.proofs.Common.{◌≡◌, List, [], ◌∷◌, ◌++◌, Result, Ok, Err, refl, ap, sym, ◌∙◌, append_assoc, append-nil}
+use Rattle.std.proofs.Common.{arith, ◌≡◌, ℕ, List, length, [], ◌∷◌, ◌++◌, Result, Ok, Err, refl, ap, sym, ◌∙◌, append_assoc, append-nil}
 use Rattle.er_base.specs.declared.why.Why.{Why}
 use Rattle.er_base.specs.declared.line_fault.LineFault.{LineFault}
 use Rattle.er_base.specs.declared.line_fault.LineFault.TheVariants as line
 use Rattle.er_base.specs.declared.text_fault.TextFault.{TextFault}
-use Rattle.er_base.specs.declared.text_fault.TextFault.TheVariants.{At}
-use Rattle.er_base.specs.Lines.{Row}
+use Rattle.er_base.specs.declared.text_fault.TextFault.TheVariants.{At, NoMemory}
+use Rattle.er_base.specs.Lines.{Row, lines_of, rows_of}
 use Rattle.er_base.specs.Rows.{Refuses}
+use Rattle.er_tap.specs.declared.tap.Tap.{Tap}
 use Rattle.er_tap.specs.declared.tap_line.TapLine.{TapLine}
 use Rattle.er_tap.specs.declared.tap_step.TapStep.{TapStep}
 use Rattle.er_tap.specs.Answers.{Answers}
 use Rattle.er_tap.specs.Files.{with_line, line_says, lines_said, tap_from}
 use Rattle.er_tap.specs.Ranges.{IsInRange, AreInRange}
-use Rattle.er_tap.specs.Readings.{fault_at}
+use Rattle.er_tap.specs.Readings.{fault_at, RefusesLines}
 
 abbrev pub behind : List TapLine → Result (List TapLine) TextFault → Result (List TapLine) TextFault
 behind front (Err fault) = Err fault
@@ -22,33 +23,48 @@ pub behind_none : (read : Result (List TapLine) TextFault) → behind [] read �
 behind_none (Err fault) = refl
 behind_none (Ok lines) = refl
 
-line_more : (front : List TapLine) (x : TapLine) (rest : Result (List TapLine) TextFault)
+pub line_more : (front : List TapLine) (x : TapLine) (rest : Result (List TapLine) TextFault)
     → behind front (with_line x rest) ≡ behind (front ++ x ∷ []) rest
 line_more front x (Err fault) = refl
 line_more front x (Ok lines) = ap (λ (l : List TapLine). Ok l) (sym (append_assoc front (x ∷ []) lines))
 
 -- one line more
-pub one_line : (front : List TapLine) (step : TapStep) (row : Row) (rows : List Row) → line_says row.words ≡ Ok step
-    → behind front (lines_said (row ∷ rows)) ≡ behind (front ++ record { line = row.number; step = step } ∷ []) (lines_said rows)
+pub one_line : (step : TapStep) (row : Row) (rows : List Row) → line_says row.words ≡ Ok step
+    → lines_said (row ∷ rows) ≡ with_line (record { line = row.number; step = step }) (lines_said rows)
 unfolding lines_said
-one_line front step row rows e = rw e (line_more front (record { line = row.number; step = step }) (lines_said rows))
+one_line step row rows e = rw e refl
 
 -- one that is refused
-one_refused : (front : List TapLine) (why : Why) (row : Row) (rows : List Row) → line_says row.words ≡ Err why
-    → behind front (lines_said (row ∷ rows)) ≡ Err (At row.number why)
+one_refused : (why : Why) (row : Row) (rows : List Row) → line_says row.words ≡ Err why → lines_said (row ∷ rows) ≡ Err (At row.number why)
 unfolding lines_said
-one_refused front why row rows e = rw e refl
+one_refused why row rows e = rw e refl
 
-pub refused_answers : (front : List TapLine) (fault : LineFault) (row : Row) (rows : List Row) (read : Result (List TapLine) TextFault)
-    → Refuses fault (line_says row.words) → behind front (lines_said (row ∷ rows)) ≡ read → Answers (Err (fault_at row.number fault)) (tap_from read)
-refused_answers front (line.Refused why) row rows read refused all = ap tap_from (sym all ∙ one_refused front why row rows refused)
-refused_answers front (line.NoMemory want) row rows read refused all = tt
+pub line_refused : (fault : LineFault) (row : Row) (rows : List Row) → Refuses fault (line_says row.words)
+    → RefusesLines (fault_at row.number fault) (lines_said (row ∷ rows))
+line_refused (line.Refused why) row rows refused = one_refused why row rows refused
+line_refused (line.NoMemory want) row rows refused = tt
+
+pub refused_answers : (front : List TapLine) (fault : TextFault) (said all : Result (List TapLine) TextFault) → RefusesLines fault said
+    → behind front said ≡ all → Answers {A = Tap} (Err fault) (tap_from all)
+refused_answers front (At number why) said all refused read = ap tap_from (sym read ∙ ap (behind front) refused)
+refused_answers front (NoMemory want) said all refused read = tt
+
+-- a text without octets has no row
+pub no_rows : (before : ℕ) → rows_of before (lines_of []) ≡ []
+unfolding rows_of lines_of
+no_rows before = refl
 
 -- no line is left
-pub none_left : (front : List TapLine) (read : Result (List TapLine) TextFault) → behind front (lines_said []) ≡ read
+none_left : (front : List TapLine) (read : Result (List TapLine) TextFault) → behind front (lines_said []) ≡ read
     → tap_from read ≡ Ok (record { lines = front })
 unfolding lines_said
 none_left front read all = ap tap_from (sym all ∙ ap (λ (l : List TapLine). Ok l) (append-nil front))
+
+-- no octet is left
+pub all_read : (front : List TapLine) (before : ℕ) (rest : List ℕ) (read : Result (List TapLine) TextFault) → length rest ≡ 0
+    → behind front (lines_said (rows_of before (lines_of rest))) ≡ read → tap_from read ≡ Ok (record { lines = front })
+all_read front before [] read none all = none_left front read (ap (λ (rows : List Row). behind front (lines_said rows)) (sym (no_rows before)) ∙ all)
+all_read front before (x ∷ rest) read none all = absurd (omega arith)
 
 -- one line more whose numbers are in their ranges
 pub ranged_more : (front : List TapLine) (x : TapLine) → AreInRange front → IsInRange x.step → AreInRange (front ++ x ∷ [])

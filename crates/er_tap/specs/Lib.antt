@@ -3,3 +3,4 @@ pub mod Table
 pub mod Files
 pub mod Answers
 pub mod Readings
+pub mod Digits

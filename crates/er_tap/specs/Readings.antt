@@ -1,14 +1,18 @@
 -- Representation: what the reading calls answer, want of memory aside; no claim rests on it.
-use Rattle.std.specs.Prelude.{ℕ, List, Result, Ok}
+use Rattle.std.specs.Prelude.{ℕ, ◌≡◌, ◌+◌, ◌<◌, ◌≤◌, List, length, Result, Ok, Err}
 use Rattle.er_base.specs.declared.why.Why.{Why}
 use Rattle.er_base.specs.declared.line_fault.LineFault.{LineFault}
 use Rattle.er_base.specs.declared.line_fault.LineFault.TheVariants as line
 use Rattle.er_base.specs.declared.text_fault.TextFault.{TextFault}
 use Rattle.er_base.specs.declared.text_fault.TextFault.TheVariants as text
 use Rattle.er_base.specs.Arguments.{◌>>=◌}
+use Rattle.er_base.specs.Lines.{lines_of, rows_of}
 use Rattle.er_base.specs.LineFaults.{values_of}
 use Rattle.er_tap.specs.declared.line_name.LineName.{LineName}
 use Rattle.er_tap.specs.declared.tap_step.TapStep.{TapStep}
+use Rattle.er_tap.specs.declared.tap_line.TapLine.{TapLine}
+use Rattle.er_tap.specs.Files.{with_line, lines_said}
+use Rattle.er_tap.specs.Ranges.{IsInRange}
 use Rattle.er_tap.specs.Table.{argument_of, line_kinds, step_made}
 
 -- what a line says whose first word names it and that has as many words as it wants
@@ -19,3 +23,15 @@ step_said name words = values_of argument_of (line_kinds name) words >>= λ valu
 abbrev pub fault_at : ℕ → LineFault → TextFault
 fault_at number (line.Refused why) = text.At number why
 fault_at number (line.NoMemory want) = text.NoMemory want
+
+-- the first line that isn't skipped, of a text behind so many lines, says this, and this follows it
+pub record SaysFirst (before : ℕ) (text : List ℕ) (line : TapLine) (rest : List ℕ) : Type 0 where
+  pub said : lines_said (rows_of before (lines_of text)) ≡ with_line line (lines_said (rows_of line.line (lines_of rest)))
+  pub range : IsInRange line.step
+  pub less : length rest < length text
+  pub count : line.line + length rest ≤ before + length text
+
+-- the lines are refused so, but for want of memory
+abbrev pub RefusesLines : {A : Type 0} → TextFault → Result A TextFault → Type 0
+RefusesLines (text.At number why) said = said ≡ Err (text.At number why)
+RefusesLines (text.NoMemory want) said = Unit {0}

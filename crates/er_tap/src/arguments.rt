@@ -15,7 +15,7 @@ const GREATEST_NUMBER: u64 = 16_777_215;
 /// The greatest moment.
 const GREATEST_MOMENT: u64 = 1_000_000_000_000_000;
 /// The most octets of a HEX word.
-const MOST_TEXT_OCTETS: usize = 4_096;
+pub(crate) const MOST_TEXT_OCTETS: usize = 4_096;
 
 /// A link, 1 to 64.
 pub fn read_link(word: &[u8]) -> Result<u8, Why>

@@ -4,7 +4,9 @@
 #![tactic(auto)]
 
 mod arguments;
+mod digits;
 mod line_name;
+mod plain_line;
 mod reader;
 mod steps;
 mod tap;

@@ -1,14 +1,15 @@
 //! Reads a tap, line by line.
 
-ghost use Rattle.std.specs.Prelude.{◌≡◌, ◌≤◌, ◌+◌, length, map, IfOk};
+ghost use Rattle.std.specs.Prelude.{◌≡◌, ◌≤◌, ◌+◌, [], length, map, IfOk, IfErr, MatchOption};
 ghost use Rattle.er_base.specs.Lines.{lines_of, rows_of};
 ghost use Rattle.er_base.specs.Rows.{Gives};
 ghost use Rattle.er_tap.specs.Answers.{Answers};
 ghost use Rattle.er_tap.specs.Files.{line_says, lines_said, is_header, tap_from, tap_of};
 ghost use Rattle.er_tap.specs.Ranges.{IsInRange, CanBeRead};
-ghost use Rattle.er_tap.specs.Readings.{fault_at};
+ghost use Rattle.er_tap.specs.Readings.{fault_at, RefusesLines, SaysFirst};
 
 use crate::line_name::LineName;
+use crate::plain_line::plain_line;
 use crate::steps::read_step;
 use crate::tap::Tap;
 use crate::tap_line::TapLine;
@@ -61,6 +62,49 @@ fn read_line(alloc: Global, words: &[&[u8]]) -> Result<TapStep, LineFault>
     read_step(alloc, name, arguments)
 }
 
+// What the first line that isn't skipped says, read word by word, and what follows it; None where no such line is left. So many lines
+// stand before this text.
+fn any_line(
+    alloc: Global,
+    before: usize,
+    text: &[u8],
+) -> Result<Option<(TapLine, &[u8])>, TextFault>
+    requires { before + length text.now ≤ 16777216 }
+    ensures line { IfOk result (λ found. MatchOption found (rows_of before (lines_of text.now) ≡ []) (λ p. SaysFirst before text.now p.0 p.1.now)) }
+    ensures fault { IfErr result (λ fault. RefusesLines fault (lines_said (rows_of before (lines_of text.now)))) }
+{
+    let Some((row, behind)) = next_row(before, text) else {
+        return Ok(None);
+    };
+    match read_line(alloc, row.words.as_slice()) {
+        Ok(step) => {
+            let line = TapLine {
+                line: row.number,
+                step,
+            };
+            Ok(Some((line, behind)))
+        }
+        Err(fault) => Err(at(row.number, fault)),
+    }
+}
+
+// The same, at once where the line is one of octets that is written as lines are printed.
+fn next_line(
+    alloc: Global,
+    before: usize,
+    text: &[u8],
+) -> Result<Option<(TapLine, &[u8])>, TextFault>
+    requires { before + length text.now ≤ 16777216 }
+    ensures line { IfOk result (λ found. MatchOption found (rows_of before (lines_of text.now) ≡ []) (λ p. SaysFirst before text.now p.0 p.1.now)) }
+    ensures fault { IfErr result (λ fault. RefusesLines fault (lines_said (rows_of before (lines_of text.now)))) }
+{
+    match plain_line(alloc, before, text) {
+        Ok(Some(found)) => Ok(Some(found)),
+        Ok(None) => any_line(alloc, before, text),
+        Err(want) => Err(TextFault::NoMemory(want)),
+    }
+}
+
 // The tap of the lines behind the header, whose number is `header`.
 fn read_behind(alloc: Global, header: usize, text: &[u8]) -> Result<Tap, TextFault>
     requires { header + length text.now ≤ 16777216 }
@@ -70,14 +114,16 @@ fn read_behind(alloc: Global, header: usize, text: &[u8]) -> Result<Tap, TextFau
     let mut lines = Vec::new(alloc);
     let mut number = header;
     let mut rest = text;
-    while let Some((row, behind)) = next_row(number, rest) {
-        number = row.number;
-        rest = behind;
-        match read_line(alloc, row.words.as_slice()) {
-            Ok(step) => {
-                lines.push(TapLine { line: number, step })?;
+    while !rest.is_empty() {
+        match next_line(alloc, number, rest) {
+            Ok(Some((line, behind))) => {
+                number = line.line;
+                lines.push(line)?;
+                rest = behind;
             }
-            Err(fault) => return Err(at(number, fault)),
+            // lines that are skipped are all that is left
+            Ok(None) => rest = &[],
+            Err(fault) => return Err(fault),
         }
     }
     Ok(Tap {

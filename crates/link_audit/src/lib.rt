@@ -4,6 +4,7 @@
 //! it. What is heard of a stream, the verdicts and the text are defined in `tap_model`; nothing here decides more than they do.
 #![tactic(auto)]
 
+mod digits;
 mod ear;
 mod items;
 mod judging;

@@ -9,7 +9,8 @@ ghost use Rattle.sapdu.specs.Reading.{view, viewed};
 ghost use Rattle.tap_model.specs.VerdictWords.{verdict_word};
 ghost use Rattle.tap_model.specs.Texts.{kind_of, item_words};
 
-use er_base::PrintedWord::{Decimal, Hexadecimal, Plain};
+use crate::digits::put_digits;
+use er_base::PrintedWord::{Decimal, Plain};
 use er_base::{NoMemory, Side, put_line};
 use sapdu::{SaFault, SaPdu};
 use tap_model::AuditVerdict;
@@ -54,13 +55,13 @@ fn put_data(
     ensures { OnOk result
         (out.new.items ≡ out.old.items ++ line_text (decimal link ∷ side_word side ∷ codes "dt" ∷ verdict_word verdict ∷ hex_of user.now ∷ [])) }
 {
-    let words = [
-        Plain(side.word()),
-        Plain(b"dt"),
-        Plain(verdict.word()),
-        Hexadecimal(user),
-    ];
-    put_line(&Decimal(link as u64), &words, out)
+    let words = [Plain(side.word()), Plain(b"dt"), Plain(verdict.word())];
+    put_line(&Decimal(link as u64), &words, out)?;
+    out.pop();
+    out.push(b' ')?;
+    put_digits(user, out)?;
+    out.push(b'\n')?;
+    Ok(())
 }
 
 /// Appends the line of an item.

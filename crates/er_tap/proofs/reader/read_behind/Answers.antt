@@ -1,33 +1,38 @@
--- One line more, a line that is refused, and the end of the text, by the lemmas on what lines say.
-use Rattle.std.proofs.Common.{sym, ◌∙◌, arith}
-use Rattle.er_tap.proofs.TapLines.{one_line, none_left, refused_answers, ranged_more}
-use Rattle.er_tap.proofs.KeptLines.{said_by_kept, refused_by_kept}
+-- One line more, lines that are skipped to the end of the text, a line that is refused, and the end, by the lemmas on what lines say.
+use Rattle.std.proofs.Common.{◌≡◌, ℕ, [], List, sym, ap, ◌∙◌, arith, eqb-true}
+use Rattle.er_base.specs.Lines.{Row, rows_of, lines_of}
+use Rattle.er_tap.specs.Files.{lines_said}
+use Rattle.er_tap.proofs.TapLines.{behind, line_more, all_read, no_rows, refused_answers, ranged_more}
 use Rattle.er_tap.proofs.reader.read_behind.Goals as goal
 
-pub loop-row-preserved : goal.loop-row-preserved
-loop-row-preserved c =
-    let cut = rw c.in-Some.is at c.next_row.ensures.cut in
-    let all = rw cut.rows at c.loop-row.invariant.said in
-    let count = rw c.in-Some.is at c.next_row.ensures.count in
-    let room = c.loop-row.invariant.room in
-    let kept = rw (sym c.as_slice.ensures.value) at cut.kept in
-    let said = said_by_kept _ cut.words _ kept (rw c.in-Ok.is at c.read_line.ensures.said) in
+pub loop-rest-preserved-in-Ok-Some : goal.loop-rest-preserved-in-Ok-Some
+loop-rest-preserved-in-Ok-Some c =
+    let before = c.loop-rest.invariant in
+    let first = rw c.in-Ok-Some.field-0-is at c.in-Ok-Some.ensures.line in
+    let room = before.room in
+    let count = first.count in
     record {
-      said = rw c.in_ok-push-in-Ok.ensures.items (sym (one_line c.loop-row.lines.items _ _ _ said) ∙ all);
-      ranged = rw c.in_ok-push-in-Ok.ensures.items (ranged_more _ _ c.loop-row.invariant.ranged (rw c.in-Ok.is at c.read_line.ensures.range));
+      said =
+          rw c.in_ok-push-in-Ok-Some.ensures.items
+          (sym (line_more c.loop-rest.lines.items c.in-Ok-Some.line (lines_said (rows_of c.in-Ok-Some.line.line (lines_of c.in-Ok-Some.behind.now))))
+          ∙ ap (behind c.loop-rest.lines.items) (sym first.said)
+          ∙ before.said);
+      ranged = rw c.in_ok-push-in-Ok-Some.ensures.items (ranged_more _ _ before.ranged first.range);
       room = omega (arith, count, room);
     }
 
-pub returns-in-Err-clause-exact : goal.returns-in-Err-clause-exact
-returns-in-Err-clause-exact c =
-    let cut = rw c.in-Some.is at c.next_row.ensures.cut in
-    let all = rw cut.rows at c.loop-row.invariant.said in
-    let kept = rw (sym c.as_slice.ensures.value) at cut.kept in
-    let refused = refused_by_kept _ cut.words c.in-Err.fault kept (rw c.in-Err.is at c.read_line.ensures.said) in
-    rw c.at.ensures (refused_answers _ c.in-Err.fault _ _ _ refused all)
+pub loop-rest-preserved : goal.loop-rest-preserved
+loop-rest-preserved c =
+    let before = c.loop-rest.invariant in
+    let none : rows_of c.loop-rest.number (lines_of c.loop-rest.rest.now) ≡ [] = rw c.in-Ok-None.field-0-is at c.in-Ok-None.ensures.line in
+    let room = before.room in
+    record {
+      said = ap (λ (rows : List Row). behind c.loop-rest.lines.items (lines_said rows)) (no_rows c.loop-rest.number ∙ sym none) ∙ before.said;
+      ranged = before.ranged;
+      room = omega (arith, room);
+    }
 
 pub returns-clause-exact : goal.returns-clause-exact
 returns-clause-exact c =
-    let none = rw c.in_default.is at c.next_row.ensures.cut in
-    let all = rw none at c.loop-row.invariant.said in
-    rw c.new.ensures (none_left _ _ all)
+    rw c.new.ensures
+    (all_read c.loop-rest.lines.items c.loop-rest.number c.loop-rest.rest.now _ (eqb-true _ _ (sym c.is_empty.ensures ∙ c.loop-rest-test.false)) c.loop-rest.invariant.said)

@@ -6,12 +6,12 @@ use Rattle.er_tap.specs.Ranges.{AreInRange}
 use Rattle.er_tap.proofs.TapLines.{behind}
 use Rattle.er_tap.proofs.reader.read_behind.Given as goal
 
-abbrev pub invariant-loop-row : goal.invariant-loop-row
-invariant-loop-row l = record {
+abbrev pub invariant-loop-rest : goal.invariant-loop-rest
+invariant-loop-rest l = record {
   said : behind l.lines.items (lines_said (rows_of l.number (lines_of l.rest))) ≡ lines_said (rows_of l.header (lines_of l.text));
   ranged : AreInRange l.lines.items;
   room : l.number + length l.rest ≤ 16777216;
 }
 
-abbrev pub decreases-loop-row : goal.decreases-loop-row
-decreases-loop-row l = length l.rest
+abbrev pub decreases-loop-rest : goal.decreases-loop-rest
+decreases-loop-rest l = length l.rest
