@@ -1,6 +1,6 @@
 //! What is heard between the flags of each connection's octets, counted for people.
 
-use er_base::{NoMemory, octets_of};
+use er_base::NoMemory;
 use hdlc_frames::{Deframer, Found};
 use readiness_loop::MOST_LIVE;
 use std::alloc::Global;
@@ -19,6 +19,7 @@ struct Ear {
 #[derive(Drop)]
 pub(crate) struct Ears {
     live: Vec<Ear>,
+    // Room for the octets of a line.
     octets: Vec<u8>,
     pub(crate) frames: u64,
     pub(crate) bad: u64,
@@ -29,7 +30,7 @@ impl Ears {
     pub(crate) fn new(alloc: Global) -> Result<Ears, NoMemory> {
         Ok(Ears {
             live: Vec::with_capacity(alloc, MOST_LIVE)?,
-            octets: Vec::with_capacity(alloc, MOST_OCTETS)?,
+            octets: vec![in alloc; 0; MOST_OCTETS]?,
             frames: 0,
             bad: 0,
         })
@@ -58,19 +59,21 @@ impl Ears {
         }
     }
 
-    /// A connection got these octets, in hexadecimal.
+    /// A connection got these octets, in hexadecimal as the program itself prints them.
     pub(crate) fn hear(&mut self, conn: Option<u64>, word: &[u8]) {
         let Some(place) = self.place_of(conn) else {
             return;
         };
-        self.octets.clear();
-        if octets_of(word, &mut self.octets).is_err() {
-            return;
+        for (octet, digits) in self.octets.iter_mut().zip(word.chunks_exact(2)) {
+            *octet = octet_of(digits);
         }
-        let Some(ear) = self.live.get_mut(place) else {
+        let (Some(octets), Some(ear)) = (
+            self.octets.get(..word.len() / 2),
+            self.live.get_mut(place),
+        ) else {
             return;
         };
-        let mut rest = self.octets.as_slice();
+        let mut rest = octets;
         // A call that finds something uses an octet at least.
         for _ in 0..rest.len() {
             let (used, found) = ear.deframer.feed(rest);
@@ -83,8 +86,22 @@ impl Ears {
         }
     }
 
+    // Where the deframer of a connection stands.
     fn place_of(&self, conn: Option<u64>) -> Option<usize> {
         let conn = conn?;
         self.live.iter().position(|ear| ear.conn == conn)
     }
+}
+
+// The octet of two digits.
+fn octet_of(digits: &[u8]) -> u8 {
+    match digits {
+        [high, low] => value_of(*high) << 4 | value_of(*low),
+        _ => 0,
+    }
+}
+
+// The value of a digit, `0` to `9` or `a` to `f`: the latter have bit 6, and from 1 on in their lower half.
+fn value_of(digit: u8) -> u8 {
+    (digit & 15).wrapping_add((digit >> 6).wrapping_mul(9))
 }

@@ -2,6 +2,7 @@
 
 use crate::ears::Ears;
 use er_base::{NoMemory, decimal, next_word};
+use memchr::memchr_iter;
 use std::alloc::Global;
 
 // The most releases of different reasons that are counted apart.
@@ -60,12 +61,18 @@ impl Tally {
 
     /// Counts what the lines of a piece tell. A piece is whole lines.
     pub(crate) fn hear(&mut self, piece: &[u8]) {
-        for line in piece.split(|octet| *octet == b'\n') {
-            match next_word(line) {
-                Some((b">", rest)) => self.event(rest),
-                Some((b"<", rest)) => self.outcome(rest),
-                _ => {}
-            }
+        let mut from = 0_usize;
+        for end in memchr_iter(b'\n', piece) {
+            self.line(piece.get(from..end).unwrap_or(&[]));
+            from = end.saturating_add(1);
+        }
+    }
+
+    fn line(&mut self, line: &[u8]) {
+        match next_word(line) {
+            Some((b">", rest)) => self.event(rest),
+            Some((b"<", rest)) => self.outcome(rest),
+            _ => {}
         }
     }
 
@@ -88,8 +95,8 @@ impl Tally {
             b"full" | b"unserved" => self.turned_away = self.turned_away.saturating_add(1),
             b"send" => self.said = self.said.saturating_add(1),
             b"octets" => {
-                if let Some((hex, _)) = next_word(rest) {
-                    self.ears.hear(decimal(conn), hex);
+                if let Some((b" ", digits)) = rest.split_at_checked(1) {
+                    self.ears.hear(decimal(conn), digits);
                 }
             }
             _ => {}
