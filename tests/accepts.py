@@ -118,6 +118,13 @@ with tempfile.TemporaryDirectory() as work:
     text = serving.ended()
     check(any(line.endswith(" 1 fault") for line in text.splitlines()), f"and is told: {text[:300]}")
 
+# two peers wait at the first accept, behind which the listener can't be reported again: the third registering is that
+with tempfile.TemporaryDirectory() as work:
+    serving = Serving(work, "accept4:delay_enter=700000:when=1", "epoll_ctl:error=ENOSPC:when=3")
+    clients = [serving.connected() for _ in range(2)]
+    check(all(is_answered(client, 5) for client in clients), "a peer that waits behind the first is accepted where the listener can't be reported again")
+    serving.ended()
+
 # what is set at a connection
 with tempfile.TemporaryDirectory() as work:
     serving = Serving(work)
