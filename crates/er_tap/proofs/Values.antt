@@ -71,6 +71,19 @@ all_small values i greatest h few all =
     All-weaker (λ value. value ≤ greatest) (λ value. value < 16) (λ value below. omega (arith, below, few)) values
     (rw (take_all i values h) at all)
 
+-- two values in one octet
+paired : ℕ → ℕ
+paired octet = bit_or (octet / 16 * 16 % 256) (octet % 16)
+
+pub value_pair : (high low : ℕ) → high < 16 → low < 16 → bit_or (high * 16 % 256) low ≡ high * 16 + low
+unfolding paired
+value_pair high low h k =
+    let octet : ℕ = high * 16 + low in
+    let above : octet / 16 ≡ high = omega arith in
+    let below : octet % 16 ≡ low = omega arith in
+    let all : paired octet ≡ octet = eqb-true _ _ (agree_below_at (λ o. paired o == o) (λ _. true) 256 octet refl (omega arith)) in
+    rw (above, below) at all
+
 -- the next two values
 pair_left : (values : List ℕ) (i : ℕ) → 2 * i + 1 < length values
     → drop (2 * i) values ≡ get_or values (2 * i) 0 ∷ get_or values (2 * i + 1) 0 ∷ drop (2 * (i + 1)) values

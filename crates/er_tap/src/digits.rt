@@ -47,6 +47,18 @@ fn greater(one: u8, other: u8) -> u8
     if one < other { other } else { one }
 }
 
+// Of each two values at a place one that isn't below the other.
+fn greatest_of(one: &[u8; 32], other: &[u8; 32]) -> [u8; 32]
+    ensures one { digits_model.AreValues result → digits_model.AreValues one.now }
+    ensures other { digits_model.AreValues result → digits_model.AreValues other.now }
+{
+    let mut greatest = [0; 32];
+    'values: for place in 0..32 {
+        greatest[place] = greater(one[place], other[place]);
+    }
+    greatest
+}
+
 // Whether all octets of a block are digits, by their values.
 fn are_values(values: &[u8; 32]) -> bool
     ensures { result ≡ true → digits_model.AreValues values.now }
@@ -60,26 +72,13 @@ fn are_values(values: &[u8; 32]) -> bool
 
 // The octets of a block of values.
 fn joined(values: &[u8; 32]) -> [u8; 16]
-    requires { digits_model.AreValues values.now }
-    ensures { result ≡ digits_model.joined values.now }
+    ensures { digits_model.AreValues values.now → result ≡ digits_model.joined values.now }
 {
     let mut octets = [0; 16];
     'octets: for place in 0..16 {
-        octets[place] = values[2 * place] * 16 + values[2 * place + 1];
+        octets[place] = values[2 * place] << 4 | values[2 * place + 1];
     }
     octets
-}
-
-// The octets of a block of digits, where it is one.
-fn block_octets(digits: &[u8; 32]) -> Option<[u8; 16]>
-    ensures digits { IfSome result (λ _. digits_model.AreDigits digits.now) }
-    ensures octets { IfSome result (λ octets. octets ≡ digits_model.octets_by digits.now) }
-{
-    let values = values_of(digits);
-    if !are_values(&values) {
-        return None;
-    }
-    Some(joined(&values))
 }
 
 // Digits with zeros behind, as many as a block has.
@@ -102,17 +101,19 @@ pub fn octets_in(alloc: Global, digits: &[u8]) -> Result<Option<Vec<u8>>, NoMemo
         return Ok(None);
     }
     let mut octets = Vec::with_capacity(alloc, digits.len() / 2)?;
+    // what isn't a digit is found behind the loop, which so has no test of a value
+    let mut greatest = [0; 32];
     let mut rest = digits;
     while let Some((block, behind)) = rest.split_first_chunk::<32>() {
-        let Some(sixteen) = block_octets(block) else {
-            return Ok(None);
-        };
-        octets.extend_from_slice(&sixteen)?;
+        let values = values_of(block);
+        greatest = greatest_of(&greatest, &values);
+        octets.extend_from_slice(&joined(&values))?;
         rest = behind;
     }
-    let Some(last) = block_octets(&filled(rest)) else {
+    let values = values_of(&filled(rest));
+    if !are_values(&greatest_of(&greatest, &values)) {
         return Ok(None);
-    };
-    octets.extend_from_slice(&last[..rest.len() / 2])?;
+    }
+    octets.extend_from_slice(&joined(&values)[..rest.len() / 2])?;
     Ok(Some(octets))
 }

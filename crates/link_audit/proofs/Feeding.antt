@@ -82,8 +82,8 @@ module _ (law : KeptStandsForStream) (turns : HearingTurns) where
 
   -- ---- the end of the lines
 
-  pub none_left : (s : KStream) → IsKept s.kept → s.over ≡ false → s.lines ≡ [] → s.piece ≡ [] → items_left s ≡ []
-  unfolding items_left lines.stream_of frames_read
+  pub none_left : (s : KStream) → IsKept s.kept → s.over ≡ false → rest_of s ≡ [] → s.piece ≡ [] → items_left s ≡ []
+  unfolding items_left frames_read
   none_left s kept over none empty =
       rw (over, none, empty, append-nil (stream_of s.kept), no_frames law s.kept kept) (no_items s)
     where
@@ -98,23 +98,22 @@ pub no_octets : {A : Type 0} (xs : List A) → length xs ≡ 0 → xs ≡ []
 no_octets [] e = refl
 no_octets (x ∷ xs) e = absurd (omega (arith, e))
 
--- ---- the next line
+-- ---- the next piece
 
-module _ (link : ℕ) (side : Side) (left rest : List TapLine) (x : TapLine) (piece next : List ℕ) (is : left ≡ x ∷ rest) (none : (length piece == 0) ≡ true)
-    (taken : next ≡ lines.piece_of link side x.step) where
-  line_octets : next ++ lines.stream_of link side rest ≡ piece ++ lines.stream_of link side left
-  unfolding lines.stream_of
-  line_octets = rw (is, no_octets piece (eqb-true (length piece) 0 none), taken) refl
+module _ (link : ℕ) (side : Side) (left rest : List TapLine) (piece next : List ℕ) (none : (length piece == 0) ≡ true)
+    (taken : lines.stream_of link side left ≡ next ++ lines.stream_of link side rest) where
+  piece_octets : next ++ lines.stream_of link side rest ≡ piece ++ lines.stream_of link side left
+  piece_octets = rw (no_octets piece (eqb-true (length piece) 0 none)) (sym taken)
 
-  pub line_smaller : length rest + 1 ≡ length left
+  pub piece_smaller : length rest < length left
       → length (next ++ lines.stream_of link side rest) + length rest < length (piece ++ lines.stream_of link side left) + length left
-  line_smaller fewer = rw line_octets (omega (arith, fewer))
+  piece_smaller fewer = rw piece_octets (omega (arith, fewer))
 
-  pub line_left : (over : Bool) (kept : Kept) (ear : KEar) → side ≡ ear.side
+  pub piece_left : (over : Bool) (kept : Kept) (ear : KEar) → side ≡ ear.side
       → items_left (record { lines = rest; piece = next; link = link; over = over; kept = kept; ear = ear })
       ≡ items_left (record { lines = left; piece = piece; link = link; over = over; kept = kept; ear = ear })
   unfolding items_left
-  line_left over kept ear same = rw (sym same, line_octets) refl
+  piece_left over kept ear same = rw (sym same, piece_octets) refl
 
 -- ---- a whole stream
 

@@ -5,3 +5,4 @@ mod Feeding
 mod Written
 mod Places
 mod Printed
+mod Marking

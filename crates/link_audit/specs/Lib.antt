@@ -3,3 +3,4 @@ pub mod Streams
 pub mod Openings
 pub mod Judging
 pub mod Writes
+pub mod Marks

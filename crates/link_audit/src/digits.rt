@@ -1,30 +1,59 @@
-//! Octets as hexadecimal digits, many at a time.
+//! Octets as hexadecimal digits.
+//!
+//! A digit is reckoned from its value and not looked up, so that the compiler writes many at once.
+
+ghost use Rattle.std.specs.Prelude.{◌≡◌, ◌*◌, ◌<◌, ◌++◌, ◌==◌, if◌then◌else◌, nat_lt, length, replicate, slice_index, OnOk};
+ghost use Rattle.hex.specs.Hex.{lower_digits, encode_lower};
+ghost use Rattle.er_base.specs.Hexadecimal.{hex_of};
 
 use er_base::NoMemory;
 
-// The digit of a value below 16, in lower case.
-fn digit_of(value: u8) -> u8 {
-    value + if value < 10 { b'0' } else { 87 }
+// How far the letters are behind the digits of numbers.
+fn gap_before(value: u8) -> u8
+    ensures { result ≡ (if nat_lt value 10 then 0 else 39) }
+{
+    if value < 10 { 0 } else { b'a' - b'9' - 1 }
 }
 
-// The digits of a block of octets.
-fn digits_of(octets: &[u8; 16]) -> [u8; 32] {
-    let mut digits = [0; 32];
-    for place in 0..16 {
-        digits[2 * place] = digit_of(octets[place] >> 4);
-        digits[2 * place + 1] = digit_of(octets[place] & 15);
-    }
-    digits
+// The digit of a value, in lower case.
+fn digit_of(value: u8) -> u8
+    requires { value < 16 }
+    ensures { result ≡ slice_index lower_digits value }
+{
+    b'0' + value + gap_before(value)
 }
 
-/// Appends octets as a word
-pub fn put_digits(octets: &[u8], out: &mut Vec<u8>) -> Result<(), NoMemory> {
-    let (blocks, rest) = octets.as_chunks::<16>();
-    for block in blocks {
-        out.extend_from_slice(&digits_of(block))?;
+// Writes the digits of octets over twice as many octets.
+fn write_digits(octets: &[u8], digits: &mut [u8])
+    requires { length digits.old ≡ 2 * length octets.now }
+    ensures { digits.new ≡ encode_lower octets.now }
+{
+    'octets: for place in 0..octets.len() {
+        let octet = octets[place];
+        digits[2 * place] = digit_of(octet >> 4);
+        digits[2 * place + 1] = digit_of(octet & 0x0f);
     }
-    for octet in rest {
-        out.extend_from_slice(&[digit_of(*octet >> 4), digit_of(*octet & 15)])?;
+}
+
+// Appends zeros, for digits that are written there.
+fn put_zeros(count: usize, out: &mut Vec<u8>) -> Result<(), NoMemory>
+    ensures { OnOk result (out.new.items ≡ out.old.items ++ replicate count 0) }
+{
+    out.resize(out.len().saturating_add(count), 0)?;
+    Ok(())
+}
+
+/// Appends octets as a word of lower-case hexadecimal digits, or `-` for none.
+#[tactic(auto, unfolding(er_base::specs::Hexadecimal::hex_of))]
+pub fn put_digits(octets: &[u8], out: &mut Vec<u8>) -> Result<(), NoMemory>
+    ensures { OnOk result (out.new.items ≡ out.old.items ++ hex_of octets.now) }
+{
+    if octets.is_empty() {
+        out.push(b'-')?;
+        return Ok(());
     }
+    let before = out.len();
+    put_zeros(octets.len() * 2, out)?;
+    write_digits(octets, &mut out[before..]);
     Ok(())
 }

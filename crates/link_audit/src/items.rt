@@ -4,9 +4,9 @@ ghost use Rattle.std.specs.Prelude.{◌≡◌, drop, option_map, slice_get};
 ghost use Rattle.tap_model.specs.Hearing.{heard, items};
 ghost use Rattle.tap_model.specs.Lines.{stream_of};
 
+use crate::marked_lines::MarkedLines;
 use crate::stream::Stream;
 use er_base::Side;
-use er_tap::TapLine;
 use std::marker::Model;
 
 /// The items from one on. Contracts see them all.
@@ -28,7 +28,7 @@ impl<'t> Model for Items<'t> {
 impl<'t> Items<'t> {
     /// All that is heard of a side of a link.
     #[tactic(auto, unfolding(crate::specs::Streams::pending))]
-    pub fn new(lines: &'t [TapLine], link: u8, side: Side) -> Items<'t>
+    pub fn new(lines: &MarkedLines<'t>, link: u8, side: Side) -> Items<'t>
         ensures { result ≡ items (heard side (stream_of link side lines.now)) }
     {
         hdlc_frames::laws::kept_stands_for_stream();

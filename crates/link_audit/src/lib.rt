@@ -10,6 +10,7 @@ mod items;
 mod judging;
 mod known;
 pub mod laws;
+mod marked_lines;
 mod opening;
 mod openings;
 mod printing;

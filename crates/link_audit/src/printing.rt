@@ -11,7 +11,7 @@ ghost use Rattle.tap_model.specs.Texts.{kind_of, item_words};
 
 use crate::digits::put_digits;
 use er_base::PrintedWord::{Decimal, Plain};
-use er_base::{NoMemory, Side, put_line};
+use er_base::{NoMemory, Side, decimal_word, put_line};
 use sapdu::{SaFault, SaPdu};
 use tap_model::AuditVerdict;
 
@@ -44,7 +44,17 @@ fn put_short(
     put_line(&Decimal(link as u64), &words, out)
 }
 
+// Appends a word behind a space.
+fn put_behind(word: &[u8], out: &mut Vec<u8>) -> Result<(), NoMemory>
+    ensures { OnOk result (out.new.items ≡ out.old.items ++ (codes " " ++ word.now)) }
+{
+    out.push(b' ')?;
+    out.extend_from_slice(word)?;
+    Ok(())
+}
+
 // Appends the line of a DT.
+#[tactic(auto, unfolding(er_base::specs::LineTexts::line_text, er_base::specs::LineTexts::line_end))]
 fn put_data(
     link: u8,
     side: Side,
@@ -55,9 +65,10 @@ fn put_data(
     ensures { OnOk result
         (out.new.items ≡ out.old.items ++ line_text (decimal link ∷ side_word side ∷ codes "dt" ∷ verdict_word verdict ∷ hex_of user.now ∷ [])) }
 {
-    let words = [Plain(side.word()), Plain(b"dt"), Plain(verdict.word())];
-    put_line(&Decimal(link as u64), &words, out)?;
-    out.pop();
+    decimal_word(link as u64, out)?;
+    put_behind(side.word(), out)?;
+    put_behind(b"dt", out)?;
+    put_behind(verdict.word(), out)?;
     out.push(b' ')?;
     put_digits(user, out)?;
     out.push(b'\n')?;

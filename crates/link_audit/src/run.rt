@@ -13,12 +13,13 @@ ghost use Rattle.link_audit.specs.Writes.{Writes};
 
 use crate::items::Items;
 use crate::judging::judge;
+use crate::marked_lines::{MarkedLines, marks_of};
 use crate::known::{Known, known_of};
 use crate::opening::Opening;
 use crate::openings::{Openings, openings_in};
 use crate::printing::put_item;
 use er_base::Side;
-use er_tap::{Tap, TapLine};
+use er_tap::Tap;
 use link_trait::Sink;
 use safety_automaton::KeyFinder;
 use sapdu::read;
@@ -82,7 +83,7 @@ fn write_items<S: Sink>(
 // Writes the lines of a link, those of the engine's side first.
 fn audit_link<K: KeyFinder, S: Sink>(
     keys: &K,
-    lines: &[TapLine],
+    lines: &MarkedLines<'_>,
     link: u8,
     opening: &Opening,
     line: &mut Vec<u8>,
@@ -105,7 +106,7 @@ fn audit_link<K: KeyFinder, S: Sink>(
 // Writes the lines of a link, where it was opened.
 fn audit_number<K: KeyFinder, S: Sink>(
     keys: &K,
-    lines: &[TapLine],
+    lines: &MarkedLines<'_>,
     openings: &Openings,
     link: u8,
     line: &mut Vec<u8>,
@@ -128,7 +129,7 @@ fn audit_number<K: KeyFinder, S: Sink>(
 // Writes the lines of all links that were opened.
 fn audit_links<K: KeyFinder, S: Sink>(
     keys: &K,
-    lines: &[TapLine],
+    lines: &MarkedLines<'_>,
     openings: &Openings,
     line: &mut Vec<u8>,
     sink: &mut S,
@@ -166,7 +167,11 @@ pub fn audit<K: KeyFinder, S: Sink>(
 {
     let lines = tap.lines.as_slice();
     match openings_in(lines) {
-        Ok(openings) => audit_links(keys, lines, &openings, &mut Vec::new(alloc), sink),
+        Ok(openings) => {
+            let marks = marks_of(alloc, lines)?;
+            let lines = MarkedLines::new(lines, marks.as_slice());
+            audit_links(keys, &lines, &openings, &mut Vec::new(alloc), sink)
+        }
         Err(fault) => Err(fault),
     }
 }

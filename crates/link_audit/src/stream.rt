@@ -3,20 +3,20 @@
 ghost use Rattle.std.specs.Prelude.{◌≡◌, ◌<◌, ◌≤◌, true, false, ◌∷◌, [], drop, length};
 ghost use Rattle.hdlc_frames.specs.Deframing.{kept_of};
 ghost use Rattle.tap_model.specs.Ears.{new_ear};
-ghost use Rattle.tap_model.specs.Lines.{is_side, piece_of};
+ghost use Rattle.tap_model.specs.Lines.{stream_of};
 ghost use Rattle.link_audit.specs.Streams.{items_left, Fed};
 
 use crate::ear::Ear;
+use crate::marked_lines::MarkedLines;
 use crate::turned::Turned;
 use er_base::Side;
-use er_tap::{TapLine, TapStep};
 use hdlc_frames::Deframer;
 use std::marker::Model;
 
 /// The lines that are left, the octets that are left of a piece, and what was heard so far.
 #[derive(Drop)]
 pub struct Stream<'t> {
-    lines: &'t [TapLine],
+    lines: MarkedLines<'t>,
     piece: &'t [u8],
     link: u8,
     over: bool,
@@ -31,7 +31,7 @@ impl<'t> Model for Stream<'t> {
     ghost Value = { KStream };
 
     ghost view = { λ s. record {
-      lines = s.lines.now;
+      lines = s.lines;
       piece = s.piece.now;
       link = s.link;
       over = s.over;
@@ -40,36 +40,6 @@ impl<'t> Model for Stream<'t> {
     } };
 
     ghost invariant = { λ s. IsKept s.deframer };
-}
-
-// Whether two sides are one.
-fn is_side(side: Side, of: Side) -> bool
-    ensures { result ≡ is_side side of }
-{
-    match (side, of) {
-        (Side::E, Side::E) | (Side::R, Side::R) => true,
-        _ => false,
-    }
-}
-
-// The octets of a line that are the next piece of what a side of a link sent; none where the line is another's.
-fn piece_of<'t>(line: &'t TapLine, link: u8, side: Side) -> &'t [u8]
-    ensures { result.now ≡ piece_of link side line.now.step }
-{
-    match &line.step {
-        TapStep::Link { .. } => &[],
-        TapStep::Octets {
-            link: number,
-            side: of,
-            text,
-        } => {
-            if *number == link && is_side(side, *of) {
-                text.as_slice()
-            } else {
-                &[]
-            }
-        }
-    }
 }
 
 // What is left of octets of which so many were used.
@@ -82,7 +52,7 @@ fn behind(octets: &[u8], used: usize) -> &[u8]
 
 impl<'t> Stream<'t> {
     /// A side of a link, of which nothing was heard yet.
-    pub fn new(lines: &'t [TapLine], link: u8, side: Side) -> Stream<'t>
+    pub fn new(lines: &MarkedLines<'t>, link: u8, side: Side) -> Stream<'t>
         ensures lines { result.lines ≡ lines.now }
         ensures piece { result.piece ≡ [] }
         ensures link { result.link ≡ link }
@@ -93,7 +63,7 @@ impl<'t> Stream<'t> {
     {
         hdlc_frames::laws::kept_stands_for_stream();
         Stream {
-            lines,
+            lines: lines.all(),
             piece: &[],
             link,
             over: false,
@@ -135,11 +105,10 @@ impl<'t> Stream<'t> {
         tap_model::laws::hearing_turns();
         while !self.over {
             if self.piece.is_empty() {
-                let Some((line, rest)) = self.lines.split_first() else {
+                let Some(piece) = self.lines.next_piece(self.link, self.ear.side()) else {
                     return false;
                 };
-                self.lines = rest;
-                self.piece = piece_of(line, self.link, self.ear.side());
+                self.piece = piece;
             } else {
                 match self.feed() {
                     Turned::GoesOn => {}

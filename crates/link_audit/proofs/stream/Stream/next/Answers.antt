@@ -1,28 +1,21 @@
--- The next line, the end of the lines, the last text, and the end of the link.
+-- The next piece, the end of the lines, the last text, and the end of the link.
 use Rattle.std.proofs.Common.{◌≡◌, ◌∷◌, [], List, ℕ, refl, sym, ap, subst, ◌∙◌, eqb-true}
 use Rattle.link_audit.specs.Streams.{KStream, items_left}
-use Rattle.link_audit.proofs.Feeding.{line_left, line_smaller, none_left, over_left, no_octets}
+use Rattle.link_audit.proofs.Feeding.{piece_left, none_left, over_left, no_octets}
 use Rattle.link_audit.proofs.stream.Stream.next.Goals as goal
 
 pub returns-in_default-clause-none : goal.returns-in_default-clause-none
 returns-in_default-clause-none c = λ e.
-    let none : items_left c.loop-self.self ≡ [] = subst (λ (s : KStream). items_left s ≡ []) c.self.view_is
-    (none_left c.kept_stands_for_stream.ensures c.hearing_turns.ensures _ c.self.invariant c.loop-self-test.true (no_octets _ c.in_default.ensures.cases)
-    (no_octets _ (eqb-true _ _ (sym c.is_empty.ensures ∙ c.if-is_empty.true)))) in
-    (sym c.loop-self.invariant.left ∙ none, none)
-
-pub loop-self-smaller-then-is_empty : goal.loop-self-smaller-then-is_empty
-loop-self-smaller-then-is_empty c =
-    rw (sym c.self.view_is)
-    (line_smaller c.self.inside.link c.self.inside.ear.side c.self.inside.lines.now c.in-Some.rest.now c.in-Some.line.now c.self.inside.piece.now c.piece_of-self-inside.result.now
-    c.in-Some.ensures.cases.0 (sym c.is_empty.ensures ∙ c.if-is_empty.true) (rw c.side.ensures at c.piece_of-self-inside.ensures) c.in-Some.ensures.cases.1)
+    let none =
+    none_left c.kept_stands_for_stream.ensures c.hearing_turns.ensures _ c.self.invariant c.loop-self-test.true (rw c.side.ensures at c.in_default.ensures.piece)
+    (no_octets _ (eqb-true _ _ (sym c.is_empty.ensures ∙ c.if-is_empty.true))) in
+    (sym c.loop-self.invariant.left ∙ subst (λ (s : KStream). items_left s ≡ []) c.self.view_is none, rw (c.in_default.ensures.rests refl) none)
 
 pub loop-self-preserved-then-is_empty : goal.loop-self-preserved-then-is_empty
 loop-self-preserved-then-is_empty c = record {
   left =
-      line_left c.self.inside.link c.self.inside.ear.side c.self.inside.lines.now c.in-Some.rest.now c.in-Some.line.now c.self.inside.piece.now c.piece_of-self-inside.result.now
-      c.in-Some.ensures.cases.0 (sym c.is_empty.ensures ∙ c.if-is_empty.true) (rw c.side.ensures at c.piece_of-self-inside.ensures)
-      c.self.inside.over c.self.inside.deframer c.self.inside.ear refl
+      piece_left c.self.inside.link c.self.inside.ear.side c.self.inside.lines c.next_piece.new.self c.self.inside.piece.now c.in-Some.piece.now
+      (sym c.is_empty.ensures ∙ c.if-is_empty.true) (rw c.side.ensures at c.in-Some.ensures.piece) c.self.inside.over c.self.inside.deframer c.self.inside.ear refl
       ∙ ap items_left c.self.view_is
       ∙ c.loop-self.invariant.left;
 }
