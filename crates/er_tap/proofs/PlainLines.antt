@@ -135,9 +135,10 @@ module _ (lines_back : LinesAreReadBack) (words_back : WordsAreReadBack) (octets
   line_printed n side digits = simp (append_assoc, append-nil) refl
 
   are_words : (n : ℕ) (side : Side) (digits : List ℕ) → n ≤ 64 → 0 < length digits → AreDigits digits → IsLine (words_by n side digits)
-  are_words n side digits h some all =
-      (record { some = omega arith; octets = (omega arith, (omega arith, (omega arith, (omega arith, (omega arith, (omega arith, tt)))))) },
-      (words_back.number_word n (omega arith), (words_back.side_is_word side, (record { some = some; octets = solid_digits digits all }, tt))))
+  are_words n side digits h some all = (
+    record { some = omega arith; octets = (omega arith, (omega arith, (omega arith, (omega arith, (omega arith, (omega arith, tt)))))) },
+    (words_back.number_word n (omega arith), (words_back.side_is_word side, (record { some = some; octets = solid_digits digits all }, tt))),
+  )
 
   first_row : (before : ℕ) (text : List ℕ) (end n : ℕ) (side : Side) (digits : List ℕ) → IsFirstByte (is_byte 10) text (Some end)
       → take end text ≡ line_by n side digits → n ≤ 64 → 0 < length digits → AreDigits digits

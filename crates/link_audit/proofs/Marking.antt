@@ -51,9 +51,11 @@ module _ (link : ℕ) (side : Side) (lines : List TapLine) (marks : List ℕ) (a
       × (IfSome r (λ count. count < length lines) × IfSome r (λ count. count < length marks))
   unfolding stream_of
   searched None nowhere =
-      let all = same_length in
-      (skipped link side lines (length lines) (omega arith) (λ k below. not_at k (nowhere k (omega arith) (omega (arith, below, all))))
-      ∙ ap (stream_of link side) (drop_all (length lines) lines (omega arith)), (tt, tt))
+      let all = same_length in (
+        skipped link side lines (length lines) (omega arith) (λ k below. not_at k (nowhere k (omega arith) (omega (arith, below, all))))
+            ∙ ap (stream_of link side) (drop_all (length lines) lines (omega arith)),
+        (tt, tt),
+      )
   searched (Some count) first =
       let all = same_length in
       let high = first.0.high in

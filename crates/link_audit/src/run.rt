@@ -13,8 +13,8 @@ ghost use Rattle.link_audit.specs.Writes.{Writes};
 
 use crate::items::Items;
 use crate::judging::judge;
-use crate::marked_lines::{MarkedLines, marks_of};
 use crate::known::{Known, known_of};
+use crate::marked_lines::{MarkedLines, marks_of};
 use crate::opening::Opening;
 use crate::openings::{Openings, openings_in};
 use crate::printing::put_item;
