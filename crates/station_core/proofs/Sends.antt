@@ -5,7 +5,7 @@ use native.Mathlib.Nat.{mod-add-mod}
 use Rattle.std.proofs.lemmas.Bool.{cases_Bool}
 use Rattle.er_base.specs.Stored.{Stored}
 use Rattle.hdlc_frames.specs.declared.controls.Control.TheVariants as control
-use Rattle.station_model.specs.Frames.{Frame, modulo, shown}
+use Rattle.station_model.specs.Frames.{Frame, Srej, modulo, shown}
 use Rattle.station_model.specs.Stations.{Station, Deed, puts, expiry_moment}
 use Rattle.station_model.specs.Sending.{info_at, started, can_send, sends_next, sends_up_to, sends_again_some, frames_again}
 use Rattle.station_core.specs.Kept.{Kept, kept_of, Stands, Within}
@@ -19,6 +19,12 @@ info_shown k s i ns e h =
     ∙ ap (λ (n : ℕ). control.Info n (length s.taken % modulo s.extended))
     (sym (mod-add-mod s.acked (modulo s.extended) i) ∙ sym (h ∙ ap (λ (q : Kept). (q.acked + i) % modulo q.extended) e))
     ∙ ap (λ (q : Kept). control.Info ns q.got) (sym e)
+
+pub srej_shown : (k : Kept) (s : Station) (up nr : ℕ) → k ≡ kept_of s → nr ≡ (k.got + up) % modulo k.extended
+    → shown k.extended (Srej (length s.taken + up)) ≡ control.Srej nr
+srej_shown k s up nr e h =
+    ap (λ (q : Kept). shown q.extended (Srej (length s.taken + up))) e
+    ∙ ap control.Srej (sym (mod-add-mod (length s.taken) (modulo s.extended) up) ∙ sym (h ∙ ap (λ (q : Kept). (q.got + up) % modulo q.extended) e))
 
 pub info_carried : (k : Kept) (s : Station) (i : ℕ) (p : List ℕ) → k ≡ kept_of s → p ≡ slice_index_or k.ring i [] → slice_index_or s.handed (s.acked + i) [] ≡ p
 info_carried k s i p e h = sym (h ∙ ap (λ (q : Kept). slice_index_or q.ring i []) e ∙ get_or-drop s.acked s.handed i [])

@@ -175,6 +175,7 @@ impl StationCore {
         ensures ahead { self.new.ahead ≡ self.old.ahead }
         ensures window { self.new.window ≡ self.old.window }
         ensures within { (out : Stored) (n : ℕ) → Within self.old out self.new out n }
+        ensures begun { self.new.begun ≡ true }
     {
         self.got = (self.got + 1) % modulo_of(self.extended);
         self.begun = true;
@@ -328,8 +329,8 @@ impl StationCore {
         self.expiries = 0;
     }
 
-    // UA at a calling station that asked for the set-up.
-    fn agreed(&mut self) -> Told
+    /// UA at a calling station that asked for the set-up.
+    pub fn agreed(&mut self) -> Told
         ensures tells { (information : List ℕ) (out : Stored) → Tells self.old out self.new out (told_as information result) (λ s. comes_up (record s { timer = None; expiries = 0 })) }
         ensures ahead { self.new.ahead ≡ self.old.ahead }
         ensures window { self.new.window ≡ self.old.window }

@@ -5,7 +5,7 @@ ghost use Rattle.std.specs.Option.{IsSome};
 ghost use Rattle.er_base.specs.Stored.{Stored, HasRoom, Appends};
 ghost use Rattle.hdlc_frames.specs.Controls.{IsBelow, control_octets};
 ghost use Rattle.hdlc_frames.specs.Spelling.{spelling};
-ghost use Rattle.station_model.specs.Frames.{Frame, Info, Rr, Rej, SetUp, Disc, Dm, Ua, modulo, shown, poll_final, information, address_of, sent_address, table_octets};
+ghost use Rattle.station_model.specs.Frames.{Frame, Info, Rr, Rej, Srej, SetUp, Disc, Dm, Ua, modulo, shown, poll_final, information, address_of, sent_address, table_octets};
 ghost use Rattle.station_model.specs.Stations.{is_up, is_down, puts, expiry_moment};
 ghost use Rattle.station_model.specs.Sending.{info_at, started, can_send, waiting, sends_next, sends_waiting, sends_again, starts_timer, settles};
 
@@ -91,6 +91,23 @@ impl StationCore {
         self.say(
             address_of(self.calling),
             Control::Rej { nr: self.got },
+            false,
+            &[],
+            out,
+        );
+    }
+
+    /// Sends SREJ with the number that is so far above V(R).
+    pub fn say_selective_reject(&self, up: u8, out: &mut Room)
+        requires near { up ≤ self.now.window }
+        requires room { HasRoom out.old 2064 }
+        ensures follows { Follows self.now out.old self.now out.new (λ s. puts (Srej (length s.taken + up)) s) }
+        ensures within { Within self.now out.old self.now out.new 1 }
+    {
+        let nr = (self.got + up) % modulo_of(self.extended);
+        self.say(
+            address_of(self.calling),
+            Control::Srej { nr },
             false,
             &[],
             out,

@@ -1,7 +1,7 @@
-use Rattle.std.proofs.Common.{None, ap, sym, subst, ◌∙◌, rules}
+use Rattle.std.proofs.Common.{None, ap, sym, ◌∙◌, rules}
 use Rattle.station_model.specs.declared.phase.Phase.TheVariants.{Down}
 use Rattle.station_model.specs.Stations.{is_down}
-use Rattle.station_model.specs.Calls.{closes_at, closes}
+use Rattle.station_model.specs.Calls.{closes_at}
 use Rattle.station_core.specs.Kept.{Kept}
 use Rattle.station_core.specs.Following.{stands_no}
 use Rattle.station_core.proofs.station.StationCore.close.Goals as goal

@@ -1,7 +1,6 @@
-use Rattle.std.proofs.Common.{ap, sym, subst, ◌∙◌, rules}
+use Rattle.std.proofs.Common.{ap, sym, ◌∙◌, rules}
 use Rattle.station_model.specs.Stations.{is_down}
 use Rattle.station_model.specs.Sending.{settles}
-use Rattle.station_model.specs.Calls.{finishes}
 use Rattle.station_core.specs.Kept.{Kept}
 use Rattle.station_core.specs.Following.{stands_no}
 use Rattle.station_core.proofs.station.StationCore.finish.Goals as goal

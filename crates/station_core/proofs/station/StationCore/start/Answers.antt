@@ -1,6 +1,6 @@
-use Rattle.std.proofs.Common.{ap, sym, subst, ◌∙◌, rules}
+use Rattle.std.proofs.Common.{ap, sym, ◌∙◌, rules}
 use Rattle.station_model.specs.Stations.{sees, is_down}
-use Rattle.station_model.specs.Calls.{starts_at, starts}
+use Rattle.station_model.specs.Calls.{starts_at}
 use Rattle.station_core.specs.Kept.{Kept}
 use Rattle.station_core.specs.Following.{stands_no}
 use Rattle.station_core.proofs.station.StationCore.start.Goals as goal

@@ -1,9 +1,7 @@
-use Rattle.std.proofs.Common.{None, ap, sym, subst, ◌∙◌, rules}
+use Rattle.std.proofs.Common.{ap, sym, ◌∙◌, rules}
 use Rattle.station_model.specs.Stations.{no_deed, sees, is_down}
 use Rattle.station_model.specs.Sending.{expires_if_due, sends_waiting}
-use Rattle.station_model.specs.Calls.{ticks}
 use Rattle.station_core.specs.Kept.{Kept}
-use Rattle.station_core.specs.Told.{released_as}
 use Rattle.station_core.specs.Following.{stands_no}
 use Rattle.station_core.proofs.station.StationCore.tick.Goals as goal
 
