@@ -1,6 +1,6 @@
 -- Contract: how a clause speaks of what the code keeps of a station of the model with selective reject: what the core keeps, and for each
 -- number from V(R) on, as many as the window has, a place.
-use Rattle.std.specs.Prelude.{◌≡◌, ℕ, ◌+◌, ◌≤◌, Bool, false, List, length, Option, None}
+use Rattle.std.specs.Prelude.{◌≡◌, ℕ, ◌+◌, ◌<◌, ◌≤◌, Bool, false, List, [], ◌∷◌, length, Option, None}
 use Rattle.er_base.specs.Stored.{Stored}
 use Rattle.hdlc_frames.specs.Framing as framing
 use Rattle.station_model.specs.Stations.{Station, Deed, no_deed}
@@ -15,10 +15,19 @@ pub record SelectiveKept : Type 0 where
   -- how many payloads the last frame brought
   pub taken : ℕ
 
--- what is held and asked for, of the numbers from V(R) = r on: exactly what their places say, so none from r + window on; and none is held at or below r
+-- no number is held twice
+abbrev pub AreDistinct : List (ℕ × List ℕ) → Type 0
+AreDistinct [] = Unit {0}
+AreDistinct (h ∷ held) = (held_for h.0 held ≡ None) × AreDistinct held
+
+-- what is held and asked for, of the numbers from V(R) = r on: exactly what their places say, so none from r + window on; below r none is
+-- held or asked for, and r itself isn't held
 pub record IsBehind (places : List Place) (r : ℕ) (held : List (ℕ × List ℕ)) (asked : List ℕ) : Type 0 where
   pub is_held : (up : ℕ) → held_for (r + up) held ≡ held_at places up
   pub is_asked : (up : ℕ) → is_one_of (r + up) asked ≡ asked_at places up
+  pub none_held : (n : ℕ) → n ≤ r → held_for n held ≡ None
+  pub none_asked : (n : ℕ) → n < r → is_one_of n asked ≡ false
+  pub distinct : AreDistinct held
 
 -- within a call: the code keeps this core and these places, it had `before` when the call began, and told d so far
 pub record SelectiveStands (core : Kept) (places : List Place) (before : List ℕ) (out : Stored) (d : Deed) (s : Station) : Type 0 where

@@ -1,6 +1,6 @@
 //! What a call of a station tells.
 
-ghost use Rattle.std.specs.Prelude.{◌≡◌, List};
+ghost use Rattle.std.specs.Prelude.{◌≡◌, List, false, None};
 ghost use Rattle.hdlc_selective.specs.Places.{Place};
 ghost use Rattle.station_model.specs.Stations.{no_deed};
 

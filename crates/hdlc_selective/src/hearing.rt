@@ -50,10 +50,14 @@ fn ask(station: &StationCore, places: &mut Places, up: u8, out: &mut Room)
     ensures count { length places.new ≡ length places.old }
 {
     station.bounds();
-    if !places.is_held(up as usize) && !places.is_asked(up as usize) {
-        station.say_selective_reject(up, out);
-        places.ask(up as usize);
+    if places.is_held(up as usize) {
+        return;
     }
+    if places.is_asked(up as usize) {
+        return;
+    }
+    station.say_selective_reject(up, out);
+    places.ask(up as usize);
 }
 
 // Each number below one is asked for, where it didn't come and wasn't asked for.
@@ -75,6 +79,7 @@ fn ask_below(station: &StationCore, places: &mut Places, up: u8, out: &mut Room)
 fn hold(station: &StationCore, places: &mut Places, up: u8, payload: &[u8], out: &mut Room)
     requires near { up ≤ station.now.window }
     requires within { up < length places.old }
+    requires above { 1 ≤ up }
     requires free { (slice_index_or places.old up no_place).held ≡ false }
     requires fits { length payload.now ≤ 1032 }
     requires room { HasRoom out.old (up * 2064) }
@@ -95,6 +100,7 @@ fn take(station: &mut StationCore, places: &mut Places, payload: &[u8]) -> Selec
     ensures count { length places.new ≡ length places.old }
     ensures few { result.taken ≤ length places.new }
 {
+    let most = station.window();
     let run = places.run();
     station.accept();
     station.take_more(run as u8);

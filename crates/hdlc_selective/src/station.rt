@@ -14,6 +14,7 @@ use crate::hearing;
 use crate::places::Places;
 use er_base::{NoMemory, Release, Room};
 use er_settings::Settings;
+use er_settings::laws::allowed_are_bounded;
 use hdlc_frames::Found;
 use station_core::{Full, StationCore};
 use station_model::Counts;
@@ -68,6 +69,7 @@ impl SelectiveStation {
         requires { AllAllowed settings.now }
         ensures { IfOk result (λ k. IsKeptOf k (made calling (settings.now.modulo == 128) settings.now.window settings.now.n2 settings.now.t1)) }
     {
+        allowed_are_bounded();
         let core = StationCore::new(alloc, calling, settings)?;
         let places = Places::new(alloc, settings.window as usize)?;
         Ok(SelectiveStation {
