@@ -1,0 +1,228 @@
+-- Parts of a call over the core and the places.
+use Rattle.std.proofs.Common.{◌≡◌, ◌≢◌, ℕ, zero, suc, ◌+◌, ◌-◌, ◌*◌, ◌<◌, ◌≤◌, Bool, true, false, ◌||◌, if◌then◌else◌, List, [], ◌∷◌, ◌++◌, length, get_or, set, drop, take, map, Option, Some, None, ap, ap₂, ◌∙◌, inl, inr, arith, refl, sym, subst, eq-eqb, ne_eqb, append_assoc, length-append, ltb-true, ltb-false}
+use Rattle.std.specs.Prelude.{◌==◌, nat_le, nat_lt}
+use Rattle.std.specs.List.{filter}
+use Rattle.er_base.specs.Stored.{Stored}
+use Rattle.station_model.specs.declared.phase.Phase.{Phase}
+use Rattle.station_model.specs.Frames.{Frame, Srej}
+use Rattle.station_model.specs.Stations.{Station, Deed, no_deed, puts}
+use Rattle.station_model.specs.Sending.{refuses_frame}
+use Rattle.station_model.specs.Receiving.{named, acknowledges, acknowledging, by_number, accepts, agrees}
+use Rattle.station_model.specs.Selective.{held_for, is_found, is_one_of, without_gap, takes_run, holds, says_next, files_at, files}
+use Rattle.station_core.specs.declared.deeds.Told.{Told}
+use Rattle.station_core.specs.declared.deeds.Told.TheVariants.{Nothing, CameUp, Took, Released}
+use Rattle.hdlc_selective.specs.declared.deeds.SelectiveDeed.{SelectiveDeed}
+use Rattle.hdlc_selective.specs.Places.{Place, no_place, cleared, held_in, held_at, asked_at, run_of, lent}
+use Rattle.hdlc_selective.specs.Kept.{Kept, kept_of, Stands, Follows, Tells, Within, IsBehind, SelectiveStands, Moves, Says}
+use Rattle.hdlc_selective.specs.Told.{told_as, deed_of, untaken}
+use Rattle.hdlc_selective.specs.Steps.{asks_one, asks_below, takes_first}
+use Rattle.hdlc_selective.proofs.Runs.{lent_run, run_ends_at}
+use Rattle.hdlc_selective.proofs.Behind.{run_is, behind_asked, behind_held, behind_taken, behind_forgotten}
+use Rattle.hdlc_selective.proofs.Asking.{asked_so_far, asks_are, holds_are}
+use Rattle.hdlc_selective.proofs.Keeping.{Keeps}
+
+-- ---- steps of the core, which leave the places alone
+
+pub lifts : (core core' : Kept) (places : List Place) (before : List ℕ) (out out' : Stored) (d d' : Deed) (s t : Station)
+    → SelectiveStands core places before out d s → Stands core' before out' d' t → Keeps s t → SelectiveStands core' places before out' d' t
+lifts core core' places before out out' d d' s t h g k = record {
+  stands = g;
+  behind = rw (k.taken, k.held, k.asked) h.behind;
+  no_gap = k.gap ∙ h.no_gap;
+}
+
+pub follows_moves : (old new : Kept) (places : List Place) (out out' : Stored) (step : Station → Station)
+    → Follows old out new out' step → ((s : Station) → Keeps s (step s)) → Moves old places out new places out' step
+follows_moves old new places out out' step f k = λ s before d h. lifts old new places before out out' d d s (step s) h (f s before d h.stands) (k s)
+
+abbrev length_in : Option (List ℕ) → ℕ
+length_in None = 0
+length_in (Some p) = length p
+
+core_says : (old new : Kept) (places : List Place) (out out' : Stored) (told : Told) (step : Station → Station)
+    → ((information : List ℕ) → Tells old out new out' (told_as information told) step) → ((s : Station) → Keeps s (step s)) → Says old places out new places out' (untaken told) step
+core_says old new places out out' Nothing step f k = λ s before h. lifts old new places before out out' no_deed (untaken Nothing) s (step s) h (f [] s before h.stands) (k s)
+core_says old new places out out' CameUp step f k = λ s before h. lifts old new places before out out' no_deed (untaken CameUp) s (step s) h (f [] s before h.stands) (k s)
+core_says old new places out out' Took step f k = λ s before h.
+    let none : (step s).deed ≡ told_as [] Took = (f [] s before h.stands).deed in
+    let one : (step s).deed ≡ told_as (0 ∷ []) Took = (f (0 ∷ []) s before h.stands).deed in
+    let e : 0 ≡ 1 = ap (λ (d : Deed). length_in d.payload) (sym none ∙ one) in
+    absurd (omega (arith, e))
+core_says old new places out out' (Released release) step f k = λ s before h. lifts old new places before out out' no_deed (untaken (Released release)) s (step s) h (f [] s before h.stands) (k s)
+
+-- a row that takes no payload
+pub row_says : (old new : Kept) (places : List Place) (out out' : Stored) (told : Told) (d : SelectiveDeed) (step : Station → Station)
+    → ((ps : List Place) → deed_of ps d ≡ untaken told) → ((information : List ℕ) → Tells old out new out' (told_as information told) step)
+    → ((s : Station) → Keeps s (step s)) → Says old places out new places out' (deed_of places d) step
+row_says old new places out out' told d step e f k = λ s before h.
+    subst (λ (x : Deed). SelectiveStands new places before out' x (step s)) (sym (e places)) (core_says old new places out out' told step f k s before h)
+
+-- a part that tells nothing
+pub nothing_says : (core : Kept) (places : List Place) (before : List ℕ) (out : Stored) (d : SelectiveDeed) (t : Station)
+    → ((ps : List Place) → deed_of ps d ≡ no_deed) → SelectiveStands core places before out no_deed t → SelectiveStands core places before out (deed_of places d) t
+nothing_says core places before out d t e g = subst (λ (x : Deed). SelectiveStands core places before out x t) (sym (e places)) g
+
+-- ---- tests of the model
+
+pub when_so : (core : Kept) (places : List Place) (before : List ℕ) (out : Stored) (d : Deed) (b : Bool) (x y : Station)
+    → b ≡ true → SelectiveStands core places before out d x → SelectiveStands core places before out d (if b then x else y)
+when_so core places before out d b x y e h = subst (λ (c : Bool). SelectiveStands core places before out d (if c then x else y)) (sym e) h
+
+pub when_not : (core : Kept) (places : List Place) (before : List ℕ) (out : Stored) (d : Deed) (b : Bool) (x y : Station)
+    → b ≡ false → SelectiveStands core places before out d y → SelectiveStands core places before out d (if b then x else y)
+when_not core places before out d b x y e h = subst (λ (c : Bool). SelectiveStands core places before out d (if c then x else y)) (sym e) h
+
+pub phased : (step : Phase → Station → Station) (core : Kept) (places : List Place) (before : List ℕ) (out : Stored) (d : Deed) (s : Station) (p : Phase)
+    → p ≡ s.phase → SelectiveStands core places before out d (step p s) → SelectiveStands core places before out d (step s.phase s)
+phased step core places before out d s p e h = subst (λ (q : Phase). SelectiveStands core places before out d (step q s)) e h
+
+pub numbered : (core : Kept) (places : List Place) (before : List ℕ) (out : Stored) (d : Deed) (s : Station) (r n : ℕ) (rest : Station → Station)
+    → named s.extended s.acked (s.sent - s.acked) r ≡ Some n → SelectiveStands core places before out d (rest (acknowledges n s))
+    → SelectiveStands core places before out d (by_number r rest s)
+numbered core places before out d s r n rest e h = subst (λ (o : Option ℕ). SelectiveStands core places before out d (acknowledging o rest s)) (sym e) h
+
+pub absent : (core : Kept) (places : List Place) (before : List ℕ) (out : Stored) (d : Deed) (s : Station) (r : ℕ) (rest : Station → Station)
+    → named s.extended s.acked (s.sent - s.acked) r ≡ None → SelectiveStands core places before out d (refuses_frame s)
+    → SelectiveStands core places before out d (by_number r rest s)
+absent core places before out d s r rest e h = subst (λ (o : Option ℕ). SelectiveStands core places before out d (acknowledging o rest s)) (sym e) h
+
+-- N(S)
+pub filed : (core : Kept) (places : List Place) (before : List ℕ) (out : Stored) (d : Deed) (s : Station) (ns : ℕ) (payload : List ℕ) (o : Option ℕ)
+    → named s.extended (length s.taken) (s.window - 1) ns ≡ o → SelectiveStands core places before out d (files_at o payload s)
+    → SelectiveStands core places before out d (files ns payload s)
+filed core places before out d s ns payload o e h = subst (λ (q : Option ℕ). SelectiveStands core places before out d (files_at q payload s)) (sym e) h
+
+-- ---- places
+
+pub held_is : (places : List Place) (r up : ℕ) (held : List (ℕ × List ℕ)) (asked : List ℕ) → IsBehind places r held asked
+    → (get_or places up no_place).held ≡ true → is_found (held_for (r + up) held) ≡ true
+held_is places r up held asked h e = ap is_found (h.is_held up ∙ ap (λ (b : Bool). if b then Some (get_or places up no_place).payload else None) e)
+
+pub free_is : (places : List Place) (r up : ℕ) (held : List (ℕ × List ℕ)) (asked : List ℕ) → IsBehind places r held asked
+    → (get_or places up no_place).held ≡ false → held_for (r + up) held ≡ None
+free_is places r up held asked h e = h.is_held up ∙ ap (λ (b : Bool). if b then Some (get_or places up no_place).payload else None) e
+
+or_true : (b : Bool) → (b || true) ≡ true
+or_true true = refl
+or_true false = refl
+
+-- a number that is held or was asked for isn't asked for
+pub known_stays : (core : Kept) (places : List Place) (before : List ℕ) (out : Stored) (d : Deed) (s : Station) (up : ℕ)
+    → SelectiveStands core places before out d s → (get_or places up no_place).held ≡ true → SelectiveStands core places before out d (asks_one (length s.taken + up) s)
+known_stays core places before out d s up h e =
+    let n = length s.taken + up in
+    when_so core places before out d (is_found (held_for n s.held) || is_one_of n s.asked) s (record (puts (Srej n) s) { asked = s.asked ++ n ∷ [] })
+    (ap (λ (b : Bool). b || is_one_of n s.asked) (held_is places (length s.taken) up s.held s.asked h.behind e)) h
+
+pub asked_stays : (core : Kept) (places : List Place) (before : List ℕ) (out : Stored) (d : Deed) (s : Station) (up : ℕ)
+    → SelectiveStands core places before out d s → (get_or places up no_place).asked ≡ true → SelectiveStands core places before out d (asks_one (length s.taken + up) s)
+asked_stays core places before out d s up h e =
+    let n = length s.taken + up in
+    when_so core places before out d (is_found (held_for n s.held) || is_one_of n s.asked) s (record (puts (Srej n) s) { asked = s.asked ++ n ∷ [] })
+    (ap (λ (b : Bool). is_found (held_for n s.held) || b) (h.behind.is_asked up ∙ e) ∙ or_true (is_found (held_for n s.held))) h
+
+-- another is
+pub asked_moves : (core : Kept) (places : List Place) (before : List ℕ) (out out' : Stored) (d : Deed) (s : Station) (up : ℕ)
+    → SelectiveStands core places before out d s → Stands core before out' d (puts (Srej (length s.taken + up)) s) → up < length places
+    → (get_or places up no_place).held ≡ false → (get_or places up no_place).asked ≡ false
+    → SelectiveStands core (set places up (record (get_or places up no_place) { asked = true })) before out' d (asks_one (length s.taken + up) s)
+asked_moves core places before out out' d s up h g low free new =
+    let n = length s.taken + up in
+    when_not core (set places up (record (get_or places up no_place) { asked = true })) before out' d (is_found (held_for n s.held) || is_one_of n s.asked) s (record (puts (Srej n) s) { asked = s.asked ++ n ∷ [] })
+    (ap₂ (λ (a b : Bool). a || b) (ap is_found (free_is places (length s.taken) up s.held s.asked h.behind free)) (h.behind.is_asked up ∙ new))
+    (record {
+      stands = record { is = g.is; order = g.order; given = g.given; deed = g.deed; text = g.text };
+      behind = behind_asked places (length s.taken) s.held s.asked h.behind up low;
+      no_gap = h.no_gap;
+    })
+
+-- a frame is held behind the numbers that were asked for
+pub held_moves : (core : Kept) (places places' : List Place) (before : List ℕ) (out out' : Stored) (d : Deed) (s : Station) (up : ℕ) (payload : List ℕ)
+    → SelectiveStands core places before out d s → SelectiveStands core places' before out' d (asks_below up s) → up < length places' → 1 ≤ up
+    → (get_or places up no_place).held ≡ false
+    → SelectiveStands core (set places' up (record (get_or places' up no_place) { payload = payload; held = true })) before out' d (holds (length s.taken + up) payload s)
+held_moves core places places' before out out' d s up payload h g low above free =
+    let a = subst (λ (x : Station). SelectiveStands core places' before out' d x) (asks_are up s) g in
+    let none = free_is places (length s.taken) up s.held s.asked h.behind free in
+    subst (λ (x : Station). SelectiveStands core (set places' up (record (get_or places' up no_place) { payload = payload; held = true })) before out' d x) (holds_are up payload s)
+    (record {
+      stands = record { is = a.stands.is; order = a.stands.order; given = a.stands.given; deed = a.stands.deed; text = a.stands.text };
+      behind = behind_held places' (length s.taken) s.held (asked_so_far up s).asked a.behind up payload low above none;
+      no_gap = a.no_gap;
+    })
+
+-- the next payload is taken, and those that are held behind it
+module _ (core mid core' : Kept) (places : List Place) (payload : List ℕ) (out : Stored) (before : List ℕ) (s : Station) (h : SelectiveStands core places before out no_deed s) where
+  abbrev run : List (List ℕ)
+  run = run_of (drop 1 places)
+
+  abbrev told : Deed
+  told = record { up = false; payload = Some payload; more = run; released = None }
+
+  -- of the core
+  core_takes : (d : Deed) → Stands core' before out d (record (accepts payload s) { taken = (s.taken ++ payload ∷ []) ++ run }) → Stands core' before out told (takes_run payload run s)
+  core_takes d g = record {
+    is = g.is ∙ ap₂ (λ (ts : List (List ℕ)) (b : Bool). kept_of (record (accepts payload s) { taken = ts; gap = b })) (append_assoc s.taken (payload ∷ []) run) (sym h.no_gap);
+    order = g.order;
+    given = g.given;
+    deed = refl;
+    text = g.text;
+  }
+
+  pub took : (x : Place) (n : ℕ) (d : Deed) → n ≡ length run → 1 ≤ length places → x.payload ≡ payload
+      → ((payloads : List (List ℕ)) → length payloads ≡ n → Stands core' before out d (record (accepts payload s) { taken = (s.taken ++ payload ∷ []) ++ payloads }))
+      → SelectiveStands core' (drop (n + 1) (set places 0 x) ++ map cleared (take (n + 1) (set places 0 x))) before out
+      (deed_of (drop (n + 1) (set places 0 x) ++ map cleared (take (n + 1) (set places 0 x))) (record { up = false; taken = n + 1; released = None })) (takes_first payload s)
+  took x n d count some is more =
+      let places' = drop (n + 1) (set places 0 x) ++ map cleared (take (n + 1) (set places 0 x)) in
+      let lends : lent (n + 1) places' ≡ payload ∷ run =
+      ap (λ (m : ℕ). lent (m + 1) (drop (m + 1) (set places 0 x) ++ map cleared (take (m + 1) (set places 0 x)))) count ∙ lent_run places payload x some is in
+      let deed : deed_of places' (record { up = false; taken = n + 1; released = None }) ≡ told = ap (λ (ps : List (List ℕ)). record { up = false; payload = first ps; more = rest ps; released = None }) lends in
+      let next : length s.taken + (n + 1) ≡ length s.taken + 1 + length run = omega (arith, count) in
+      let all : length s.taken + (n + 1) ≡ length (s.taken ++ payload ∷ run) = omega (arith, count, length-append s.taken (payload ∷ run)) in
+      let taken : SelectiveStands core' places' before out told (takes_run payload run s) = record {
+        stands = core_takes d (more run (sym count));
+        behind =
+          subst (λ (m : ℕ). IsBehind places' (length (s.taken ++ payload ∷ run)) (filter (λ g. nat_le m g.0) s.held) (filter (λ k. nat_le m k) s.asked)) next
+          (subst (λ (m : ℕ). IsBehind places' m (filter (λ g. nat_le (length s.taken + (n + 1)) g.0) s.held) (filter (λ k. nat_le (length s.taken + (n + 1)) k) s.asked)) all
+          (behind_taken places (length s.taken) s.held s.asked h.behind (n + 1) x (omega arith) (run_ends_at places n count)));
+        no_gap = h.no_gap;
+      } in
+      subst (λ (e : Deed). SelectiveStands core' places' before out e (takes_first payload s)) (sym deed)
+      (subst (λ (w : List (List ℕ)). SelectiveStands core' places' before out told (takes_run payload w s)) (sym (run_is places (length s.taken) s.held s.asked h.behind)) taken)
+    where
+      first : List (List ℕ) → Option (List ℕ)
+      first [] = None
+      first (p ∷ ps) = Some p
+      rest : List (List ℕ) → List (List ℕ)
+      rest [] = []
+      rest (p ∷ ps) = ps
+
+-- the repeated set-up frame: nothing is held or asked for any more
+pub forgotten : (core : Kept) (places : List Place) (n : ℕ) (before : List ℕ) (out out' : Stored) (d : Deed) (poll : Bool) (s : Station)
+    → SelectiveStands core places before out d s → n ≡ length places
+    → ((t : Station) → Stands core before out d t → Stands core before out' d (agrees poll t))
+    → SelectiveStands core (drop n places ++ map cleared (take n places)) before out' d (agrees poll (record s { held = []; asked = [] }))
+forgotten core places n before out out' d poll s h all says = record {
+  stands = says (record s { held = []; asked = [] }) (record { is = h.stands.is; order = h.stands.order; given = h.stands.given; deed = h.stands.deed; text = h.stands.text });
+  behind = behind_forgotten places n (length s.taken) all;
+  no_gap = h.no_gap;
+}
+
+-- ---- whether an I frame was taken
+
+pub none_taken : (s : Station) → nat_lt 0 (length s.taken) ≡ false → (length s.taken == 0) ≡ true
+none_taken s h = eq-eqb (length s.taken) 0 (let z : length s.taken ≤ 0 = ltb-false 0 (length s.taken) h in omega arith)
+
+pub some_taken : (s : Station) → nat_lt 0 (length s.taken) ≡ true → (length s.taken == 0) ≡ false
+some_taken s h = ne_eqb (length s.taken) 0 (λ e. let z : 0 < length s.taken = ltb-true 0 (length s.taken) h in omega arith)
+
+-- ---- how much was written
+
+pub within_more : (k k' k'' : Kept) (out out' out'' : Stored) (n m : ℕ) → Within k out k' out' n → Within k' out' k'' out'' m → Within k out k'' out'' (n + m)
+within_more k k' k'' out out' out'' n m h g = record {
+  window = g.window ∙ h.window;
+  near = g.near;
+  capacity = g.capacity ∙ h.capacity;
+  items = omega (arith, h.items, g.items);
+}

@@ -1,0 +1,5 @@
+pub mod Places
+pub mod Rings
+pub mod Kept
+pub mod Told
+pub mod Steps
