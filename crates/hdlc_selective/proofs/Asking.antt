@@ -58,8 +58,8 @@ module _ (up : ℕ) (s : Station) where
         let all : missing (suc up) s ≡ missing up s ++ (length s.taken + up) ∷ [] = more ∙ ap (λ (b : Bool). missing up s ++ (if not b then (length s.taken + up) ∷ [] else [])) not_so in
         ap (λ (b : Bool). if b then asked_so_far up s else record (puts (Srej (length s.taken + up)) (asked_so_far up s)) { asked = (s.asked ++ missing up s) ++ (length s.taken + up) ∷ [] }) (same_test ∙ not_so)
         ∙ ap₂ (λ (a : List ℕ) (m : List Frame). record s { asked = a; said = m })
-            (append_assoc s.asked (missing up s) ((length s.taken + up) ∷ []))
-            (append_assoc s.said (map Srej (missing up s)) (Srej (length s.taken + up) ∷ []) ∙ ap (λ (fs : List Frame). s.said ++ fs) (sym (map-append Srej (missing up s) ((length s.taken + up) ∷ []))))
+        (append_assoc s.asked (missing up s) ((length s.taken + up) ∷ []))
+        (append_assoc s.said (map Srej (missing up s)) (Srej (length s.taken + up) ∷ []) ∙ ap (λ (fs : List Frame). s.said ++ fs) (sym (map-append Srej (missing up s) ((length s.taken + up) ∷ []))))
         ∙ sym (ap (λ (ms : List ℕ). record s { asked = s.asked ++ ms; said = s.said ++ map Srej ms }) all)
   ]
 

@@ -153,7 +153,7 @@ run_held (p ∷ places) n held says = elim (cases_Bool p.held) [
   | inl so ↦
       let first : held_for n held ≡ Some p.payload = ap (λ (m : ℕ). held_for m held) (omega arith) ∙ says 0 ∙ ap (λ (b : Bool). if b then Some p.payload else None) so in
       let rest : length (run_of places) ≤ length (others n held) = run_held places (n + 1) (others n held) (λ up.
-          others_keep (n + 1 + up) n held (λ e. omega (arith, e)) ∙ ap (λ (m : ℕ). held_for m held) (omega arith) ∙ says (suc up)) in
+      others_keep (n + 1 + up) n held (λ e. omega (arith, e)) ∙ ap (λ (m : ℕ). held_for m held) (omega arith) ∙ says (suc up)) in
       let e = ap length (run_yes p places so) in
       omega (arith, e, rest, others_fewer n p.payload held first)
   | inr not_so ↦ let e = ap length (run_no p places not_so) in omega (arith, e)
@@ -282,6 +282,7 @@ behind_forgotten places n r all = record {
     past_held [] i past = refl
     past_held (x ∷ xs) zero past = absurd (omega (arith, past))
     past_held (x ∷ xs) (suc i) past = past_held xs i (omega (arith, past))
+
     past_asked : (xs : List Place) (i : ℕ) → length xs ≤ i → asked_at xs i ≡ false
     past_asked [] i past = refl
     past_asked (x ∷ xs) zero past = absurd (omega (arith, past))
@@ -301,6 +302,7 @@ behind_made n = record {
     made_held zero i = refl
     made_held (suc k) zero = refl
     made_held (suc k) (suc i) = made_held k i
+
     made_asked : (k i : ℕ) → asked_at (replicate k no_place) i ≡ false
     made_asked zero i = refl
     made_asked (suc k) zero = refl

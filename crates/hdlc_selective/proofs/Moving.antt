@@ -183,9 +183,9 @@ module _ (core mid core' : Kept) (places : List Place) (payload : List ℕ) (out
       let taken : SelectiveStands core' places' before out told (takes_run payload run s) = record {
         stands = core_takes d (more run (sym count));
         behind =
-          subst (λ (m : ℕ). IsBehind places' (length (s.taken ++ payload ∷ run)) (filter (λ g. nat_le m g.0) s.held) (filter (λ k. nat_le m k) s.asked)) next
-          (subst (λ (m : ℕ). IsBehind places' m (filter (λ g. nat_le (length s.taken + (n + 1)) g.0) s.held) (filter (λ k. nat_le (length s.taken + (n + 1)) k) s.asked)) all
-          (behind_taken places (length s.taken) s.held s.asked h.behind (n + 1) x (omega arith) (run_ends_at places n count)));
+            subst (λ (m : ℕ). IsBehind places' (length (s.taken ++ payload ∷ run)) (filter (λ g. nat_le m g.0) s.held) (filter (λ k. nat_le m k) s.asked)) next
+            (subst (λ (m : ℕ). IsBehind places' m (filter (λ g. nat_le (length s.taken + (n + 1)) g.0) s.held) (filter (λ k. nat_le (length s.taken + (n + 1)) k) s.asked)) all
+            (behind_taken places (length s.taken) s.held s.asked h.behind (n + 1) x (omega arith) (run_ends_at places n count)));
         no_gap = h.no_gap;
       } in
       subst (λ (e : Deed). SelectiveStands core' places' before out e (takes_first payload s)) (sym deed)
@@ -194,6 +194,7 @@ module _ (core mid core' : Kept) (places : List Place) (payload : List ℕ) (out
       first : List (List ℕ) → Option (List ℕ)
       first [] = None
       first (p ∷ ps) = Some p
+
       rest : List (List ℕ) → List (List ℕ)
       rest [] = []
       rest (p ∷ ps) = ps

@@ -206,11 +206,7 @@ fn frame(
     tell(station, &deed, told)
 }
 
-fn tell(
-    station: &SelectiveStation,
-    deed: &SelectiveDeed,
-    told: &mut Vec<u8>,
-) -> Result<(), Fail>
+fn tell(station: &SelectiveStation, deed: &SelectiveDeed, told: &mut Vec<u8>) -> Result<(), Fail>
     requires { deed.now.taken ≤ station.now.taken }
 {
     if deed.up {
