@@ -13,6 +13,7 @@ use Rattle.station_model.specs.declared.phase.Phase.TheVariants.{Idle, Setting, 
 use Rattle.station_model.specs.Frames.{Rr, Srej, modulo}
 use Rattle.station_model.specs.Stations.{Station, is_down, sees, puts, one_more}
 use Rattle.station_model.specs.Sending.{releases, refuses_frame, info_at, sends_waiting, starts_timer}
+use Rattle.station_model.specs.Calls.{receives}
 use Rattle.station_model.specs.Receiving.{strays, is_known_address, is_addressed, is_some_octets, errs, named, by_number, marks_busy, comes_up, agrees, row_idle}
 
 -- ---- frames that are an error at any phase
@@ -174,3 +175,8 @@ selective_hears Aborted s = record s { counts = record (s.counts) { aborted = on
 -- the call: the others are those of a station with go-back
 abbrev pub selective_receives : ℕ → Verdict → Station → Station
 selective_receives now verdict s = if is_down s.phase then s else sends_waiting (selective_hears verdict (sees now s))
+
+-- the call of a station of either kind
+abbrev pub receives_as : (selective : Bool) → ℕ → Verdict → Station → Station
+receives_as true now verdict s = selective_receives now verdict s
+receives_as false now verdict s = receives now verdict s
