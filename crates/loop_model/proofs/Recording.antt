@@ -151,7 +151,7 @@ unfolding openings_of turns_of
 still_goes plan c = record { openings = refl; lands = λ whats p. subst (λ z. Lands plan c z) (sym (append-nil whats)) p }
 
 then_goes : (plan : Plan) (c : Course ModelEnd) (a b : Out (Course ModelEnd)) → Goes plan c a → Goes plan a.state b
-    → Goes plan c (record { state = b.state; entries = a.entries ++ b.entries; calls = a.calls ++ b.calls })
+    → Goes plan c (record { state = b.state; entries = a.entries ++ b.entries; calls = a.calls ++ b.calls; order = a.order ++ b.order })
 then_goes plan c a b p q = record {
   openings = openings_of-append a.calls b.calls ∙ ap (λ z. z ++ openings_of b.calls) p.openings ∙ q.openings;
   lands = λ whats h.
@@ -371,8 +371,9 @@ turn_rests plan c a halt p q =
     let d = readied model_ends plan c a in
     ap (λ z. went_unless model_ends z plan c a) p
     ∙ ap (λ z. next d (λ (t : Course ModelEnd). turned_unless model_ends z plan t a)) q
-    ∙ ap (λ z. record { state = d.state; entries = z; calls = d.calls ++ [] }) (append-nil d.entries)
-    ∙ ap (λ z. record { state = d.state; entries = d.entries; calls = z }) (append-nil d.calls)
+    ∙ ap (λ z. record { state = d.state; entries = z; calls = d.calls ++ []; order = d.order ++ [] }) (append-nil d.entries)
+    ∙ ap (λ z. record { state = d.state; entries = d.entries; calls = z; order = d.order ++ [] }) (append-nil d.calls)
+    ∙ ap (λ z. record { state = d.state; entries = d.entries; calls = d.calls; order = z }) (append-nil d.order)
 
 pub halts_rest : HaltsRest
 halts_rest = record { run = run_rests; turn = turn_rests; none = λ plan c a. (readied_calm plan c a).turns }

@@ -5,7 +5,7 @@ use Rattle.std.specs.Prelude.{◌⊎◌}
 use Rattle.std.proofs.lemmas.Bool.{cases_Bool, cases_lt}
 use Rattle.end_model.specs.Steps.{first_of as first_moment}
 use Rattle.link_trait.specs.Wires.{Call, Turns, Closes}
-use Rattle.loop_model.specs.Outs.{Out, next, changed, first_of}
+use Rattle.loop_model.specs.Outs.{Out, next, changed, makes, first_of}
 use Rattle.loop_model.specs.Sessions.{Rules, Session}
 use Rattle.loop_model.specs.Visits.{is_due, closed, stays, Met, nothing_met, Tick, Expire, visited}
 use Rattle.loop_model.specs.Loops.{Plan, visit_at, numbers, swept, Sweeps, before, until, happened, Halt, Course, asks, Turn, readied, turned_unless, went_unless, went}
@@ -125,7 +125,7 @@ unfolding visited
 expire_stays r m s a p = ap (λ (b : Bool). if b then closed s else stays s) p
 
 swept_gone : (m : ℕ) (s : Session ModelEnd) (pre ss : List (Session ModelEnd)) (o : Out (List (Session ModelEnd))) → is_due m s.closing ≡ true → Swept m pre ss o
-    → Swept m pre (s ∷ ss) (record { state = o.state; entries = o.entries; calls = Closes s.number ∷ o.calls })
+    → Swept m pre (s ∷ ss) (next (makes (Closes s.number) ss) (λ now. o))
 swept_gone m s pre ss o p h = record {
   state = h.state ∙ ap (λ (b : Bool). pre ++ (if b then unexpired m ss else s ∷ unexpired m ss)) (sym p);
   entries = h.entries;

@@ -40,8 +40,8 @@ module _ (r : Rules) (m : ℕ) where
       subst (λ z. swept f (numbers ss) z (drop 1 answers) ≡ changed (λ now. (pre ++ o.state) ++ now) t) (append_assoc pre o.state ss)
       (swept_is ss (pre ++ o.state) s.number (drop 1 answers) up q.1) in
       ap (λ (z : Out (List (Session ModelEnd))). next z (λ now. swept f (numbers ss) now (drop 1 answers))) at
-      ∙ ap (λ (z : Out (List (Session ModelEnd))). record { state = z.state; entries = o.entries ++ z.entries; calls = o.calls ++ z.calls }) rest
-      ∙ ap (λ (z : List (Session ModelEnd)). record { state = z; entries = o.entries ++ t.entries; calls = o.calls ++ t.calls }) (append_assoc pre o.state t.state)
+      ∙ ap (λ (z : Out (List (Session ModelEnd))). record { state = z.state; entries = o.entries ++ z.entries; calls = o.calls ++ z.calls; order = o.order ++ z.order }) rest
+      ∙ ap (λ (z : List (Session ModelEnd)). record { state = z; entries = o.entries ++ t.entries; calls = o.calls ++ t.calls; order = o.order ++ t.order }) (append_assoc pre o.state t.state)
 
 is_readied : (plan : Plan) (c : Course ModelEnd) (a : Turn) → Rises 0 (numbers c.loop.sessions) → IsReadied plan c a
 unfolding readied UpTo
@@ -58,7 +58,7 @@ is_readied plan c a rises =
 -- ---- behind a turn
 
 visit_one : (f : Session ModelEnd → Met → Out (List (Session ModelEnd))) (n : ℕ) (ss : List (Session ModelEnd)) (s : Session ModelEnd) (a : Met) → session_of n ss ≡ Some s
-    → visit_at f n ss a ≡ record { state = replaced n (f s a).state ss; entries = (f s a).entries; calls = (f s a).calls }
+    → visit_at f n ss a ≡ changed (λ now. replaced n now ss) (f s a)
 unfolding visit_at session_of replaced
 visit_one f n [] s a e = absurd (let x : ⊥ = cc in x)
 visit_one f n (t ∷ ss) s a e =

@@ -8,7 +8,7 @@ use Rattle.link_trait.specs.Wires.{Call, Reading, Gave, NotNow, End, Failed, Rea
 use Rattle.link_trait.specs.declared.wires.WriteAnswer.{WriteAnswer}
 use Rattle.link_trait.specs.declared.wires.WriteAnswer.TheVariants as write
 use Rattle.loop_model.specs.Journals.{Entry}
-use Rattle.loop_model.specs.Outs.{Out, next, makes, acts, exactly, first_of}
+use Rattle.loop_model.specs.Outs.{Out, still, next, makes, acts, exactly, first_of}
 use Rattle.loop_model.specs.Sessions.{Rules, Session, Given, Begins, Hears, Sends, Takes, Leaves, Ticks, Ends, Faults, Stalls, is_released, most_output, outcomes_of, octets_in, breaks, written as written_as, joined, fed, Says, nothing_said, handled}
 use Rattle.loop_model.specs.Visits.{most_read, Flow, Going, PutOff, Failing, after_write, writes_once, writes, Wrote, fault_unless, flowed, written_unless, written, settled, rests, Visit, Tick, Read, Write, Expire, Met, is_due, came, read_once, rests_behind, served, visited}
 use Rattle.loop_model.specs.Loops.{Plan, rules_of, Loop, next_user, begun, answering, Caller, calling, called_by, called, Course, asks, Turn, run, Dialled, opens, dials_to, dials}
@@ -81,12 +81,12 @@ less_one : (a b n : ℕ) → a ≤ suc b → 1 ≤ n → a - n ≤ b
 less_one a b n p q = omega arith
 
 module _ (r : Rules) (m : ℕ) where
-  put_off : (s : Session ModelEnd) (answers : List WriteAnswer) → acts writes_once (s, PutOff) answers ≡ record { state = (s, PutOff); entries = []; calls = [] }
+  put_off : (s : Session ModelEnd) (answers : List WriteAnswer) → acts writes_once (s, PutOff) answers ≡ still (s, PutOff)
   unfolding acts writes_once
   put_off s [] = refl
   put_off s (a ∷ answers) = put_off s answers
 
-  failing : (s : Session ModelEnd) (answers : List WriteAnswer) → acts writes_once (s, Failing) answers ≡ record { state = (s, Failing); entries = []; calls = [] }
+  failing : (s : Session ModelEnd) (answers : List WriteAnswer) → acts writes_once (s, Failing) answers ≡ still (s, Failing)
   unfolding acts writes_once
   failing s [] = refl
   failing s (a ∷ answers) = failing s answers

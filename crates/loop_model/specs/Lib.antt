@@ -1,5 +1,7 @@
 pub mod Journals
+pub mod Deeds
 pub mod Outs
+pub mod Signs
 pub mod Ends
 pub mod Sessions
 pub mod Visits
@@ -26,3 +28,4 @@ pub mod Visitings
 pub mod Shows
 pub mod Told
 pub mod Speeches
+pub mod Orderly

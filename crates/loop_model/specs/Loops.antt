@@ -14,7 +14,7 @@ use Rattle.link_trait.specs.declared.wires.Happening.{Happening}
 use Rattle.link_trait.specs.declared.wires.Happening.TheVariants as happening
 use Rattle.loop_model.specs.Ends.{EndOps}
 use Rattle.loop_model.specs.Journals.{Entry, header, text}
-use Rattle.loop_model.specs.Outs.{Out, still, next, changed, makes, acts, exactly, first_of}
+use Rattle.loop_model.specs.Outs.{Out, still, next, changed, prints, makes, acts, exactly, first_of}
 use Rattle.loop_model.specs.Sessions.{Rules, Session, Begins}
 use Rattle.loop_model.specs.Visits.{Met, nothing_met, Visit, Tick, Read, Write, Expire, visited, served, wakes}
 
@@ -72,13 +72,13 @@ pub record Sweeps : Type 0 where
 
 -- ---- openings
 
--- a connection that gets no session: its event, and it is closed
+-- an event without outcomes
+abbrev pub plain_event : {E : Type 0} → Loop E → ℕ → Event → Entry
+plain_event l conn event = record { moment = l.moment; conn = conn; event = event; outcomes = [] }
+
+-- a connection that gets no session: its event, and then it is closed
 abbrev pub turned_away : {E : Type 0} → Loop E → ℕ → Event → Out (Loop E)
-turned_away l conn why = record {
-  state = l;
-  entries = record { moment = l.moment; conn = conn; event = why; outcomes = [] } ∷ [];
-  calls = Closes conn ∷ [];
-}
+turned_away l conn why = next (prints (l, plain_event l conn why ∷ [])) (makes (Closes conn))
 
 -- the user that comes next, where one is left; and the others
 abbrev pub next_user : List Mind → Option Mind
@@ -196,11 +196,8 @@ module _ {E : Type 0} (o : EndOps E) where
 
   abbrev pub answered_by : Option Mind → Plan → Loop E → ℕ → Out (Loop E)
   answered_by None plan l conn = turned_away l conn (event.Unserved plan.handed)
-  answered_by (Some mind) plan l conn = record {
-    state = with_sessions (one_less l) (l.sessions ++ begun conn (answering plan l) mind ∷ []);
-    entries = record { moment = l.moment; conn = conn; event = event.Answer plan.rbc (next_u64 l.words).0; outcomes = [] } ∷ [];
-    calls = [];
-  }
+  answered_by (Some mind) plan l conn =
+      prints (with_sessions (one_less l) (l.sessions ++ begun conn (answering plan l) mind ∷ []), plain_event l conn (event.Answer plan.rbc (next_u64 l.words).0) ∷ [])
 
   -- a connection was accepted
   unfoldable pub accepted : Plan → Loop E → ℕ → Out (Loop E)

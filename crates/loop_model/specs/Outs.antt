@@ -1,33 +1,41 @@
 -- The words in which the loop is defined: what a part of it gives, one part behind another, and a part once for each answer.
-use Rattle.std.specs.Prelude.{ℕ, zero, suc, List, [], ◌∷◌, ◌++◌}
+use Rattle.std.specs.Prelude.{◌≡◌, ℕ, zero, suc, List, [], ◌∷◌, ◌++◌}
 use Rattle.link_trait.specs.Wires.{Call}
 use Rattle.loop_model.specs.Journals.{Entry}
+use Rattle.loop_model.specs.Deeds.{Deed, Calling, entries_in, calls_in, printings}
 
--- what a part of the loop gives: the state behind it, the events of the journal, the calls on the wires
+-- what a part of the loop gives: the state behind it, the events of the journal, the calls on the wires; and these events and calls in the one
+-- order in which they come
 pub record Out (S : Type 0) : Type 0 where
   pub state : S
   pub entries : List Entry
   pub calls : List Call
+  pub order : List Deed
+
+-- the events and the calls are those of that order
+pub record HasOrder {S : Type 0} (part : Out S) : Type 0 where
+  pub entries : entries_in part.order ≡ part.entries
+  pub calls : calls_in part.order ≡ part.calls
 
 -- nothing happens
 abbrev pub still : {S : Type 0} → S → Out S
-still s = record { state = s; entries = []; calls = [] }
+still s = record { state = s; entries = []; calls = []; order = [] }
 
 -- one part, and behind it one that begins with its state
 abbrev pub next : {S T : Type 0} → Out S → (S → Out T) → Out T
-next a f = let b = f a.state in record { state = b.state; entries = a.entries ++ b.entries; calls = a.calls ++ b.calls }
+next a f = let b = f a.state in record { state = b.state; entries = a.entries ++ b.entries; calls = a.calls ++ b.calls; order = a.order ++ b.order }
 
 -- the same, with what becomes of the state
 abbrev pub changed : {S T : Type 0} → (S → T) → Out S → Out T
-changed f a = record { state = f a.state; entries = a.entries; calls = a.calls }
+changed f a = record { state = f a.state; entries = a.entries; calls = a.calls; order = a.order }
 
 -- a part that makes no call
 abbrev pub prints : {S : Type 0} → S × List Entry → Out S
-prints x = record { state = x.0; entries = x.1; calls = [] }
+prints x = record { state = x.0; entries = x.1; calls = []; order = printings x.1 }
 
 -- a call on the wires, and nothing else
 abbrev pub makes : {S : Type 0} → Call → S → Out S
-makes call s = record { state = s; entries = []; calls = call ∷ [] }
+makes call s = record { state = s; entries = []; calls = call ∷ []; order = Calling call ∷ [] }
 
 -- a part that makes no call, once for each answer
 unfoldable pub runs : {S A : Type 0} → (S → A → S × List Entry) → S → List A → S × List Entry

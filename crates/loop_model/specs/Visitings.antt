@@ -20,7 +20,7 @@ all_ticked r m [] answers = still []
 all_ticked r m (s ∷ ss) answers =
     let o = visited model_ends r m Tick s (first_of nothing_met answers) in
     let rest = all_ticked r m ss (drop 1 answers) in
-    record { state = o.state ++ rest.state; entries = o.entries ++ rest.entries; calls = o.calls ++ rest.calls }
+    record { state = o.state ++ rest.state; entries = o.entries ++ rest.entries; calls = o.calls ++ rest.calls; order = o.order ++ rest.order }
 
 -- at the moment before the turn
 abbrev pub ticks_of : Plan → Course ModelEnd → Turn → Out (List (Session ModelEnd))

@@ -9,12 +9,11 @@ use Rattle.link_trait.specs.Wires.{Listens, Dials, Turns}
 use Rattle.link_trait.specs.declared.wires.Happening.{Happening}
 use Rattle.link_trait.specs.declared.wires.Happening.TheVariants as happening
 use Rattle.loop_model.specs.Ends.{EndOps}
-use Rattle.loop_model.specs.Outs.{Out, next, changed, makes, exactly, first_of}
+use Rattle.loop_model.specs.Outs.{Out, next, changed, prints, makes, exactly, first_of}
 use Rattle.loop_model.specs.Sessions.{Rules, Session, Begins}
 use Rattle.loop_model.specs.Visits.{Met, nothing_met, Visit, Tick, Read, Write, Expire, visited, served}
-use Rattle.loop_model.specs.Loops.{Plan, rules_of, Loop, most_live, with_sessions, visit_at, numbers, swept, Sweeps, turned_away, next_user, begun, one_less, Caller, Halt, OnClosed, Course, asks, halt_by, halt_behind, Turn, nothing_comes, Dialled, before, until, answering, answered_by, accepted, calling, called_by, called, visited_at, happened, readied, turn, follows, turned_unless, went_unless, went, run, serves, opens, dials_to, dials}
-use Rattle.loop_session.specs.Giving.{happened as entry_at}
-use Rattle.loop_session.proofs.Carrying.{Carries, carried, all_carried, loop_carried, course_carried, out_of, if_carried, next_carried, changed_carried, acts_carried}
+use Rattle.loop_model.specs.Loops.{Plan, rules_of, Loop, most_live, with_sessions, visit_at, numbers, swept, Sweeps, plain_event, turned_away, next_user, begun, one_less, Caller, Halt, OnClosed, Course, asks, halt_by, halt_behind, Turn, nothing_comes, Dialled, before, until, answering, answered_by, accepted, calling, called_by, called, visited_at, happened, readied, turn, follows, turned_unless, went_unless, went, run, serves, opens, dials_to, dials}
+use Rattle.loop_session.proofs.Carrying.{Carries, carried, all_carried, loop_carried, course_carried, if_carried, next_carried, changed_carried, acts_carried}
 use Rattle.loop_session.proofs.CarriedVisits.{served_same, visited_same, wakes_same}
 
 -- ---- lists of sessions
@@ -103,7 +102,7 @@ module _ {E F : Type 0} (plan : Plan) (o : EndOps E) (p : EndOps F) (h : E → F
   answered_by_same None l conn = refl
   answered_by_same (Some mind) l conn =
       let answers : List (Session F) → Out (Loop F) = λ ss.
-      out_of (with_sessions (one_less (loop_carried h l)) ss) (entry_at l.moment conn (event.Answer plan.rbc (next_u64 l.words).0) [] ∷ []) [] in
+      prints (with_sessions (one_less (loop_carried h l)) ss, plain_event l conn (event.Answer plan.rbc (next_u64 l.words).0) ∷ []) in
       ap (λ (k : F). answers (all_carried h l.sessions ++ begun conn k mind ∷ [])) (c.answers plan.rbc (next_u64 l.words).0 l.moment)
       ∙ ap answers (joined_same h l.sessions (begun conn (answering o plan l) mind ∷ []))
 

@@ -6,6 +6,7 @@ use Rattle.end_model.specs.Ends.{Call as CallsWith, Answer as AnswersWith, Event
 use Rattle.link_trait.specs.Wires.{Call}
 use Rattle.loop_model.specs.Ends.{EndOps}
 use Rattle.loop_model.specs.Journals.{Entry}
+use Rattle.loop_model.specs.Deeds.{Deed}
 use Rattle.loop_model.specs.Outs.{Out, next, changed, runs, acts}
 use Rattle.loop_model.specs.Sessions.{Session}
 use Rattle.loop_model.specs.Visits.{Flow}
@@ -47,8 +48,8 @@ course_carried h c = record { loop = loop_carried h c.loop; turns = c.turns; hal
 abbrev pub first_carried : {S T : Type 0} → (S → T) → S × List Entry → T × List Entry
 first_carried j x = (j x.0, x.1)
 
-abbrev pub out_of : {S : Type 0} → S → List Entry → List Call → Out S
-out_of s entries calls = record { state = s; entries = entries; calls = calls }
+abbrev pub out_of : {S : Type 0} → S → List Entry → List Call → List Deed → Out S
+out_of s entries calls order = record { state = s; entries = entries; calls = calls; order = order }
 
 -- ---- parts
 
@@ -68,11 +69,11 @@ runs_carried j f g same s (a ∷ answers) =
 pub next_carried : {S T S' T' : Type 0} (i : S → T) (j : S' → T') (a : Out S) (b : Out T) (f : S → Out S') (g : T → Out T')
     → b ≡ changed i a → ((s : S) → g (i s) ≡ changed j (f s)) → next b g ≡ changed j (next a f)
 next_carried i j a b f g is same =
-    ap (λ z. next z g) is ∙ ap (λ z. out_of z.state (a.entries ++ z.entries) (a.calls ++ z.calls)) (same a.state)
+    ap (λ z. next z g) is ∙ ap (λ z. out_of z.state (a.entries ++ z.entries) (a.calls ++ z.calls) (a.order ++ z.order)) (same a.state)
 
 pub changed_carried : {S T S' T' : Type 0} (i : S → T) (j : S' → T') (a : Out S) (b : Out T) (u : S → S') (v : T → T')
     → b ≡ changed i a → v (i a.state) ≡ j (u a.state) → changed v b ≡ changed j (changed u a)
-changed_carried i j a b u v is same = ap (λ z. changed v z) is ∙ ap (λ z. out_of z a.entries a.calls) same
+changed_carried i j a b u v is same = ap (λ z. changed v z) is ∙ ap (λ z. out_of z a.entries a.calls a.order) same
 
 pub acts_carried : {S T A : Type 0} (j : S → T) (f : S → A → Out S) (g : T → A → Out T)
     → ((s : S) (a : A) → g (j s) a ≡ changed j (f s a)) → (s : S) (answers : List A) → acts g (j s) answers ≡ changed j (acts f s answers)

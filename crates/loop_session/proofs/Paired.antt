@@ -174,6 +174,7 @@ both_alike : (x : Out (Course Both)) → AreAlike (changed (course_carried kept_
 both_alike x = record {
   entries = refl;
   calls = refl;
+  order = refl;
   turns = refl;
   halt = refl;
   asked = refl;

@@ -28,10 +28,11 @@ AreTwins [] (t ∷ ts) = ⊥
 AreTwins (s ∷ ss) [] = ⊥
 AreTwins (s ∷ ss) (t ∷ ts) = Twins s t × AreTwins ss ts
 
--- the same events, calls, turns and answers of the clock, and the same sessions
+-- the same events and calls, in the same order, turns and answers of the clock, and the same sessions
 pub record AreAlike (a : Out (Course KEnd)) (b : Out (Course ModelEnd)) : Type 0 where
   pub entries : a.entries ≡ b.entries
   pub calls : a.calls ≡ b.calls
+  pub order : a.order ≡ b.order
   pub turns : a.state.turns ≡ b.state.turns
   pub halt : a.state.halt ≡ b.state.halt
   pub asked : a.state.asked ≡ b.state.asked

@@ -12,6 +12,7 @@ use Rattle.link_trait.specs.declared.wires.WriteAnswer.TheVariants as write
 use Rattle.loop_model.specs.Grammar.{AreInGrammar}
 use Rattle.loop_model.specs.Journals.{Entry, text}
 use Rattle.loop_model.specs.Outs.{Out, still, next, makes, acts, exactly}
+use Rattle.loop_model.specs.Signs.{order_still, order_next, order_makes}
 use Rattle.loop_model.specs.Sessions.{Session, is_released}
 use Rattle.loop_model.specs.Visits as visits
 use Rattle.loop_model.specs.Visits.{Flow, after_write, writes_if, writes_once, writes, settled, closed, stays, is_due}
@@ -31,10 +32,11 @@ made_still c s = record {
   told = grew_nothing c.calls;
   answered = tt;
   counted = counts_none c.faults c.faults (let z : c.faults ≤ c.faults = omega arith in z);
+  has_order = order_still s;
 }
 
 made_makes : {S : Type 0} (c d : WiresState) (s : S) (call : Call) → Grew c.calls d.calls (call ∷ []) → IsAnsweredSo call → Counts c.faults d.faults (call ∷ []) → Made c d s (makes call s)
-made_makes c d s call told answered counted = record { state = refl; silent = refl; told = told; answered = (answered, tt); counted = counted }
+made_makes c d s call told answered counted = record { state = refl; silent = refl; told = told; answered = (answered, tt); counted = counted; has_order = order_makes call s }
 
 made_next : {S T : Type 0} (c d e : WiresState) (mid : S) (new : T) (o : Out S) (f : S → Out T) → Made c d mid o → Made d e new (f mid) → Made c e new (next o f)
 made_next c d e mid new o f p q = behind (subst (λ z. Made d e new (f z)) p.state q)
@@ -46,6 +48,7 @@ made_next c d e mid new o f p q = behind (subst (λ z. Made d e new (f z)) p.sta
       told = grew_then c.calls d.calls e.calls o.calls (f o.state).calls p.told q.told;
       answered = answered_parts o.calls (f o.state).calls p.answered q.answered;
       counted = counts_then c.faults d.faults e.faults o.calls (f o.state).calls p.counted q.counted;
+      has_order = order_next o f p.has_order q.has_order;
     }
 
 pub acted_made : {S : Type 0} (h : SinkState) (c d : WiresState) (new : S) (o : Out S) → Made c d new o → Acted (seen h c) (seen h d) new o
@@ -57,6 +60,7 @@ acted_made h c d new o p = record {
   answered = p.answered;
   counted = p.counted;
   in_grammar = subst AreInGrammar (sym p.silent) tt;
+  has_order = p.has_order;
 }
 
 -- ---- one write

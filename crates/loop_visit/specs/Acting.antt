@@ -1,10 +1,10 @@
 -- Contract: how a part of the loop that calls wires ends: what it leaves, prints and calls, or where it breaks off.
 use Rattle.std.specs.Prelude.{◌≡◌, ◌≤◌, List, ◌++◌, Result, Ok, Err}
-use Rattle.link_trait.specs.Outside.{Grew, GrewPart}
-use Rattle.link_trait.specs.Wires.{Call}
+use Rattle.link_trait.specs.Outside.{Grew}
 use Rattle.loop_model.specs.Grammar.{AreInGrammar}
 use Rattle.loop_model.specs.Journals.{text}
-use Rattle.loop_model.specs.Outs.{Out}
+use Rattle.loop_model.specs.Deeds.{Sign, signs, text_of, calls_of}
+use Rattle.loop_model.specs.Outs.{Out, HasOrder}
 use Rattle.loop_session.specs.declared.loop_fault.LoopFault.{LoopFault}
 use Rattle.loop_session.specs.Parts.{FailedFor}
 use Rattle.loop_visit.specs.Seeing.{Seen, AreAnsweredSo, Counts}
@@ -18,20 +18,18 @@ pub record Acted {S : Type 0} (a b : Seen) (new : S) (o : Out S) : Type 0 where
   pub answered : AreAnsweredSo o.calls
   pub counted : Counts a.failed b.failed o.calls
   pub in_grammar : AreInGrammar o.entries
+  pub has_order : HasOrder o
 
--- a beginning of these calls was made
-pub record Began (a b : Seen) (all : List Call) : Type 0 where
-  pub part : List Call
-  pub rest : List Call
-  pub is : part ++ rest ≡ all
-  pub told : Grew a.calls b.calls part
-  pub answered : AreAnsweredSo part
-  pub counted : Counts a.failed b.failed part
-
--- a part broke off, since the sink failed or memory ran out: a beginning of its text was written, and a beginning of its calls was made
+-- a part broke off, since the sink failed or memory ran out: a beginning of what comes out of it came out, octets of its text and calls in their
+-- one order
 pub record BreaksAt {S : Type 0} (a b : Seen) (o : Out S) (fault : LoopFault) : Type 0 where
-  pub begun : GrewPart a.held b.held (text o.entries)
-  pub calls : Began a b o.calls
+  pub part : List Sign
+  pub rest : List Sign
+  pub is : part ++ rest ≡ signs o.order
+  pub printed : Grew a.held b.held (text_of part)
+  pub told : Grew a.calls b.calls (calls_of part)
+  pub answered : AreAnsweredSo (calls_of part)
+  pub counted : Counts a.failed b.failed (calls_of part)
   pub failed : FailedFor fault a.sunk b.sunk
 
 -- there are answers for which the model gives this state, prints what was written and makes the calls that were made

@@ -1,18 +1,20 @@
 -- Lemmas: one part of the loop behind another; how parts end, for the proofs of the crates above.
 use Rattle.std.proofs.Common.{◌≡◌, ◌≤◌, ℕ, ◌+◌, ◌-◌, ◌^◌, min, true, false, List, [], ◌∷◌, ◌++◌, refl, sym, ◌∙◌, ap, subst, append-nil, append_assoc, arith}
 use Rattle.er_base.specs.declared.no_memory.NoMemory.{NoMemory as Want}
-use Rattle.link_trait.specs.Outside.{Grew, GrewPart, Rose}
-use Rattle.link_trait.specs.Growth.{grew_nothing, grew_then, part_nothing, part_whole, part_then, part_more}
+use Rattle.link_trait.specs.Outside.{Grew, Rose}
+use Rattle.link_trait.specs.Growth.{grew_nothing, grew_then}
 use Rattle.link_trait.specs.States.{SinkState, WiresState}
 use Rattle.link_trait.specs.Wires.{Call}
 use Rattle.loop_model.specs.Grammar.{AreInGrammar}
 use Rattle.loop_model.specs.Journals.{Entry, entry_text, text}
-use Rattle.loop_model.specs.Outs.{Out, still, next, changed, prints, makes}
+use Rattle.loop_model.specs.Deeds.{Deed, printings, Sign, octet_signs, signs, text_of, calls_of}
+use Rattle.loop_model.specs.Outs.{Out, HasOrder, still, next, changed, prints, makes}
+use Rattle.loop_model.specs.Signs.{octets_parts, text_parts as text_of_parts, calls_of_parts, octets_text, octets_calls, signs_parts, printings_signs, order_still, order_next, order_changed, order_prints, order_makes, order_text, order_calls}
 use Rattle.loop_model.specs.Laws.{is_failed, failures}
 use Rattle.loop_session.specs.declared.loop_fault.LoopFault.{LoopFault}
 use Rattle.loop_session.specs.declared.loop_fault.LoopFault.TheVariants.{Wires, Sink, NoMemory}
 use Rattle.loop_session.specs.Parts.{FailedFor, Breaks, Printed}
-use Rattle.loop_visit.specs.Acting.{Acted, Began, BreaksAt}
+use Rattle.loop_visit.specs.Acting.{Acted, BreaksAt}
 use Rattle.loop_visit.specs.Seeing.{Seen, seen, IsAnsweredSo, AreAnsweredSo, Counts}
 
 -- ---- texts, answers, counts and grammar of both
@@ -62,6 +64,7 @@ acted_still a s = record {
   answered = tt;
   counted = counts_none a.failed a.failed (let z : a.failed ≤ a.failed = omega arith in z);
   in_grammar = tt;
+  has_order = order_still s;
 }
 
 pub acted_next : {S T : Type 0} (a b c : Seen) (mid : S) (new : T) (o : Out S) (f : S → Out T) → Acted a b mid o → Acted b c new (f mid) → Acted a c new (next o f)
@@ -76,6 +79,7 @@ acted_next a b c mid new o f p q = behind (subst (λ z. Acted b c new (f z)) p.s
       answered = answered_parts o.calls (f o.state).calls p.answered q.answered;
       counted = counts_then a.failed b.failed c.failed o.calls (f o.state).calls p.counted q.counted;
       in_grammar = grammar_parts o.entries (f o.state).entries p.in_grammar q.in_grammar;
+      has_order = order_next o f p.has_order q.has_order;
     }
 
 pub acted_changed : {S T : Type 0} (a b : Seen) (g : S → T) (new : S) (o : Out S) → Acted a b new o → Acted a b (g new) (changed g o)
@@ -87,6 +91,7 @@ acted_changed a b g new o p = record {
   answered = p.answered;
   counted = p.counted;
   in_grammar = p.in_grammar;
+  has_order = order_changed g o p.has_order;
 }
 
 pub acted_prints : {S : Type 0} (h i : SinkState) (c : WiresState) (new : S) (x : S × List Entry) → Printed h i new x → Acted (seen h c) (seen i c) new (prints x)
@@ -98,6 +103,7 @@ acted_prints h i c new x p = record {
   answered = tt;
   counted = counts_none c.faults c.faults (let z : c.faults ≤ c.faults = omega arith in z);
   in_grammar = p.in_grammar;
+  has_order = order_prints x;
 }
 
 pub acted_makes : {S : Type 0} (h : SinkState) (c d : WiresState) (s : S) (call : Call)
@@ -110,45 +116,10 @@ acted_makes h c d s call told answered counted = record {
   answered = (answered, tt);
   counted = counted;
   in_grammar = tt;
+  has_order = order_makes call s;
 }
 
 -- ---- parts that broke off
-
--- with calls that would have come behind
-pub began_more : (a b : Seen) (xs ys : List Call) → Began a b xs → Began a b (xs ++ ys)
-began_more a b xs ys p = record {
-  part = p.part;
-  rest = p.rest ++ ys;
-  is = sym (append_assoc p.part p.rest ys) ∙ ap (λ z. z ++ ys) p.is;
-  told = p.told;
-  answered = p.answered;
-  counted = p.counted;
-}
-
--- behind calls that were made
-pub began_then : (a b c : Seen) (xs ys : List Call) → Grew a.calls b.calls xs → AreAnsweredSo xs → Counts a.failed b.failed xs → Began b c ys → Began a c (xs ++ ys)
-began_then a b c xs ys told answered counted q = record {
-  part = xs ++ q.part;
-  rest = q.rest;
-  is = append_assoc xs q.part q.rest ∙ ap (λ z. xs ++ z) q.is;
-  told = grew_then a.calls b.calls c.calls xs q.part told q.told;
-  answered = answered_parts xs q.part answered q.answered;
-  counted = counts_then a.failed b.failed c.failed xs q.part counted q.counted;
-}
-
-pub began_none : (a b : Seen) (all : List Call) → a.calls ≡ b.calls → a.failed ≤ b.failed → Began a b all
-began_none a b all same few = record {
-  part = [];
-  rest = all;
-  is = refl;
-  told = subst (λ z. Grew a.calls z []) same (grew_nothing a.calls);
-  answered = tt;
-  counted = counts_none a.failed b.failed few;
-}
-
--- all of these calls were made
-pub began_whole : (a b : Seen) (all : List Call) → Grew a.calls b.calls all → AreAnsweredSo all → Counts a.failed b.failed all → Began a b all
-began_whole a b all told answered counted = record { part = all; rest = []; is = append-nil all; told = told; answered = answered; counted = counted }
 
 -- the sink failed no more often than before a part that went before
 pub failed_behind : (f g h : ℕ) (fault : LoopFault) → f ≤ g → FailedFor fault g h → FailedFor fault f h
@@ -159,10 +130,26 @@ failed_behind f g h (NoMemory want) p q = (let r : g ≤ h = q in omega (arith, 
 -- the first of two parts broke off
 pub breaks_first : {S T : Type 0} (a b : Seen) (o : Out S) (f : S → Out T) (fault : LoopFault) → BreaksAt a b o fault → BreaksAt a b (next o f) fault
 breaks_first a b o f fault p = record {
-  begun = subst (λ z. GrewPart a.held b.held z) (sym (text_parts o.entries (f o.state).entries)) (part_more a.held b.held (text o.entries) (text (f o.state).entries) p.begun);
-  calls = began_more a b o.calls (f o.state).calls p.calls;
+  part = p.part;
+  rest = p.rest ++ signs (f o.state).order;
+  is =
+      sym (append_assoc p.part p.rest (signs (f o.state).order)) ∙ ap (λ z. z ++ signs (f o.state).order) p.is
+      ∙ sym (signs_parts o.order (f o.state).order);
+  printed = p.printed;
+  told = p.told;
+  answered = p.answered;
+  counted = p.counted;
   failed = p.failed;
 }
+
+-- behind a part that was done, so much more came out
+pub text_behind : {S : Type 0} (a b c : Seen) (s : S) (o : Out S) (more : List Sign) → Acted a b s o → Grew b.held c.held (text_of more) → Grew a.held c.held (text_of (signs o.order ++ more))
+text_behind a b c s o more p q =
+    subst (λ z. Grew a.held c.held z) (sym (text_of_parts (signs o.order) more ∙ ap (λ z. z ++ text_of more) (order_text o p.has_order)))
+    (grew_then a.held b.held c.held (text o.entries) (text_of more) p.printed q)
+
+pub calls_are : {S : Type 0} (o : Out S) (more : List Sign) → HasOrder o → o.calls ++ calls_of more ≡ calls_of (signs o.order ++ more)
+calls_are o more p = sym (calls_of_parts (signs o.order) more ∙ ap (λ z. z ++ calls_of more) (order_calls o p))
 
 -- the second of two parts broke off
 pub breaks_next : {S T : Type 0} (a b c : Seen) (mid : S) (o : Out S) (f : S → Out T) (fault : LoopFault) → Acted a b mid o → BreaksAt b c (f mid) fault → BreaksAt a c (next o f) fault
@@ -170,34 +157,66 @@ breaks_next a b c mid o f fault p q = behind (subst (λ z. BreaksAt b c (f z) fa
   where
     behind : BreaksAt b c (f o.state) fault → BreaksAt a c (next o f) fault
     behind q = record {
-      begun = subst (λ z. GrewPart a.held c.held z) (sym (text_parts o.entries (f o.state).entries)) (part_then a.held b.held c.held (text o.entries) (text (f o.state).entries) p.printed q.begun);
-      calls = began_then a b c o.calls (f o.state).calls p.told p.answered p.counted q.calls;
+      part = signs o.order ++ q.part;
+      rest = q.rest;
+      is = append_assoc (signs o.order) q.part q.rest ∙ ap (λ z. signs o.order ++ z) q.is ∙ sym (signs_parts o.order (f o.state).order);
+      printed = text_behind a b c mid o q.part p q.printed;
+      told = subst (λ z. Grew a.calls c.calls z) (calls_are o q.part p.has_order) (grew_then a.calls b.calls c.calls o.calls (calls_of q.part) p.told q.told);
+      answered = subst AreAnsweredSo (calls_are o q.part p.has_order) (answered_parts o.calls (calls_of q.part) p.answered q.answered);
+      counted = subst (λ z. Counts a.failed c.failed z) (calls_are o q.part p.has_order) (counts_then a.failed b.failed c.failed o.calls (calls_of q.part) p.counted q.counted);
       failed = failed_behind a.sunk b.sunk c.sunk fault p.later q.failed;
     }
 
 pub breaks_changed : {S T : Type 0} (a b : Seen) (g : S → T) (o : Out S) (fault : LoopFault) → BreaksAt a b o fault → BreaksAt a b (changed g o) fault
-breaks_changed a b g o fault p = record { begun = p.begun; calls = p.calls; failed = p.failed }
+breaks_changed a b g o fault p = record { part = p.part; rest = p.rest; is = p.is; printed = p.printed; told = p.told; answered = p.answered; counted = p.counted; failed = p.failed }
+
+-- a beginning of the text of events that are printed first
+pub breaks_lines : {S : Type 0} (h i : SinkState) (c : WiresState) (o : Out S) (xs : List Entry) (more : List Deed) (fault : LoopFault) → o.order ≡ printings xs ++ more
+    → Breaks h i (text xs) fault → BreaksAt (seen h c) (seen i c) o fault
+unfolding failures
+breaks_lines h i c o xs more fault same p =
+    let none : [] ≡ calls_of (octet_signs p.begun.part) = sym (octets_calls p.begun.part) in
+    record {
+      part = octet_signs p.begun.part;
+      rest = octet_signs p.begun.rest ++ signs more;
+      is =
+          sym (append_assoc (octet_signs p.begun.part) (octet_signs p.begun.rest) (signs more))
+          ∙ ap (λ z. z ++ signs more) (sym (octets_parts p.begun.part p.begun.rest) ∙ ap octet_signs p.begun.is ∙ sym (printings_signs xs))
+          ∙ sym (signs_parts (printings xs) more) ∙ ap signs (sym same);
+      printed = subst (λ z. Grew h.held i.held z) (sym (octets_text p.begun.part)) p.begun.grew;
+      told = subst (λ z. Grew c.calls c.calls z) none (grew_nothing c.calls);
+      answered = subst AreAnsweredSo none tt;
+      counted = subst (λ z. Counts c.faults c.faults z) none (counts_none c.faults c.faults (let z : c.faults ≤ c.faults = omega arith in z));
+      failed = p.failed;
+    }
 
 pub breaks_prints : {S : Type 0} (h i : SinkState) (c : WiresState) (x : S × List Entry) (fault : LoopFault) → Breaks h i (text x.1) fault
     → BreaksAt (seen h c) (seen i c) (prints x) fault
-breaks_prints h i c x fault p = record {
-  begun = p.begun;
-  calls = began_none (seen h c) (seen i c) [] refl (let z : c.faults ≤ c.faults = omega arith in z);
-  failed = p.failed;
-}
+breaks_prints h i c x fault p = breaks_lines h i c (prints x) x.1 [] fault (sym (append-nil (printings x.1))) p
 
 -- memory ran out before anything was printed and called
 pub breaks_wanted : {S : Type 0} (a : Seen) (o : Out S) (want : Want) → BreaksAt a a o (NoMemory want)
+unfolding text_of calls_of
 breaks_wanted a o want = record {
-  begun = part_nothing a.held (text o.entries);
-  calls = began_none a a o.calls refl (let z : a.failed ≤ a.failed = omega arith in z);
+  part = [];
+  rest = signs o.order;
+  is = refl;
+  printed = grew_nothing a.held;
+  told = grew_nothing a.calls;
+  answered = tt;
+  counted = counts_none a.failed a.failed (let z : a.failed ≤ a.failed = omega arith in z);
   failed = (let z : a.sunk ≤ a.sunk = omega arith in z);
 }
 
 -- memory ran out behind all that a part printed and called
 pub breaks_behind : {S : Type 0} (a b : Seen) (new : S) (o : Out S) (want : Want) → Acted a b new o → BreaksAt a b o (NoMemory want)
 breaks_behind a b new o want p = record {
-  begun = part_whole a.held b.held (text o.entries) p.printed;
-  calls = began_whole a b o.calls p.told p.answered p.counted;
+  part = signs o.order;
+  rest = [];
+  is = append-nil (signs o.order);
+  printed = subst (λ z. Grew a.held b.held z) (sym (order_text o p.has_order)) p.printed;
+  told = subst (λ z. Grew a.calls b.calls z) (sym (order_calls o p.has_order)) p.told;
+  answered = subst AreAnsweredSo (sym (order_calls o p.has_order)) p.answered;
+  counted = subst (λ z. Counts a.failed b.failed z) (sym (order_calls o p.has_order)) p.counted;
   failed = p.later;
 }

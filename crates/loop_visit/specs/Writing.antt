@@ -5,7 +5,7 @@ use Rattle.std.specs.Prelude.{◌≡◌, ◌≤◌, ℕ, ◌+◌, Bool, if◌the
 use Rattle.link_trait.specs.Outside.{Grew}
 use Rattle.link_trait.specs.States.{WiresState}
 use Rattle.link_trait.specs.declared.wires.WriteAnswer.{WriteAnswer}
-use Rattle.loop_model.specs.Outs.{Out, acts}
+use Rattle.loop_model.specs.Outs.{Out, HasOrder, acts}
 use Rattle.loop_model.specs.Sessions.{Session}
 use Rattle.loop_model.specs.Visits as visits
 use Rattle.loop_model.specs.Visits.{writes, writes_once, settled, closed, stays, is_due}
@@ -24,6 +24,7 @@ flow_of Failing = visits.Failing
 pub record Made {S : Type 0} (before now : WiresState) (new : S) (o : Out S) : Type 0 where
   pub state : new ≡ o.state
   pub silent : o.entries ≡ []
+  pub has_order : HasOrder o
   pub told : Grew before.calls now.calls o.calls
   pub answered : AreAnsweredSo o.calls
   pub counted : Counts before.faults now.faults o.calls

@@ -16,15 +16,19 @@ use Rattle.link_trait.specs.Growth.{grew_nothing, part_nothing, part_whole}
 use Rattle.link_trait.specs.Wires.{Call, Closes}
 use Rattle.loop_model.specs.Grammar.{IsInGrammar}
 use Rattle.loop_model.specs.Journals.{Entry, text}
+use Rattle.loop_model.specs.Deeds.{Deed, Printing, Calling}
 use Rattle.loop_model.specs.Outs.{Out}
+use Rattle.loop_model.specs.Signs.{order_prints}
+use Rattle.loop_model.specs.Orderly.{order_away}
 use Rattle.loop_model.specs.Laws.{failures}
 use Rattle.loop_model.specs.Sessions.{Session}
-use Rattle.loop_model.specs.Loops.{Plan, Loop, turned_away, next_user, other_users, answered_by, accepted}
+use Rattle.loop_model.specs.Loops.{Plan, Loop, plain_event, turned_away, next_user, other_users, answered_by, accepted}
 use Rattle.loop_session.specs.Parts.{Breaks, Puts}
 use Rattle.loop_session.specs.declared.loop_fault.LoopFault.{LoopFault}
 use Rattle.loop_session.specs.declared.loop_fault.LoopFault.TheVariants.{NoMemory}
-use Rattle.loop_visit.specs.Acting.{Acted, Began, BreaksAt}
+use Rattle.loop_visit.specs.Acting.{Acted, BreaksAt}
 use Rattle.loop_visit.specs.Seeing.{Seen, seen}
+use Rattle.loop_visit.specs.Sequels.{breaks_lines}
 use Rattle.readiness_loop.specs.Books.{seat, seats, sessions, sessions_at, IsSeat, AreSeated}
 use Rattle.std.specs.BTreeMap.{BTreeMap}
 use Rattle.readiness_loop.specs.Courses.{Acts, answer_event, answered, loop_of}
@@ -34,25 +38,10 @@ failures-close : (conn : ℕ) → failures (Closes conn ∷ []) ≡ 0
 unfolding failures
 failures-close conn = refl
 
-began_nothing : (h i : SinkState) (calls : WiresState) (all : List Call)
-    → Began (seen h calls) (seen i calls) all
-began_nothing h i calls all = record {
-  part = [];
-  rest = all;
-  is = refl;
-  told = grew_nothing calls.calls;
-  answered = tt;
-  counted = rw failures-none (omega arith);
-}
-
--- a line that wasn't written whole
-pub line_breaks : {S : Type 0} (h i : SinkState) (calls : WiresState) (o : Out S) (line : List ℕ) (fault : LoopFault)
-    → line ≡ text o.entries → Breaks h i line fault → BreaksAt (seen h calls) (seen i calls) o fault
-line_breaks h i calls o line fault is p = record {
-  begun = subst (λ z. GrewPart h.held i.held z) is p.begun;
-  calls = began_nothing h i calls o.calls;
-  failed = p.failed;
-}
+-- a line that wasn't written whole, before what follows it
+pub line_breaks : {S : Type 0} (h i : SinkState) (calls : WiresState) (o : Out S) (x : Entry) (more : List Deed) (fault : LoopFault)
+    → o.order ≡ Printing x ∷ more → Breaks h i (text (x ∷ [])) fault → BreaksAt (seen h calls) (seen i calls) o fault
+line_breaks h i calls o x more fault is p = breaks_lines h i calls o (x ∷ []) more fault is p
 
 -- the event that opens a session that answers, with this random word
 abbrev pub answer_line : (rbc moment conn ra : ℕ) → Entry
@@ -89,7 +78,8 @@ pub away_breaks : (h i : SinkState) (calls : WiresState) (l : Loop KEnd) (m conn
     → l.moment ≡ m → Breaks h i (text (away_event m conn why ∷ [])) fault
     → BreaksAt (seen h calls) (seen i calls) (turned_away l conn why) fault
 away_breaks h i calls l m conn why fault is p =
-    line_breaks h i calls (turned_away l conn why) (text (away_event m conn why ∷ [])) fault (ap (λ z. text (away_event z conn why ∷ [])) (sym is)) p
+    line_breaks h i calls (turned_away l conn why) (plain_event l conn why) (Calling (Closes conn) ∷ []) fault refl
+    (subst (λ z. Breaks h i (text (away_event z conn why ∷ [])) fault) (sym is) p)
 
 pub away_acted : (h i : SinkState) (calls now : WiresState) (l : Loop KEnd) (m conn : ℕ) (why : Event)
     → l.moment ≡ m → IsInGrammar (away_event m conn why) → Grew h.held i.held (text (away_event m conn why ∷ [])) × (h.faults ≤ i.faults) → Grew calls.calls now.calls (Closes conn ∷ []) → calls.faults ≤ now.faults
@@ -102,6 +92,7 @@ away_acted h i calls now l m conn why is grammar p q less = record {
   answered = (tt, tt);
   counted = rw (failures-close conn) (omega (arith, less));
   in_grammar = (subst (λ z. IsInGrammar (away_event z conn why)) (sym is) grammar, tt);
+  has_order = order_away l conn why;
 }
 
 -- ---- accepted
@@ -182,10 +173,11 @@ answered_by_result h i calls plan l new users mind conn (Ok done) has same gramm
       answered = tt;
       counted = rw failures-none (omega arith);
       in_grammar = (grammar, tt);
+      has_order = order_prints (answered_loop plan l (other_users l.users) mind conn, answer_event l.words plan.rbc l.moment conn ∷ []);
     })
 answered_by_result h i calls plan l new users mind conn (Err fault) has same grammar p is =
     subst (λ z. BreaksAt (seen h calls) (seen i calls) z fault) same
-    (line_breaks h i calls (answered_by kept_ends (Some mind) plan l conn) (text (answer_event l.words plan.rbc l.moment conn ∷ [])) fault refl p)
+    (line_breaks h i calls (answered_by kept_ends (Some mind) plan l conn) (answer_event l.words plan.rbc l.moment conn) [] fault refl p)
 
 pub accept_answered : {T : Type 0} (h i : SinkState) (calls : WiresState) (plan : Plan) (l new : Loop KEnd) (users : List Mind) (mind : Mind) (conn : ℕ) (r : Result T LoopFault)
     → length l.sessions < 256 → l.users ≡ users ++ mind ∷ []

@@ -86,14 +86,14 @@ open_called a b plan caller l new ss users mind conn (Ok stays) has is did =
     let next_is : next_user l.users ≡ Some mind = ap next_user has ∙ last_user users mind in
     let others : other_users l.users ≡ users = ap other_users has ∙ other_ones users mind in
     let acted : Acted a b new (changed (with_sessions (one_less l)) o) =
-    acted_as a b ss new o (changed (with_sessions (one_less l)) o) (record { entries = refl; calls = refl })
+    acted_as a b ss new o (changed (with_sessions (one_less l)) o) (record { entries = refl; calls = refl; order = refl })
     (is ∙ ap (λ z. called_loop l ss z) (sym others) ∙ ap (with_sessions (one_less l)) did.is.state) did.is in
     record { answers = did.answers; is = subst (λ (z : Option Mind). Acted a b new (called_by kept_ends z plan caller l conn did.answers)) (sym next_is) acted }
 open_called a b plan caller l new ss users mind conn (Err fault) has is did =
     let o = served kept_ends (rules_of plan) l.moment (begun conn (calling kept_ends plan caller l) mind) (Begins caller.engine plan.rbc (next_u64 l.words).0) did.answers in
     let next_is : next_user l.users ≡ Some mind = ap next_user has ∙ last_user users mind in
     let breaks : BreaksAt a b (changed (with_sessions (one_less l)) o) fault =
-    breaks_as a b o (changed (with_sessions (one_less l)) o) fault (record { entries = refl; calls = refl }) did.breaks in
+    breaks_as a b o (changed (with_sessions (one_less l)) o) fault (record { entries = refl; calls = refl; order = refl }) did.breaks in
     record { answers = did.answers; breaks = subst (λ (z : Option Mind). BreaksAt a b (called_by kept_ends z plan caller l conn did.answers) fault) (sym next_is) breaks }
 
 pub unserved_breaks : (a b : Seen) (plan : Plan) (caller : Caller) (l : Loop KEnd) (conn : ℕ) (fault : LoopFault)
@@ -144,7 +144,7 @@ opened_off plan caller a b l n m first conn asked fault moment did =
     record {
       answers = (first, did.answers);
       cut = cut_of a.seen b.seen o fault breaks;
-      lies = lies_as o (opening plan caller c conn (first, did.answers)) (cut_of a.seen b.seen o fault breaks) refl refl (cut_lies a.seen b.seen o fault breaks);
+      lies = lies_as o (opening plan caller c conn (first, did.answers)) (cut_of a.seen b.seen o fault breaks) refl (cut_lies a.seen b.seen o fault breaks);
       broke = cut_broke a.seen b.seen o fault breaks;
     }
 
@@ -167,7 +167,7 @@ opened_so plan caller a b l new n m first conn asked (Ok stays) moment early clo
           loop = is.state;
           turns = refl;
           halt = halts ∙ ap (λ (z : Loop KEnd). halt_by plan z.sessions) is.state;
-          acted = acted_as a.seen b.seen new (opening plan caller c conn x).state o (opening plan caller c conn x) (record { entries = refl; calls = refl }) refl is;
+          acted = acted_as a.seen b.seen new (opening plan caller c conn x).state o (opening plan caller c conn x) (record { entries = refl; calls = refl; order = refl }) refl is;
           more = first ∷ [];
           asked = refl;
           answered = clock;

@@ -17,6 +17,7 @@ use Rattle.link_trait.specs.Wires as wires
 use Rattle.link_trait.specs.Wires.{Call, given_of, taken_of}
 use Rattle.loop_model.specs.Ends.{EndOps, ModelEnd, model_ends}
 use Rattle.loop_model.specs.Journals.{header, text}
+use Rattle.loop_model.specs.Deeds.{text_of, calls_of}
 use Rattle.loop_model.specs.Outs.{Out, still, next, makes, acts, exactly}
 use Rattle.loop_model.specs.Visits.{Met}
 use Rattle.link_trait.specs.declared.sink.Sink as sink_of
@@ -173,9 +174,9 @@ dials_is : {E : Type 0} (o : EndOps E) (plan : Plan) (caller : Caller) (c : Cour
 unfolding dials
 dials_is o plan caller c address conn x p = ap (λ (z : Option ℕ). dials_to o z plan caller c address x) p
 
-tail_of : List Call → List Call
+tail_of : {A : Type 0} → List A → List A
 tail_of [] = []
-tail_of (call ∷ calls) = calls
+tail_of (x ∷ xs) = xs
 
 -- over ends as they are kept both do the same
 whole_alike : (laws : Laws) (plan : Plan) (caller : Caller) (minds : List Mind) (words : Stream) (address : List ℕ) (conn : ℕ) (x : Dialled) → AllAllowed plan.settings → x.conn ≡ Some conn
@@ -192,6 +193,7 @@ whole_alike laws plan caller minds words address conn x allowed is =
     record {
       entries = a.entries;
       calls = ap tail_of a.calls;
+      order = ap tail_of a.order;
       turns = a.turns;
       halt = a.halt;
       asked = a.asked;
@@ -327,7 +329,7 @@ both_same laws plan caller minds words address conn x allowed turns =
     let a = whole_alike laws (many plan (length turns)) caller minds words address conn (met_so conn x turns) allowed refl in
     same_as _ (after k (acts (went kept_ends plan) k.state turns)) _ (after m (acts (went model_ends plan) m.state turns))
     (opened_as kept_ends plan caller (asks x.0 (beginning minds words)) conn x.1 turns) (opened_as model_ends plan caller (asks x.0 (beginning minds words)) conn x.1 turns)
-    (record { entries = a.entries; calls = a.calls; halt = a.halt })
+    (record { entries = a.entries; calls = a.calls; order = a.order; halt = a.halt })
 
 opening_same : (laws : Laws) (plan : Plan) (caller : Caller) (minds : List Mind) (words : Stream) (address : List ℕ) (conn : ℕ) (x : ℕ × Met) → AllAllowed plan.settings
     → Same (opening plan caller (beginning minds words) conn x) (model_opening plan caller minds words conn x.0 x.1)
@@ -339,6 +341,7 @@ opening_same laws plan caller minds words address conn x allowed =
     record {
       entries = sym (append-nil k.entries) ∙ a.entries ∙ append-nil m.entries;
       calls = sym (append-nil k.calls) ∙ a.calls ∙ append-nil m.calls;
+      order = sym (append-nil k.order) ∙ a.order ∙ append-nil m.order;
       halt = a.halt;
     }
 
@@ -354,17 +357,18 @@ turns_same laws plan caller minds words address conn x allowed turns =
     record {
       entries = rest_same k.entries m.entries v.entries w.entries o.entries a.entries;
       calls = rest_same k.calls m.calls v.calls w.calls o.calls a.calls;
+      order = rest_same k.order m.order v.order w.order o.order a.order;
       halt = a.halt;
     }
 
 -- with the dial and the header before the cut
 cut_at : (plan : Plan) (a m b : Around) (address : List ℕ) (conn : ℕ) (cut : Cut) (fault : LoopFault) → HasBegun plan (wires.Dials address (Some conn)) a m → Broke m.seen b.seen cut fault
-    → IsCutAt (outside_of a) (outside_of b) (header plan.settings ++ cut.printed) (wires.Dials address (Some conn) ∷ cut.calls)
+    → IsCutAt (outside_of a) (outside_of b) (header plan.settings ++ text_of cut) (wires.Dials address (Some conn) ∷ calls_of cut)
 cut_at plan a m b address conn cut fault begun broke = record {
-  text = grew_then a.seen.held m.seen.held b.seen.held (header plan.settings) cut.printed begun.text broke.text;
-  calls = grew_then a.seen.calls m.seen.calls b.seen.calls (wires.Dials address (Some conn) ∷ []) cut.calls begun.calls broke.calls;
+  text = grew_then a.seen.held m.seen.held b.seen.held (header plan.settings) (text_of cut) begun.text broke.text;
+  calls = grew_then a.seen.calls m.seen.calls b.seen.calls (wires.Dials address (Some conn) ∷ []) (calls_of cut) begun.calls broke.calls;
   answered = (tt, broke.answered);
-  counted = counts_then a.seen.failed m.seen.failed b.seen.failed (wires.Dials address (Some conn) ∷ []) cut.calls (first_counts a.seen.failed m.seen.failed address conn begun.failed) broke.counted;
+  counted = counts_then a.seen.failed m.seen.failed b.seen.failed (wires.Dials address (Some conn) ∷ []) (calls_of cut) (first_counts a.seen.failed m.seen.failed address conn begun.failed) broke.counted;
 }
 
 -- the numbers of the connections that were opened in the whole turns rise
@@ -409,7 +413,7 @@ dial_off laws engine rbc kmac plan a m k b minds words address conn l fault allo
           (lies_in_run plan o.state mine.state (turns_same laws plan caller minds words address conn x allowed) w.cut w.lies)
           (dials_lawful laws few caller minds words address (met_so conn x w.lies.turns) dialling) refl
           (cut_at plan a m b address conn (behind mine w.cut) fault begun
-          (subst (λ z. Broke m.seen b.seen z fault) (behind_as o mine w.cut same.entries same.calls) broke)),
+          (subst (λ z. Broke m.seen b.seen z fault) (behind_as o mine w.cut same.order) broke)),
       failed_behind a.seen.sunk m.seen.sunk b.seen.sunk fault begun.sunk broke.failed,
     )
 
@@ -453,7 +457,7 @@ opening_off laws plan caller a m b minds words address conn fault allowed begun 
     let x = p.answers in
     let same = opening_same laws plan caller minds words address conn x allowed in (
       InOpening conn x.0 x.1 p.cut
-          (lies_as (opening plan caller (beginning minds words) conn x) (model_opening plan caller minds words conn x.0 x.1) p.cut same.entries same.calls p.lies)
+          (lies_as (opening plan caller (beginning minds words) conn x) (model_opening plan caller minds words conn x.0 x.1) p.cut same.order p.lies)
           (cut_at plan a m b address conn p.cut fault begun p.broke),
       failed_behind a.seen.sunk m.seen.sunk b.seen.sunk fault begun.sunk p.broke.failed,
     )

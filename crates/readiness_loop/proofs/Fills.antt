@@ -34,7 +34,7 @@ skipped f s (n ∷ ns) ss answers p =
     let x = visit_at f n ss (first_of nothing_met answers) in
     rw p.0 (ap (after x) (skipped f s ns x.state (drop 1 answers) p.1))
 
-same_out : {S : Type 0} (o : Out S) → o ≡ record { state = o.state; entries = o.entries; calls = o.calls }
+same_out : {S : Type 0} (o : Out S) → o ≡ record { state = o.state; entries = o.entries; calls = o.calls; order = o.order }
 same_out o = refl
 
 left_skipped : (f : Session KEnd → Met → Out (List (Session KEnd))) (n : ℕ) (left : List (Session KEnd)) (ns : List ℕ) (ss : List (Session KEnd)) (answers : List Met)

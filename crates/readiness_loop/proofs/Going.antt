@@ -38,7 +38,7 @@ readied_acted plan a m l ss n first at asked t moment did =
     let x : Turn = record t { first = first; sweeps = did.answers } in
     let o = before kept_ends (rules_of plan) (max l.moment first) l.sessions did.answers in
     let is : Acted a m ss o = subst (λ z. Acted a m ss (before kept_ends (rules_of plan) z l.sessions did.answers)) moment did.is in
-    acted_as a m ss (readied_to plan l n asked first ss) o (readied kept_ends plan (course_of l n asked) x) (record { entries = refl; calls = refl })
+    acted_as a m ss (readied_to plan l n asked first ss) o (readied kept_ends plan (course_of l n asked) x) (record { entries = refl; calls = refl; order = refl })
     (ap (readied_to plan l n asked first) is.state) is
 
 readied_opens : (plan : Plan) (c : Course KEnd) (x : Turn) → opened_in (readied kept_ends plan c x).calls ≡ []
@@ -134,7 +134,7 @@ before_off plan a b l n first at asked fault moment p =
     record {
       answers = x;
       cut = cut_of a.seen b.seen o fault breaks;
-      lies = Before (lies_as o (readied kept_ends plan c x) (cut_of a.seen b.seen o fault breaks) refl refl (cut_lies a.seen b.seen o fault breaks));
+      lies = Before (lies_as o (readied kept_ends plan c x) (cut_of a.seen b.seen o fault breaks) refl (cut_lies a.seen b.seen o fault breaks));
       broke = cut_broke a.seen b.seen o fault breaks;
     }
 
@@ -160,7 +160,7 @@ go_closed plan a b l ss n first at asked moment clock did top fails hears halts 
     let stays : still r.state ≡ turned_unless kept_ends r.state.halt plan r.state x = ap (λ z. turned_unless kept_ends z plan r.state x) halted in
     let all : Out (Course KEnd) = next r (λ z. still z) in
     let whole : all ≡ next r (λ z. turned_unless kept_ends z.halt plan z x) =
-    ap (λ (z : Out (Course KEnd)). let o : Out (Course KEnd) = record { state = z.state; entries = r.entries ++ z.entries; calls = r.calls ++ z.calls } in o) stays in
+    ap (λ (z : Out (Course KEnd)). let o : Out (Course KEnd) = record { state = z.state; entries = r.entries ++ z.entries; calls = r.calls ++ z.calls; order = r.order ++ z.order } in o) stays in
     let calls_are : opened_in (r.calls ++ []) ≡ [] = ap opened_in (append-nil r.calls) ∙ readied_opens plan c x in
     record {
       answers = x;

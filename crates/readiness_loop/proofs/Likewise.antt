@@ -7,8 +7,9 @@ use Rattle.er_users.specs.Users.{Mind}
 use Rattle.link_trait.specs.Wires.{Call, Listens, Dials, Turns, Reads, Writes, Closes}
 use Rattle.link_trait.specs.declared.wires.Happening.TheVariants as happening
 use Rattle.loop_model.specs.Ends.{EndOps, ModelEnd, model_ends}
-use Rattle.loop_model.specs.Journals.{text}
-use Rattle.loop_model.specs.Outs.{Out, next, acts}
+use Rattle.loop_model.specs.Deeds.{Deed, Printing, Calling, calls_in, signs}
+use Rattle.loop_model.specs.Outs.{Out, HasOrder, next, acts}
+use Rattle.loop_model.specs.Orderly.{order_readied}
 use Rattle.loop_model.specs.Laws.{turns_of}
 use Rattle.loop_model.specs.Loops.{Plan, Halt, Course, Turn, beginning, halt_by, happened, readied, turn, follows, turned_unless, went_unless, went, rules_of, asks}
 use Rattle.loop_session.specs.Keeping.{kept_ends}
@@ -68,6 +69,36 @@ others_all (Reads conn size waits reading ∷ xs) p = ap (λ z. Reads conn size 
 others_all (Writes conn piece answer ∷ xs) p = ap (λ z. Writes conn piece answer ∷ z) (others_all xs p)
 others_all (Closes conn ∷ xs) p = ap (λ z. Closes conn ∷ z) (others_all xs p)
 
+-- what is done but for the turns
+other_deed : Deed → List Deed
+other_deed (Printing x) = Printing x ∷ []
+other_deed (Calling (Listens address listens)) = Calling (Listens address listens) ∷ []
+other_deed (Calling (Dials address conn)) = Calling (Dials address conn) ∷ []
+other_deed (Calling (Turns until what)) = []
+other_deed (Calling (Reads conn size waits reading)) = Calling (Reads conn size waits reading) ∷ []
+other_deed (Calling (Writes conn piece answer)) = Calling (Writes conn piece answer) ∷ []
+other_deed (Calling (Closes conn)) = Calling (Closes conn) ∷ []
+
+other_deeds : List Deed → List Deed
+other_deeds [] = []
+other_deeds (deed ∷ deeds) = other_deed deed ++ other_deeds deeds
+
+other_deeds-append : (xs ys : List Deed) → other_deeds (xs ++ ys) ≡ other_deeds xs ++ other_deeds ys
+unfolding other_deeds
+other_deeds-append [] ys = refl
+other_deeds-append (x ∷ xs) ys = ap (λ z. other_deed x ++ z) (other_deeds-append xs ys) ∙ sym (append_assoc (other_deed x) (other_deeds xs) (other_deeds ys))
+
+other_deeds_all : (xs : List Deed) → turns_of (calls_in xs) ≡ [] → other_deeds xs ≡ xs
+unfolding other_deeds other_deed turns_of calls_in
+other_deeds_all [] p = refl
+other_deeds_all (Printing x ∷ xs) p = ap (λ z. Printing x ∷ z) (other_deeds_all xs p)
+other_deeds_all (Calling (Listens address listens) ∷ xs) p = ap (λ z. Calling (Listens address listens) ∷ z) (other_deeds_all xs p)
+other_deeds_all (Calling (Dials address conn) ∷ xs) p = ap (λ z. Calling (Dials address conn) ∷ z) (other_deeds_all xs p)
+other_deeds_all (Calling (Turns until what) ∷ xs) p = absurd (let q : what ∷ turns_of (calls_in xs) ≡ [] = p in cc q)
+other_deeds_all (Calling (Reads conn size waits reading) ∷ xs) p = ap (λ z. Calling (Reads conn size waits reading) ∷ z) (other_deeds_all xs p)
+other_deeds_all (Calling (Writes conn piece answer) ∷ xs) p = ap (λ z. Calling (Writes conn piece answer) ∷ z) (other_deeds_all xs p)
+other_deeds_all (Calling (Closes conn) ∷ xs) p = ap (λ z. Calling (Closes conn) ∷ z) (other_deeds_all xs p)
+
 -- ---- turns over ends of any kind
 
 -- the same turn, had nothing happened
@@ -78,20 +109,23 @@ quiet x = record x { happening = happening.Quiet }
 record Shows {E : Type 0} (w r : Out (Course E)) : Type 0 where
   entries : w.entries ≡ r.entries
   calls : others w.calls ≡ r.calls
+  order : other_deeds w.order ≡ r.order
   halt : w.state.halt ≡ r.state.halt
 
 module _ {E : Type 0} (o : EndOps E) where
-  turned_quiet : (h : Option Halt) (plan : Plan) (r : Out (Course E)) (x : Turn) → turns_of r.calls ≡ [] → h ≡ r.state.halt → r.state.halt ≡ halt_by plan r.state.loop.sessions
+  turned_quiet : (h : Option Halt) (plan : Plan) (r : Out (Course E)) (x : Turn) → turns_of r.calls ≡ [] → HasOrder r → h ≡ r.state.halt → r.state.halt ≡ halt_by plan r.state.loop.sessions
       → Shows (after r (turned_unless o h plan r.state (quiet x))) r
-  unfolding happened others other
-  turned_quiet (Some why) plan r x none is halts = record {
+  unfolding happened others other other_deeds other_deed
+  turned_quiet (Some why) plan r x none has is halts = record {
     entries = append-nil r.entries;
     calls = ap others (append-nil r.calls) ∙ others_all r.calls none;
+    order = ap other_deeds (append-nil r.order) ∙ other_deeds_all r.order (ap turns_of has.calls ∙ none);
     halt = refl;
   }
-  turned_quiet None plan r x none is halts = record {
+  turned_quiet None plan r x none has is halts = record {
     entries = append-nil r.entries;
     calls = others-append r.calls _ ∙ append-nil (others r.calls) ∙ others_all r.calls none;
+    order = other_deeds-append r.order _ ∙ append-nil (other_deeds r.order) ∙ other_deeds_all r.order (ap turns_of has.calls ∙ none);
     halt = sym halts;
   }
 
@@ -114,7 +148,7 @@ module _ {E : Type 0} (o : EndOps E) where
       let is : went_unless o c.halt plan c (quiet x) ≡ after r (turned_unless o r.state.halt plan r.state (quiet x)) =
       ap (λ h. went_unless o h plan c (quiet x)) goes
       ∙ ap (λ (z : Out (Course E)). next z (λ d. turned_unless o d.halt plan d (quiet x))) (readied_quiet plan c x) in
-      subst (λ z. Shows z r) (sym is) (turned_quiet r.state.halt plan r x (readied_turns plan c x) refl (readied_halt plan c x))
+      subst (λ z. Shows z r) (sym is) (turned_quiet r.state.halt plan r x (readied_turns plan c x) (order_readied o plan c x) refl (readied_halt plan c x))
 
   -- a turn that was done
   went_done : (plan : Plan) (c : Course E) (x : Turn) → c.halt ≡ None → (readied o plan c x).state.halt ≡ None
@@ -133,10 +167,11 @@ module _ {E : Type 0} (o : EndOps E) where
 
 -- ---- both
 
--- the same events, calls and halt
+-- the same events, calls, order and halt
 pub record Same (a : Out (Course KEnd)) (b : Out (Course ModelEnd)) : Type 0 where
   pub entries : a.entries ≡ b.entries
   pub calls : a.calls ≡ b.calls
+  pub order : a.order ≡ b.order
   pub halt : a.state.halt ≡ b.state.halt
 
 -- whatever turns follow
@@ -157,6 +192,7 @@ step_same plan c d same turns x =
     record {
       entries = rest_same a.entries b.entries v.entries w.entries (same turns).entries both.entries;
       calls = rest_same a.calls b.calls v.calls w.calls (same turns).calls both.calls;
+      order = rest_same a.order b.order v.order w.order (same turns).order both.order;
       halt = both.halt;
     }
 
@@ -168,20 +204,19 @@ readied_same plan c d x p q same =
     record {
       entries = sym a.entries ∙ same.entries ∙ b.entries;
       calls = sym a.calls ∙ ap others same.calls ∙ b.calls;
+      order = sym a.order ∙ ap other_deeds same.order ∙ b.order;
       halt = sym a.halt ∙ same.halt ∙ b.halt;
     }
 
-pub behind_as : {S T : Type 0} (a : Out S) (b : Out T) (cut : Cut) → a.entries ≡ b.entries → a.calls ≡ b.calls → behind a cut ≡ behind b cut
-behind_as a b cut p q =
-    ap (λ (z : List ℕ). let k : Cut = record { printed = z ++ cut.printed; calls = a.calls ++ cut.calls } in k) (ap text p)
-    ∙ ap (λ (z : List Call). let k : Cut = record { printed = text b.entries ++ cut.printed; calls = z ++ cut.calls } in k) q
+pub behind_as : {S T : Type 0} (a : Out S) (b : Out T) (cut : Cut) → a.order ≡ b.order → behind a cut ≡ behind b cut
+behind_as a b cut p = ap (λ z. signs z ++ cut) p
 
 pub lies_in_turn : (plan : Plan) (c : Course KEnd) (d : Course ModelEnd) → c.halt ≡ None → d.halt ≡ None → ((x : Turn) → Same (went kept_ends plan c x) (went model_ends plan d x))
     → (x : Turn) (cut : Cut) → LiesInTurn kept_ends plan c x cut → LiesInTurn model_ends plan d x cut
 unfolding tail_of first_of
 lies_in_turn plan c d p q same x cut (Before lies) =
     let r = readied_same plan c d x p q (same (quiet x)) in
-    Before (lies_as (readied kept_ends plan c x) (readied model_ends plan d x) cut r.entries r.calls lies)
+    Before (lies_as (readied kept_ends plan c x) (readied model_ends plan d x) cut r.order lies)
 lies_in_turn plan c d p q same x cut (Behind rest on lies is) =
     let r = readied_same plan c d x p q (same (quiet x)) in
     let a = readied kept_ends plan c x in
@@ -192,12 +227,11 @@ lies_in_turn plan c d p q same x cut (Behind rest on lies is) =
     let g = follows model_ends plan t.state x in
     let both : Same (after a (after s f)) (after b (after t g)) =
     same_as _ (after a (after s f)) _ (after b (after t g)) (went_done kept_ends plan c x p on) (went_done model_ends plan d x q (sym r.halt ∙ on)) (same x) in
-    let entries : f.entries ≡ g.entries = rest_same a.entries b.entries f.entries g.entries r.entries both.entries in
-    let calls : s.calls ++ f.calls ≡ t.calls ++ g.calls = rest_same a.calls b.calls (s.calls ++ f.calls) (t.calls ++ g.calls) r.calls both.calls in
-    let turns : s.calls ≡ t.calls = ap first_of calls in
-    Behind rest (sym r.halt ∙ on) (lies_as f g rest entries (ap tail_of calls) lies)
-    (is ∙ behind_as (next a (λ z. turn kept_ends z x)) (next b (λ z. turn model_ends z x)) rest (ap (λ z. z ++ []) r.entries)
-    (ap (λ z. z ++ s.calls) r.calls ∙ ap (λ z. b.calls ++ z) turns))
+    let deeds : s.order ++ f.order ≡ t.order ++ g.order = rest_same a.order b.order (s.order ++ f.order) (t.order ++ g.order) r.order both.order in
+    let turns : s.order ≡ t.order = ap first_of deeds in
+    Behind rest (sym r.halt ∙ on) (lies_as f g rest (ap tail_of deeds) lies)
+    (is ∙ behind_as (next a (λ z. turn kept_ends z x)) (next b (λ z. turn model_ends z x)) rest
+    (ap (λ z. z ++ s.order) r.order ∙ ap (λ z. b.order ++ z) turns))
 
 -- a cut of the one is a cut of the other
 unfoldable pub lies_in_run : (plan : Plan) (c : Course KEnd) (d : Course ModelEnd) → AlwaysSame plan c d → (cut : Cut) → LiesInRun kept_ends plan c cut → LiesInRun model_ends plan d cut
@@ -210,7 +244,7 @@ lies_in_run plan c d same cut l =
     lies_acts model_ends plan d cut l.turns l.fewer on l.last l.rest
     (lies_in_turn plan a.state b.state goes on (step_same plan c d same l.turns) l.last l.rest
     (subst (λ (z : Out (Course KEnd)). LiesInTurn kept_ends plan z.state l.last l.rest) first l.lies))
-    (subst (λ (z : Out (Course KEnd)). cut ≡ behind z l.rest) first l.is ∙ behind_as a b l.rest (same l.turns).entries (same l.turns).calls)
+    (subst (λ (z : Out (Course KEnd)). cut ≡ behind z l.rest) first l.is ∙ behind_as a b l.rest (same l.turns).order)
 
 -- a loop that begins
 pub begin_same : RunsAlike → (plan : Plan) (minds : List Mind) (words : Stream) → AllAllowed plan.settings → AlwaysSame plan (beginning minds words) (beginning minds words)
@@ -218,4 +252,4 @@ begin_same alike plan minds words allowed turns =
     let a = alike (many plan (length turns)) minds words turns allowed in
     same_as _ (acts (went kept_ends plan) (beginning minds words) turns) _ (acts (went model_ends plan) (beginning minds words) turns)
     (run_many kept_ends plan (beginning minds words) turns) (run_many model_ends plan (beginning minds words) turns)
-    (record { entries = a.entries; calls = a.calls; halt = a.halt })
+    (record { entries = a.entries; calls = a.calls; order = a.order; halt = a.halt })

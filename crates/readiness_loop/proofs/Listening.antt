@@ -22,6 +22,7 @@ use Rattle.link_trait.specs.Growth.{grew_nothing, grew_then}
 use Rattle.link_trait.specs.Wires.{Call, Listens, given_of, taken_of}
 use Rattle.loop_model.specs.Ends.{model_ends}
 use Rattle.loop_model.specs.Journals.{header, text}
+use Rattle.loop_model.specs.Deeds.{text_of, calls_of}
 use Rattle.loop_model.specs.Loops.{Plan, Loop, Halt, OnFailed, Turn, run, beginning, serves, printed}
 use Rattle.loop_model.specs.Parts.{Rises, calls_at, opened_in}
 use Rattle.loop_model.specs.Laws.{ConnectionsAreIsolated, JournalIsPrinted, OctetsAreAccounted, CallsAreOnOpen, FaultsHaveFailed, TurnsAreCounted, IsServing, RunsSo, faults, failures, turns_of, HaltsBy}
@@ -194,10 +195,10 @@ serve_off laws plan a m b minds words address fault allowed begun w =
     InServing w.cut (lies_in_run plan (beginning minds words) (beginning minds words) (begin_same laws.runs plan minds words allowed) w.cut w.lies)
     (serves_lawful laws few minds words address w.lies.turns serving)
     (record {
-      text = grew_then a.seen.held m.seen.held b.seen.held (header plan.settings) w.cut.printed begun.text w.broke.text;
-      calls = grew_then a.seen.calls m.seen.calls b.seen.calls (Listens address true ∷ []) w.cut.calls begun.calls w.broke.calls;
+      text = grew_then a.seen.held m.seen.held b.seen.held (header plan.settings) (text_of w.cut) begun.text w.broke.text;
+      calls = grew_then a.seen.calls m.seen.calls b.seen.calls (Listens address true ∷ []) (calls_of w.cut) begun.calls w.broke.calls;
       answered = (tt, w.broke.answered);
-      counted = counts_then a.seen.failed m.seen.failed b.seen.failed (Listens address true ∷ []) w.cut.calls (first_counts a.seen.failed m.seen.failed address begun.failed) w.broke.counted;
+      counted = counts_then a.seen.failed m.seen.failed b.seen.failed (Listens address true ∷ []) (calls_of w.cut) (first_counts a.seen.failed m.seen.failed address begun.failed) w.broke.counted;
     })
 
 -- the run, however it ended

@@ -34,7 +34,7 @@ acts-append f s (x ∷ xs) ys =
 
 pub acts_one : {S A : Type 0} (f : S → A → Out S) (s : S) (x : A) → acts f s (x ∷ []) ≡ f s x
 unfolding acts
-acts_one f s x = let o = f s x in rw (append-nil o.entries, append-nil o.calls) refl
+acts_one f s x = let o = f s x in rw (append-nil o.entries, append-nil o.calls, append-nil o.order) refl
 
 -- where the loop has halted, nothing comes any more
 halted_went : {E : Type 0} (o : EndOps E) (plan : Plan) (c : Course E) (why : Halt) (x : Turn) → c.halt ≡ Some why → went o plan c x ≡ still c
@@ -94,7 +94,7 @@ rises-append from [] ys p q = q
 rises-append from (x ∷ xs) ys p q = (p.0, rises-append x xs ys p.1 q)
 
 pub after_still : {S : Type 0} (o : Out S) → after o (still o.state) ≡ o
-after_still o = rw (append-nil o.entries, append-nil o.calls) refl
+after_still o = rw (append-nil o.entries, append-nil o.calls, append-nil o.order) refl
 
 -- one part, and another behind it
 pub came_next : (a m b : Around) (c : Course KEnd) (o : Out (Course KEnd)) (f : Course KEnd → Out (Course KEnd)) (l new : Loop KEnd) (n count : ℕ) (h why : Option Halt)

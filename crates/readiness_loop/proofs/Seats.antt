@@ -107,11 +107,11 @@ visit_says f newest n k slots (e ∷ es) s a p q r =
           let same : get slots e.1 ≡ Some s = ap (get slots) at ∙ r in
           let who : here.0 ≡ s = some_is here.0 s (sym here.1 ∙ same) in
           let it : (s.number == n) ≡ true = ap (λ z. z.number == n) (sym who) ∙ ap (λ z. z == n) here.2 ∙ sym (same_test n e.0) ∙ t in
-          rw (same, it) (record { entries = refl; calls = refl })
+          rw (same, it) (record { entries = refl; calls = refl; order = refl })
       | inr t ↦
           let other : (here.0.number == n) ≡ false = ap (λ z. z == n) here.2 ∙ sym (same_test n e.0) ∙ t in
           let rest = visit_says f newest n k slots es s a (seated_rest newest slots e es p) (subst (λ z. cond z (Some e.1) (place_of n es) ≡ Some k) t q) r in
-          rw (here.1, other) (record { entries = rest.entries; calls = rest.calls })
+          rw (here.1, other) (record { entries = rest.entries; calls = rest.calls; order = rest.order })
     ]
 
 -- it stays, as it is now

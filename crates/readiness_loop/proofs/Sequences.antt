@@ -1,15 +1,17 @@
 -- One part of the loop behind another: what both leave, print and call together; and where one of them breaks off.
-use Rattle.std.proofs.Common.{◌≡◌, ◌≤◌, [], refl, sym, subst, arith}
-use Rattle.link_trait.specs.Outside.{Grew, GrewPart}
-use Rattle.link_trait.specs.Growth.{grew_nothing, grew_then, part_then}
+use Rattle.std.proofs.Common.{◌≡◌, ◌∙◌, ◌≤◌, [], refl, sym, ap, subst, arith}
+use Rattle.link_trait.specs.Outside.{Grew}
+use Rattle.link_trait.specs.Growth.{grew_nothing, grew_then}
 use Rattle.loop_model.specs.Grammar.{AreInGrammar}
 use Rattle.loop_model.specs.Journals.{text}
-use Rattle.loop_model.specs.Outs.{Out, still, next}
+use Rattle.loop_model.specs.Deeds.{entries_in, calls_in, signs}
+use Rattle.loop_model.specs.Outs.{Out, HasOrder, still, next}
+use Rattle.loop_model.specs.Signs.{order_still, order_next}
 use Rattle.loop_model.specs.Laws.{failures}
 use Rattle.loop_session.specs.declared.loop_fault.LoopFault.{LoopFault}
-use Rattle.loop_visit.specs.Acting.{Acted, Began, BreaksAt}
+use Rattle.loop_visit.specs.Acting.{Acted, BreaksAt}
 use Rattle.loop_visit.specs.Seeing.{Seen, AreAnsweredSo, Counts}
-use Rattle.loop_visit.specs.Sequels.{text_parts, answered_parts, grammar_parts, counts_then, began_then, failed_behind}
+use Rattle.loop_visit.specs.Sequels.{text_parts, answered_parts, grammar_parts, counts_then, breaks_next}
 
 pub failures-none : failures [] ≡ 0
 unfolding failures
@@ -19,6 +21,13 @@ failures-none = refl
 pub record SaysSame {S T : Type 0} (o : Out S) (p : Out T) : Type 0 where
   pub entries : p.entries ≡ o.entries
   pub calls : p.calls ≡ o.calls
+  pub order : p.order ≡ o.order
+
+order_as : {S T : Type 0} (o : Out S) (p : Out T) → SaysSame o p → HasOrder o → HasOrder p
+order_as o p same h = record {
+  entries = ap entries_in same.order ∙ h.entries ∙ sym same.entries;
+  calls = ap calls_in same.order ∙ h.calls ∙ sym same.calls;
+}
 
 pub acted_as : {S T : Type 0} (a b : Seen) (x : S) (y : T) (o : Out S) (p : Out T) → SaysSame o p → y ≡ p.state → Acted a b x o → Acted a b y p
 acted_as a b x y o p same is h = record {
@@ -29,12 +38,18 @@ acted_as a b x y o p same is h = record {
   answered = subst AreAnsweredSo (sym same.calls) h.answered;
   counted = subst (λ z. Counts a.failed b.failed z) (sym same.calls) h.counted;
   in_grammar = subst AreInGrammar (sym same.entries) h.in_grammar;
+  has_order = order_as o p same h.has_order;
 }
 
 pub breaks_as : {S T : Type 0} (a b : Seen) (o : Out S) (p : Out T) (fault : LoopFault) → SaysSame o p → BreaksAt a b o fault → BreaksAt a b p fault
 breaks_as a b o p fault same h = record {
-  begun = subst (λ z. GrewPart a.held b.held (text z)) (sym same.entries) h.begun;
-  calls = subst (λ z. Began a b z) (sym same.calls) h.calls;
+  part = h.part;
+  rest = h.rest;
+  is = h.is ∙ ap signs (sym same.order);
+  printed = h.printed;
+  told = h.told;
+  answered = h.answered;
+  counted = h.counted;
   failed = h.failed;
 }
 
@@ -48,6 +63,7 @@ acted_still a x y is = record {
   answered = tt;
   counted = rw failures-none (omega arith);
   in_grammar = tt;
+  has_order = order_still y;
 }
 
 -- one part, and another behind it
@@ -61,14 +77,10 @@ acted_then a b c x y o f p q = record {
   answered = answered_parts o.calls (f o.state).calls p.answered q.answered;
   counted = counts_then a.failed b.failed c.failed o.calls (f o.state).calls p.counted q.counted;
   in_grammar = grammar_parts o.entries (f o.state).entries p.in_grammar q.in_grammar;
+  has_order = order_next o f p.has_order q.has_order;
 }
 
 -- the second part breaks off
 pub breaks_then : {S T : Type 0} (a b c : Seen) (x : S) (o : Out S) (f : S → Out T) (fault : LoopFault) → Acted a b x o → BreaksAt b c (f o.state) fault
     → BreaksAt a c (next o f) fault
-breaks_then a b c x o f fault p q = record {
-  begun = subst (λ z. GrewPart a.held c.held z) (sym (text_parts o.entries (f o.state).entries))
-      (part_then a.held b.held c.held (text o.entries) (text (f o.state).entries) p.printed q.begun);
-  calls = began_then a b c o.calls (f o.state).calls p.told p.answered p.counted q.calls;
-  failed = failed_behind a.sunk b.sunk c.sunk fault p.later q.failed;
-}
+breaks_then a b c x o f fault p q = breaks_next a b c x o f fault p (subst (λ z. BreaksAt b c (f z) fault) (sym p.state) q)

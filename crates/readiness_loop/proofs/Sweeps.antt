@@ -23,10 +23,10 @@ use Rattle.readiness_loop.proofs.Sequences.{acted_still, acted_then, breaks_then
 
 -- what comes behind a part
 abbrev pub after : {S T : Type 0} → Out S → Out T → Out T
-after x o = record { state = o.state; entries = x.entries ++ o.entries; calls = x.calls ++ o.calls }
+after x o = record { state = o.state; entries = x.entries ++ o.entries; calls = x.calls ++ o.calls; order = x.order ++ o.order }
 
 pub after_after : {S T U : Type 0} (x : Out S) (y : Out T) (z : Out U) → after x (after y z) ≡ after (after x y) z
-after_after x y z = rw (append_assoc x.entries y.entries z.entries, append_assoc x.calls y.calls z.calls) refl
+after_after x y z = rw (append_assoc x.entries y.entries z.entries, append_assoc x.calls y.calls z.calls, append_assoc x.order y.order z.order) refl
 
 unequal : (n m : ℕ) → n ≡ 0 → n ≡ m + 1 → ⊥
 unequal n m p q = omega (arith, p, q)
@@ -69,7 +69,7 @@ taken ns i n p = length-take-le i ns (let q : i < length ns = slice_get_within n
 -- the visit of one number, with nothing behind it
 one_swept : (f : Session KEnd → Met → Out (List (Session KEnd))) (n : ℕ) (ss : List (Session KEnd)) (a : Met) → swept f (n ∷ []) ss (a ∷ []) ≡ visit_at f n ss a
 unfolding swept
-one_swept f n ss a = let x = visit_at f n ss a in rw (append-nil x.entries, append-nil x.calls) refl
+one_swept f n ss a = let x = visit_at f n ss a in rw (append-nil x.entries, append-nil x.calls, append-nil x.order) refl
 
 pub swept_more : (a b c : Seen) (f : Session KEnd → Met → Out (List (Session KEnd))) (ns : List ℕ) (i n : ℕ) (ss now then_ : List (Session KEnd))
     → SweptSome a b f ns i ss now → slice_get ns i ≡ Some n → Did b c then_ (visit_at f n now)

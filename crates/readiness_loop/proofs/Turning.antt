@@ -13,6 +13,7 @@ use Rattle.link_trait.specs.declared.wires.Conn.{Conn}
 use Rattle.link_trait.specs.declared.wires.Happening.{Happening}
 use Rattle.link_trait.specs.declared.wires.Happening.TheVariants as happening
 use Rattle.loop_model.specs.Outs.{changed, makes}
+use Rattle.loop_model.specs.Signs.{order_makes}
 use Rattle.loop_model.specs.Sessions.{Session}
 use Rattle.loop_model.specs.Visits.{Met, nothing_met, visited, Read, Write}
 use Rattle.loop_model.specs.Loops.{Plan, Loop, rules_of, with_sessions, visit_at, until, accepted, answered_by, next_user, most_live, happened, Halt, OnEnded, OnClosed, OnFailed, halt_by, halt_behind, Course, Turn, turn, follows, turned_unless}
@@ -45,12 +46,12 @@ pub react_read : {T : Type 0} (a b : Seen) (plan : Plan) (l new : Loop KEnd) (ss
 unfolding happened
 react_read a b plan l new ss conn (Ok done) same p = record {
   answers = p.answers;
-  is = acted_as a b ss new (visit_at (visited kept_ends (rules_of plan) l.moment Read) conn.0 l.sessions p.answers) (changed (with_sessions l) (visit_at (visited kept_ends (rules_of plan) l.moment Read) conn.0 l.sessions p.answers)) (record { entries = refl; calls = refl })
+  is = acted_as a b ss new (visit_at (visited kept_ends (rules_of plan) l.moment Read) conn.0 l.sessions p.answers) (changed (with_sessions l) (visit_at (visited kept_ends (rules_of plan) l.moment Read) conn.0 l.sessions p.answers)) (record { entries = refl; calls = refl; order = refl })
       (same ∙ ap (with_sessions l) p.is.state) p.is;
 }
 react_read a b plan l new ss conn (Err fault) same p = record {
   answers = p.answers;
-  breaks = breaks_as a b (visit_at (visited kept_ends (rules_of plan) l.moment Read) conn.0 l.sessions p.answers) (changed (with_sessions l) (visit_at (visited kept_ends (rules_of plan) l.moment Read) conn.0 l.sessions p.answers)) fault (record { entries = refl; calls = refl }) p.breaks;
+  breaks = breaks_as a b (visit_at (visited kept_ends (rules_of plan) l.moment Read) conn.0 l.sessions p.answers) (changed (with_sessions l) (visit_at (visited kept_ends (rules_of plan) l.moment Read) conn.0 l.sessions p.answers)) fault (record { entries = refl; calls = refl; order = refl }) p.breaks;
 }
 
 pub react_write : {T : Type 0} (a b : Seen) (plan : Plan) (l new : Loop KEnd) (ss : List (Session KEnd)) (conn : Conn) (r : Result T LoopFault)
@@ -59,12 +60,12 @@ pub react_write : {T : Type 0} (a b : Seen) (plan : Plan) (l new : Loop KEnd) (s
 unfolding happened
 react_write a b plan l new ss conn (Ok done) same p = record {
   answers = p.answers;
-  is = acted_as a b ss new (visit_at (visited kept_ends (rules_of plan) l.moment Write) conn.0 l.sessions p.answers) (changed (with_sessions l) (visit_at (visited kept_ends (rules_of plan) l.moment Write) conn.0 l.sessions p.answers)) (record { entries = refl; calls = refl })
+  is = acted_as a b ss new (visit_at (visited kept_ends (rules_of plan) l.moment Write) conn.0 l.sessions p.answers) (changed (with_sessions l) (visit_at (visited kept_ends (rules_of plan) l.moment Write) conn.0 l.sessions p.answers)) (record { entries = refl; calls = refl; order = refl })
       (same ∙ ap (with_sessions l) p.is.state) p.is;
 }
 react_write a b plan l new ss conn (Err fault) same p = record {
   answers = p.answers;
-  breaks = breaks_as a b (visit_at (visited kept_ends (rules_of plan) l.moment Write) conn.0 l.sessions p.answers) (changed (with_sessions l) (visit_at (visited kept_ends (rules_of plan) l.moment Write) conn.0 l.sessions p.answers)) fault (record { entries = refl; calls = refl }) p.breaks;
+  breaks = breaks_as a b (visit_at (visited kept_ends (rules_of plan) l.moment Write) conn.0 l.sessions p.answers) (changed (with_sessions l) (visit_at (visited kept_ends (rules_of plan) l.moment Write) conn.0 l.sessions p.answers)) fault (record { entries = refl; calls = refl; order = refl }) p.breaks;
 }
 
 pub react_quiet : (a : Seen) (plan : Plan) (l : Loop KEnd) → Did a a l (happened kept_ends plan l happening.Quiet)
@@ -143,6 +144,7 @@ turn_acted h calls now s at what p less = record {
   answered = (tt, tt);
   counted = omega (arith, less);
   in_grammar = tt;
+  has_order = order_makes (Turns at what) s;
 }
 
 -- what was met
@@ -164,7 +166,7 @@ turned_came plan h i calls mid now k j l new n asked at what second why due told
     let d : Course KEnd = record { loop = record l { moment = max l.moment second }; turns = n + 1; halt = None; asked = asked ++ second ∷ [] } in
     let first = turn_acted h calls mid d (until kept_ends l.sessions) what (subst (λ t. Grew calls.calls mid.calls (Turns t what ∷ [])) due told) less in
     let o = happened kept_ends plan d.loop what did.answers in
-    let rest = acted_as (seen h mid) (seen i now) new (follows kept_ends plan d a).state o (follows kept_ends plan d a) (record { entries = refl; calls = refl }) refl did.is in
+    let rest = acted_as (seen h mid) (seen i now) new (follows kept_ends plan d a).state o (follows kept_ends plan d a) (record { entries = refl; calls = refl; order = refl }) refl did.is in
     let calls_are : opened_in (Turns (until kept_ends l.sessions) what ∷ o.calls) ≡ opened_by what = ap (λ t. opened_by what ++ t) (happened_opens plan d.loop what did.answers) ∙ append-nil (opened_by what) in
     let counts = newest_by what calls.opened now.opened op number in
     record {
@@ -196,7 +198,7 @@ went_off plan h i calls mid now k j l n asked at what second fault due told less
     let a = met_in what second p.answers in
     let d : Course KEnd = record { loop = record l { moment = max l.moment second }; turns = n + 1; halt = None; asked = asked ++ second ∷ [] } in
     let first = turn_acted h calls mid d (until kept_ends l.sessions) what (subst (λ t. Grew calls.calls mid.calls (Turns t what ∷ [])) due told) less in
-    let breaks = breaks_as (seen h mid) (seen i now) (happened kept_ends plan d.loop what p.answers) (follows kept_ends plan d a) fault (record { entries = refl; calls = refl }) p.breaks in
+    let breaks = breaks_as (seen h mid) (seen i now) (happened kept_ends plan d.loop what p.answers) (follows kept_ends plan d a) fault (record { entries = refl; calls = refl; order = refl }) p.breaks in
     let rest = cut_of (seen h mid) (seen i now) (follows kept_ends plan d a) fault breaks in
     record {
       answers = a;

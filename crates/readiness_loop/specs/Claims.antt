@@ -15,6 +15,7 @@ use Rattle.link_trait.specs.Wires.{Call, Listens, Dials}
 use Rattle.loop_model.specs.Ends.{ModelEnd, model_ends}
 use Rattle.loop_model.specs.Grammar.{AreInGrammar}
 use Rattle.loop_model.specs.Journals.{header}
+use Rattle.loop_model.specs.Deeds.{text_of, calls_of}
 use Rattle.loop_model.specs.Outs.{Out}
 use Rattle.loop_model.specs.Visits.{Met}
 use Rattle.loop_model.specs.Loops.{Plan, Halt, OnEnded, OnClosed, OnFailed, Course, Turn, beginning, serves, Caller, Dialled, dials, asks, opens, printed}
@@ -155,7 +156,7 @@ pub data BreaksOffServing (before now : Outside) (plan : Plan) (address : List �
   -- the whole turns before the cut are lawful
   InServing : (cut : Cut) (lies : LiesInRun model_ends plan (beginning minds words) cut)
       → IsLawful (with_turns plan (length lies.turns)) (serves model_ends (with_turns plan (length lies.turns)) (beginning minds words) address true lies.turns)
-      → IsCutAt before now (header plan.settings ++ cut.printed) (Listens address true ∷ cut.calls)
+      → IsCutAt before now (header plan.settings ++ text_of cut) (Listens address true ∷ calls_of cut)
       → BreaksOffServing before now plan address minds words
 
 -- the same of a loop that dials
@@ -198,12 +199,12 @@ pub data BreaksOffDialling (before now : Outside) (plan : Plan) (caller : Caller
   InDiallingHeader : (conn : ℕ) (part rest : List ℕ) → part ++ rest ≡ header plan.settings → IsCutAt before now part (Dials address (Some conn) ∷ [])
       → BreaksOffDialling before now plan caller address minds words
   InOpening : (conn first : ℕ) (met : Met) (cut : Cut) → LiesIn (opening plan caller minds words conn first met) cut
-      → IsCutAt before now (header plan.settings ++ cut.printed) (Dials address (Some conn) ∷ cut.calls)
+      → IsCutAt before now (header plan.settings ++ text_of cut) (Dials address (Some conn) ∷ calls_of cut)
       → BreaksOffDialling before now plan caller address minds words
   InDialling : (conn first : ℕ) (met : Met) (rest cut : Cut) (lies : LiesInRun model_ends plan (opening plan caller minds words conn first met).state rest)
       → IsLawful (with_turns plan (length lies.turns)) (dials model_ends (with_turns plan (length lies.turns)) caller (beginning minds words) address (dialled conn first met lies.turns))
       → cut ≡ behind (opening plan caller minds words conn first met) rest
-      → IsCutAt before now (header plan.settings ++ cut.printed) (Dials address (Some conn) ∷ cut.calls)
+      → IsCutAt before now (header plan.settings ++ text_of cut) (Dials address (Some conn) ∷ calls_of cut)
       → BreaksOffDialling before now plan caller address minds words
 
 -- ---- the clauses of both calls, over a sink, wires and a clock

@@ -14,6 +14,7 @@ use Rattle.safety_automaton.specs.Keys as keys
 use Rattle.er_users.specs.Users.{Mind}
 use Rattle.link_trait.specs.States.{SinkState, WiresState, ClockState}
 use Rattle.link_trait.specs.Outside.{Grew, Rose}
+use Rattle.loop_model.specs.Deeds.{text_of, calls_of}
 use Rattle.loop_model.specs.Outs.{Out}
 use Rattle.loop_model.specs.Sessions.{Session}
 use Rattle.loop_model.specs.Visits.{Met}
@@ -80,12 +81,12 @@ pub record Went {A : Type 0} (model : A → Out (Course KEnd)) (a b : Around) (c
   pub answers : A
   pub is : Came a b c l n h (model answers)
 
--- it broke off, since the sink failed or memory ran out: up to a cut all was printed and called
+-- it broke off, since the sink failed or memory ran out: up to a cut all came out
 pub record Broke (a b : Seen) (cut : Cut) (fault : LoopFault) : Type 0 where
-  pub text : Grew a.held b.held cut.printed
-  pub calls : Grew a.calls b.calls cut.calls
-  pub answered : AreAnsweredSo cut.calls
-  pub counted : Counts a.failed b.failed cut.calls
+  pub text : Grew a.held b.held (text_of cut)
+  pub calls : Grew a.calls b.calls (calls_of cut)
+  pub answered : AreAnsweredSo (calls_of cut)
+  pub counted : Counts a.failed b.failed (calls_of cut)
   pub failed : FailedFor fault a.sunk b.sunk
 
 -- for some answers the cut lies so

@@ -1,27 +1,23 @@
--- Where a loop is cut that breaks off, since its sink failed or memory ran out: one place of its course, for the journal and for the calls alike
--- (this profile). All of its whole turns stand before that place, and of one turn more what was already under way.
+-- Where a loop is cut that breaks off, since its sink failed or memory ran out: one place of its course, in the one order in which its text, octet by
+-- octet, and its calls come out (this profile). All of its whole turns stand before that place, and of one turn more what was already under way.
 use Rattle.std.specs.Prelude.{◌≡◌, ℕ, ◌<◌, List, ◌++◌, length, None}
-use Rattle.link_trait.specs.Wires.{Call}
 use Rattle.loop_model.specs.Ends.{EndOps}
-use Rattle.loop_model.specs.Journals.{text}
+use Rattle.loop_model.specs.Deeds.{Sign, signs}
 use Rattle.loop_model.specs.Outs.{Out, next}
 use Rattle.loop_model.specs.Loops.{Plan, Course, Turn, readied, turn, follows, run}
 
--- what stands before a cut: what was printed, and the calls
-pub record Cut : Type 0 where
-  pub printed : List ℕ
-  pub calls : List Call
+-- what came out before a cut: octets of the text, and calls, in their order
+abbrev pub Cut : Type 0
+Cut = List Sign
 
--- the cut lies in a part of the loop: a beginning of the part's text stands before it, and a beginning of its calls
+-- the cut lies in a part of the loop: a beginning of what comes out of the part stands before it
 pub record LiesIn {S : Type 0} (part : Out S) (cut : Cut) : Type 0 where
-  pub unprinted : List ℕ
-  pub printed : cut.printed ++ unprinted ≡ text part.entries
-  pub uncalled : List Call
-  pub called : cut.calls ++ uncalled ≡ part.calls
+  pub rest : List Sign
+  pub is : cut ++ rest ≡ signs part.order
 
--- a cut behind a part: the whole text of the part stands before it, and all its calls
+-- a cut behind a part: all that comes out of the part stands before it
 abbrev pub behind : {S : Type 0} → Out S → Cut → Cut
-behind part cut = record { printed = text part.entries ++ cut.printed; calls = part.calls ++ cut.calls }
+behind part cut = signs part.order ++ cut
 
 -- the same plan, but for the number of turns
 abbrev pub with_turns : Plan → ℕ → Plan
