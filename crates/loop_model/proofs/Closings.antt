@@ -15,11 +15,11 @@ use Rattle.loop_model.proofs.Dialling.{knows_dial}
 use Rattle.loop_model.proofs.Owns.{Bare, AllGiven, Both, steady_both, bare_both, own_steady, own_bare, own_reads, usual_calls}
 
 -- none is a close
-abbrev NoClose : List Call → Type 0
+abbrev pub NoClose : List Call → Type 0
 NoClose [] = Unit {0}
 NoClose (call ∷ calls) = (is_close call ≡ false) × NoClose calls
 
-no_close-append : (cs ds : List Call) → NoClose cs → NoClose ds → NoClose (cs ++ ds)
+pub no_close-append : (cs ds : List Call) → NoClose cs → NoClose ds → NoClose (cs ++ ds)
 no_close-append [] ds p q = q
 no_close-append (call ∷ cs) ds p q = (p.0, no_close-append cs ds p.1 q)
 
@@ -31,10 +31,10 @@ closed_ends : (cs : List Call) (n : ℕ) → NoClose cs → EndAtClose (cs ++ Cl
 closed_ends [] n p = (λ e. refl, tt)
 closed_ends (call ∷ cs) n p = (λ e. absurd (true≢false (sym e ∙ p.0)), closed_ends cs n p.1)
 
-Opens : Session ModelEnd → Session ModelEnd → List Entry → List Call → Type 0
+unfoldable pub Opens : Session ModelEnd → Session ModelEnd → List Entry → List Call → Type 0
 Opens s t xs cs = NoClose cs
 
-steady : (r : Rules) → Steady r (λ g. Unit {0}) Opens
+pub steady : (r : Rules) → Steady r (λ g. Unit {0}) Opens
 unfolding Opens
 steady r = record {
   none = λ s. tt;
@@ -45,7 +45,7 @@ steady r = record {
   parts = λ s told at gone. tt;
 }
 
-bare : Bare Opens
+pub bare : Bare Opens
 unfolding Opens
 bare = record {
   wrote = λ s n whole. (refl, tt);
@@ -57,7 +57,7 @@ bare = record {
 all_given : AllGiven (λ g. Unit {0})
 all_given = record { usual = record { sends = λ text. tt; leaves = λ sub. tt; takes = tt }; hears = λ octets. tt; ticks = tt; ends = tt; faults = tt }
 
-reads : (s : Session ModelEnd) (waits : ℕ) (reading : Reading) → Opens s s [] (Reads s.number most_read waits reading ∷ [])
+pub reads : (s : Session ModelEnd) (waits : ℕ) (reading : Reading) → Opens s s [] (Reads s.number most_read waits reading ∷ [])
 unfolding Opens
 reads s waits reading = (refl, tt)
 

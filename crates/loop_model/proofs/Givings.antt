@@ -39,7 +39,7 @@ unfolding given_in
 given_in-append [] ds = refl
 given_in-append (call ∷ cs) ds = ap (λ z. gives call ++ z) (given_in-append cs ds) ∙ sym (append_assoc (gives call) (given_in cs) (given_in ds))
 
-octets_of-append : (xs ys : List Entry) → octets_of (xs ++ ys) ≡ octets_of xs ++ octets_of ys
+pub octets_of-append : (xs ys : List Entry) → octets_of (xs ++ ys) ≡ octets_of xs ++ octets_of ys
 unfolding octets_of
 octets_of-append [] ys = refl
 octets_of-append (x ∷ xs) ys =
@@ -185,7 +185,7 @@ pub record Given_so (s : Session ModelEnd) (xs : List Entry) (cs : List Call) : 
   pub is : given_in cs ++ rest ≡ octets_of xs
   pub whole : s.broken ≡ false → rest ≡ s.output
 
-abbrev Gone : List Entry → List Call → Type 0
+abbrev pub Gone : List Entry → List Call → Type 0
 Gone xs cs = IsBeginning (given_in cs) (octets_of xs)
 
 pub more : (s t : Session ModelEnd) (xs ys : List Entry) (cs ds : List Call) → Given_so s xs cs → Gives s t ys ds → Given_so t (xs ++ ys) (cs ++ ds)
@@ -219,7 +219,7 @@ unfolding given_in
 closed_given cs ds n =
     ap given_in (sym (append_assoc cs ds (Closes n ∷ []))) ∙ given_in-append (cs ++ ds) (Closes n ∷ []) ∙ append-nil (given_in (cs ++ ds))
 
-keeps : (plan : Plan) → Keeps plan Q Given_so Gone
+pub keeps : (plan : Plan) → Keeps plan Q Given_so Gone
 unfolding given_in octets_of
 keeps plan = record {
   visit = λ s t xs ys cs ds h q. more s t xs ys cs ds h q.1;
@@ -239,7 +239,7 @@ given_so plan None conn xs cs h = h
 given_so plan (Some s) conn xs cs h = record { rest = h.1.rest; is = h.1.is }
 
 -- the session that a dial opens
-first : (plan : Plan) (caller : Caller) (l : Loop ModelEnd) (conn : ℕ) (mind : Mind)
+pub first : (plan : Plan) (caller : Caller) (l : Loop ModelEnd) (conn : ℕ) (mind : Mind)
     → Given_so (fed model_ends (rules_of plan) l.moment (begun conn (calling model_ends plan caller l) mind) (Begins caller.engine plan.rbc (next_u64 l.words).0)).0
     (fed model_ends (rules_of plan) l.moment (begun conn (calling model_ends plan caller l) mind) (Begins caller.engine plan.rbc (next_u64 l.words).0)).1 []
 unfolding given_in octets_of

@@ -40,3 +40,6 @@ pub mod Emptying
 pub mod Cutting
 pub mod Showing
 pub mod Visitings
+pub mod Sequencing
+pub mod Orderwise
+pub mod Sequenced

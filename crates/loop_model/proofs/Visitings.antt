@@ -57,7 +57,7 @@ is_readied plan c a rises =
 
 -- ---- behind a turn
 
-visit_one : (f : Session ModelEnd → Met → Out (List (Session ModelEnd))) (n : ℕ) (ss : List (Session ModelEnd)) (s : Session ModelEnd) (a : Met) → session_of n ss ≡ Some s
+pub visit_one : (f : Session ModelEnd → Met → Out (List (Session ModelEnd))) (n : ℕ) (ss : List (Session ModelEnd)) (s : Session ModelEnd) (a : Met) → session_of n ss ≡ Some s
     → visit_at f n ss a ≡ changed (λ now. replaced n now ss) (f s a)
 unfolding visit_at session_of replaced
 visit_one f n [] s a e = absurd (let x : ⊥ = cc in x)

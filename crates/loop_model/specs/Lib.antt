@@ -29,3 +29,4 @@ pub mod Shows
 pub mod Told
 pub mod Speeches
 pub mod Orderly
+pub mod Orderings

@@ -13,6 +13,7 @@ ghost use Rattle.loop_model.specs.Openings.{OpeningsAreTold, DialIsOpened};
 ghost use Rattle.loop_model.specs.Recordings.{RecordingsReplay};
 ghost use Rattle.loop_model.specs.Visitings.{TurnsVisit};
 ghost use Rattle.loop_model.specs.Shows.{EndsShow};
+ghost use Rattle.loop_model.specs.Orderings.{OrderIsKept, PartsHaveOrder};
 ghost use Rattle.loop_model.specs.Ends.{model_ends};
 ghost use Rattle.loop_model.specs.Told.{EventsAreHeard, SpeechIsHeard, UsersHear};
 ghost use Rattle.loop_model.specs.Settling.{WritableIsWritten, VisitsWrite, ClosesHaveReasons};
@@ -229,4 +230,12 @@ pub fn visits()
 /// What the loop asks of an end is what the end model says: its deadline, its release, how many messages wait, and which octets one event has.
 pub fn ends()
     ensures { EndsShow }
+{}
+
+/// The events that a loop prints and the calls that it makes come in one order. At each place of it the octets that were given to a connection are a
+/// beginning of those of the outcomes that were printed of it before; and behind the close of a connection no event of it is printed, and no call is
+/// made on it. Of the parts in which a loop may break off, too, the events and the calls are those of one order.
+pub fn order()
+    ensures kept { OrderIsKept }
+    ensures parts { PartsHaveOrder }
 {}
