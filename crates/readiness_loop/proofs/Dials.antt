@@ -259,6 +259,7 @@ dials_lawful laws plan caller minds words address x dialling = record {
   on_open = laws.on_open.dialling plan caller (beginning minds words) address x dialling;
   heard = laws.heard.dialling plan caller (beginning minds words) address x dialling;
   replayed = laws.replayed.dialling plan caller (beginning minds words) address x dialling;
+  in_order = laws.in_order.dialling plan caller (beginning minds words) address x dialling;
 }
 
 dials_turns : (laws : Laws) (plan : Plan) (caller : Caller) (m b : Around) (minds : List Mind) (words : Stream) (address : List ℕ) (conn : ℕ) (x : Dialled) (count : ℕ) (why : Option Halt)

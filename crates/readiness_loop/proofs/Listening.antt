@@ -19,13 +19,16 @@ use Rattle.link_trait.specs.declared.wires.Wires as wires
 use Rattle.link_trait.specs.declared.clock.Clock as clock
 use Rattle.link_trait.specs.Outside.{Grew, GrewPart, Rose}
 use Rattle.link_trait.specs.Growth.{grew_nothing, grew_then}
-use Rattle.link_trait.specs.Wires.{Call, Listens, given_of, taken_of}
-use Rattle.loop_model.specs.Ends.{model_ends}
+use Rattle.link_trait.specs.Wires.{Call, Listens, Closes, given_of, taken_of}
+use Rattle.loop_model.specs.Ends.{ModelEnd, model_ends}
 use Rattle.loop_model.specs.Journals.{header, text}
-use Rattle.loop_model.specs.Deeds.{text_of, calls_of}
-use Rattle.loop_model.specs.Loops.{Plan, Loop, Halt, OnFailed, Turn, run, beginning, serves, printed}
-use Rattle.loop_model.specs.Parts.{Rises, calls_at, opened_in}
-use Rattle.loop_model.specs.Laws.{ConnectionsAreIsolated, JournalIsPrinted, OctetsAreAccounted, CallsAreOnOpen, FaultsHaveFailed, TurnsAreCounted, IsServing, RunsSo, faults, failures, turns_of, HaltsBy}
+use Rattle.loop_model.specs.Deeds.{Deed, Calling, entries_in, calls_in, text_of, calls_of}
+use Rattle.loop_model.specs.Outs.{Out, next, makes}
+use Rattle.loop_model.specs.Signs.{order_next, order_makes}
+use Rattle.loop_model.specs.Orderings.{GivesTold, IsSilent, IsSequenced, OrderIsKept}
+use Rattle.loop_model.specs.Loops.{Plan, Loop, Halt, OnFailed, Course, Turn, run, beginning, serves, printed}
+use Rattle.loop_model.specs.Parts.{Rises, of, calls_at, opened_in}
+use Rattle.loop_model.specs.Laws.{ConnectionsAreIsolated, JournalIsPrinted, OctetsAreAccounted, CallsAreOnOpen, FaultsHaveFailed, TurnsAreCounted, IsServing, RunsSo, octets_of, faults, failures, turns_of, HaltsBy}
 use Rattle.loop_model.specs.Points.{OctetsAreHeard, UsersReply}
 use Rattle.loop_model.specs.Told.{UsersHear}
 use Rattle.loop_model.specs.Recordings.{RecordingsReplay}
@@ -52,6 +55,7 @@ pub record Laws : Type 0 where
   pub on_open : CallsAreOnOpen
   pub heard : OctetsAreHeard
   pub replayed : RecordingsReplay
+  pub in_order : OrderIsKept
   pub replies : UsersReply
   pub users : UsersHear
   pub faults : FaultsHaveFailed
@@ -100,6 +104,28 @@ serves_done laws plan a m b minds words address turns count why begun s =
       in_grammar = s.in_grammar;
     }
 
+same_first : {A : Type 0} (x y : A) (xs ys : List A) → x ∷ xs ≡ y ∷ ys → (x ≡ y) × (xs ≡ ys)
+same_first x y xs ys p = (cc, cc)
+
+-- with the listen before it
+listened : (plan : Plan) (c : Course ModelEnd) (address : List ℕ) (o : Out (Course ModelEnd)) → IsSequenced plan o → IsSequenced plan (next (makes (Listens address true) c) (λ d. o))
+unfolding entries_in calls_in given_of octets_of of
+listened plan c address o h = record {
+  one = order_next (makes (Listens address true) c) (λ d. o) (order_makes (Listens address true) c) h.one;
+  told = told;
+  last = last;
+}
+  where
+    told : (conn : ℕ) (done rest : List Deed) → done ++ rest ≡ Calling (Listens address true) ∷ o.order → GivesTold conn done
+    told conn [] rest e = record { rest = []; is = refl }
+    told conn (d ∷ done) rest e =
+        let s = same_first d (Calling (Listens address true)) (done ++ rest) o.order e in
+        subst (λ z. GivesTold conn (z ∷ done)) (sym s.0) (h.told conn done rest s.1)
+
+    last : (conn : ℕ) (done rest : List Deed) → done ++ Calling (Closes conn) ∷ rest ≡ Calling (Listens address true) ∷ o.order → IsSilent conn rest
+    last conn [] rest e = absurd (let s : Calling (Closes conn) ≡ Calling (Listens address true) = (same_first (Calling (Closes conn)) (Calling (Listens address true)) rest o.order e).0 in cc s)
+    last conn (d ∷ done) rest e = h.last conn done rest (same_first d (Calling (Listens address true)) (done ++ Calling (Closes conn) ∷ rest) o.order e).1
+
 serves_lawful : (laws : Laws) (plan : Plan) (minds : List Mind) (words : Stream) (address : List ℕ) (turns : List Turn)
     → IsServing plan (beginning minds words) turns → IsLawful plan (serves model_ends plan (beginning minds words) address true turns)
 unfolding serves given_of taken_of calls_at
@@ -112,6 +138,7 @@ serves_lawful laws plan minds words address turns serving = record {
       let h = laws.heard.serving plan (beginning minds words) turns serving conn in
       record { beginning = record { rest = h.beginning.rest; is = h.beginning.is }; all = h.all };
   replayed = laws.replayed.serving plan (beginning minds words) turns serving;
+  in_order = listened plan (beginning minds words) address (run model_ends plan (beginning minds words) turns) (laws.in_order.serving plan (beginning minds words) turns serving);
 }
 
 serves_replies : (laws : Laws) (plan : Plan) (minds : List Mind) (words : Stream) (address : List ℕ) (turns : List Turn)

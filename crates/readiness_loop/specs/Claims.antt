@@ -21,6 +21,7 @@ use Rattle.loop_model.specs.Visits.{Met}
 use Rattle.loop_model.specs.Loops.{Plan, Halt, OnEnded, OnClosed, OnFailed, Course, Turn, beginning, serves, Caller, Dialled, dials, asks, opens, printed}
 use Rattle.loop_model.specs.Laws.{IsServing, IsDialling, IsIsolated, IsPrinted, AreAccounted, AreOnOpen, faults, HaltsBy, turns_of, greatest}
 use Rattle.loop_model.specs.Parts.{session_of, of, opened_in}
+use Rattle.loop_model.specs.Orderings.{IsSequenced}
 use Rattle.loop_model.specs.Points.{AreHeard, user_of, IsSpoken}
 use Rattle.loop_model.specs.Told.{IsHeard}
 use Rattle.loop_model.specs.Recordings.{IsReplayed}
@@ -96,6 +97,8 @@ pub record IsLawful (plan : Plan) (o : Out (Course ModelEnd)) : Type 0 where
   pub heard : AreHeard o
   -- a replay refuses no event, and prints what the loop printed
   pub replayed : IsReplayed plan o
+  -- text and calls come in one order: what is given to a connection was told of it before, and a close is its last
+  pub in_order : IsSequenced plan o
 
 -- the sends and the release of each connection are the replies that the relation of its user's kind gives to what the user hears
 abbrev pub AreSpoken : List Mind → Out (Course ModelEnd) → Type 0

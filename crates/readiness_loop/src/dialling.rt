@@ -46,6 +46,7 @@ fn dial_users<U: SafeUser, W: Wires, C: Clock, R: Rng, S: Sink>(
     laws::open_connections();
     laws::octets_taken();
     laws::recordings();
+    laws::order();
     laws::replies();
     laws::hearing();
     laws::faults();

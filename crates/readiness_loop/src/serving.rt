@@ -64,6 +64,7 @@ fn serve_users<U: SafeUser, K: KeyFinder, W: Wires, C: Clock, R: Rng, S: Sink>(
     laws::open_connections();
     laws::octets_taken();
     laws::recordings();
+    laws::order();
     laws::replies();
     laws::hearing();
     laws::faults();

@@ -34,6 +34,7 @@ returns-clause-does g c =
       on_open = c.open_connections.ensures;
       heard = c.octets_taken.ensures;
       replayed = c.recordings.ensures;
+      in_order = c.order.ensures.kept;
       replies = c.replies.ensures;
       users = c.hearing.ensures.live;
       faults = c.faults.ensures;
