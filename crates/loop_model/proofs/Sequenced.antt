@@ -16,13 +16,13 @@ use Rattle.loop_model.specs.Journals.{Entry}
 use Rattle.loop_model.specs.Deeds.{Deed, Printing, Calling, entries_in, calls_in}
 use Rattle.loop_model.specs.Outs.{Out, HasOrder, first_of}
 use Rattle.loop_model.specs.Signs.{entries_parts, calls_parts}
-use Rattle.loop_model.specs.Orderly.{order_visited, order_visit_at, order_served, order_run, order_dials, order_readied, order_turn, order_follows, order_opens}
+use Rattle.loop_model.specs.Orderly.{order_visited, order_visit_at, order_served, order_run, order_dials, order_opens}
 use Rattle.loop_model.specs.Sessions.{Rules, Session, Begins, fed, nothing_said}
 use Rattle.loop_model.specs.Visits.{Met, Visit, visited, served}
 use Rattle.loop_model.specs.Loops.{Plan, rules_of, Loop, most_live, answering, visit_at, next_user, begun, Caller, calling, called_by, Course, asks, Turn, run, Dialled, opens, called, dials_to, dials}
 use Rattle.loop_model.specs.Parts.{session_of, of, calls_at, is_at, opened_in, opened_by, Rises, newest}
 use Rattle.loop_model.specs.Laws.{octets_of, IsBeginning}
-use Rattle.loop_model.specs.Orderings.{IsSilent, IsSequenced, OrderIsKept, PartsHaveOrder}
+use Rattle.loop_model.specs.Orderings.{IsSilent, IsSequenced, OrderIsKept, OpeningIsKept}
 use Rattle.loop_model.proofs.Projections.{of-append, calls_at-append, opened_in-append, rises_first, rises_rest, newest-append, newest_later}
 use Rattle.loop_model.proofs.Steadies.{Steady, Calls, AllLeft, all_left_of, Left, Stays, Closed, left_visited, left_served, steady_handled}
 use Rattle.loop_model.proofs.Lives.{Own, Keeps, Moved, Absent, Found, moved, Fits, Knows, knows_none, knows_moved, knows_turned, knows_opened, knows_away, accepted_above}
@@ -449,14 +449,14 @@ serving plan c turns none rises =
 
 module _ (plan : Plan) (caller : Caller) where
   -- the opening of a dial
-  opened_front : (user : Option Mind) (l : Loop ModelEnd) (conn : ℕ) (address : List ℕ) (a : Met) (n : ℕ)
-      → Goes n [] [] (Calling (Dials address (Some conn)) ∷ (called_by model_ends user plan caller l conn a).order) × Lasts n (Calling (Dials address (Some conn)) ∷ (called_by model_ends user plan caller l conn a).order)
+  opening_so : (user : Option Mind) (l : Loop ModelEnd) (conn : ℕ) (a : Met) (n : ℕ)
+      → Goes n [] [] (called_by model_ends user plan caller l conn a).order × Lasts n (called_by model_ends user plan caller l conn a).order
   unfolding Lasts of calls_at entries_in calls_in given_of octets_of
-  opened_front None l conn address a n = (
-    nothing_goes n [] [] (Calling (Dials address (Some conn)) ∷ (called_by model_ends None plan caller l conn a).order) refl (plain_tells n conn l.moment (event.Unserved 0) (conn == n)) (record { rest = []; is = refl }),
-    (λ z. absurd (let y : Dials address (Some conn) ≡ Closes n = z in cc y), (λ z. nothing_silent n, tt)),
+  opening_so None l conn a n = (
+    nothing_goes n [] [] (called_by model_ends None plan caller l conn a).order refl (plain_tells n conn l.moment (event.Unserved 0) (conn == n)) (record { rest = []; is = refl }),
+    (λ z. nothing_silent n, tt),
   )
-  opened_front (Some mind) l conn address a n =
+  opening_so (Some mind) l conn a n =
       let r = rules_of plan in
       let s = begun conn (calling model_ends plan caller l) mind in
       let g = Begins caller.engine plan.rbc (next_u64 l.words).0 in
@@ -464,17 +464,25 @@ module _ (plan : Plan) (caller : Caller) where
       let has = order_served model_ends r l.moment s g a in
       let so = so_served r l.moment conn s g a refl in
       let own = left_served r Own (own_calls r).quiet l.moment s g a (steady_handled r (λ g. Unit {0}) Own (own_steady r) all_given.usual l.moment s g (first_of nothing_said a.says) tt) in (
-        (
-          record { rest = []; is = refl },
-          elim (cases_Bool (conn == n)) [
-            | inl e ↦ subst (λ z. Goes z [] [] o.order) (eqb-true conn n e) (so.goes [] [] (record { number = refl; rest = []; is = refl; whole = λ on. refl }))
-            | inr e ↦
-                let q = left_silent n s o.state o.entries o.calls own e in
-                silent_goes n [] [] o.order (ap (λ z. of n z) has.entries ∙ q.0, ap (λ z. calls_at n z) has.calls ∙ q.1) (record { rest = []; is = refl })
-          ],
-        ),
-        (λ z. absurd (let y : Dials address (Some conn) ≡ Closes n = z in cc y), ends_lasts n o.order so.ends),
+        elim (cases_Bool (conn == n)) [
+          | inl e ↦ subst (λ z. Goes z [] [] o.order) (eqb-true conn n e) (so.goes [] [] (record { number = refl; rest = []; is = refl; whole = λ on. refl }))
+          | inr e ↦
+              let q = left_silent n s o.state o.entries o.calls own e in
+              silent_goes n [] [] o.order (ap (λ z. of n z) has.entries ∙ q.0, ap (λ z. calls_at n z) has.calls ∙ q.1) (record { rest = []; is = refl })
+        ],
+        ends_lasts n o.order so.ends,
       )
+
+  opens_so : (c : Course ModelEnd) (conn : ℕ) (a : Met) (n : ℕ) → Goes n [] [] (opens model_ends plan caller c conn a).order × Lasts n (opens model_ends plan caller c conn a).order
+  unfolding called
+  opens_so c conn a n = opening_so (next_user c.loop.users) c.loop conn a n
+
+  -- with the dial before it
+  opened_front : (c : Course ModelEnd) (conn : ℕ) (address : List ℕ) (a : Met) (n : ℕ)
+      → Goes n [] [] (Calling (Dials address (Some conn)) ∷ (opens model_ends plan caller c conn a).order) × Lasts n (Calling (Dials address (Some conn)) ∷ (opens model_ends plan caller c conn a).order)
+  unfolding Lasts of entries_in calls_in given_of octets_of
+  opened_front c conn address a n =
+      let so = opens_so c conn a n in ((record { rest = []; is = refl }, so.0), (λ z. absurd (let y : Dials address (Some conn) ≡ Closes n = z in cc y), so.1))
 
   first_known : (at : ℕ) (l : Loop ModelEnd) (conn : ℕ) (mind : Mind) → l.moment ≡ at
       → K (fed model_ends (rules_of plan) l.moment (begun conn (calling model_ends plan caller l) mind) (Begins caller.engine plan.rbc (next_u64 l.words).0)).0
@@ -501,7 +509,7 @@ module _ (plan : Plan) (caller : Caller) where
       let e = run model_ends plan o.state turns in
       let ds : List Deed = Calling (Dials address (Some conn)) ∷ o.order in
       let has = order_opens model_ends plan caller c conn a in
-      let so = opened_front (next_user c.loop.users) c.loop conn address a n in
+      let so = opened_front c conn address a n in
       let known : Known plan (entries_in ds) (calls_in ds) o.state.loop.sessions =
       subst₂ (λ (x : List Entry) (y : List Call). Known plan x (Dials address (Some conn) ∷ y) o.state.loop.sessions) (sym has.entries) (sym has.calls) (opens_known c conn address a none) in
       let front : Front plan n [] [] o.state.loop.sessions ds = record { goes = so.0; last = so.1; knows = known } in
@@ -534,10 +542,7 @@ order_is_kept = record {
   dialling = λ plan caller c address a h. dialling plan caller c address a h.none h.rises;
 }
 
-pub parts_have_order : PartsHaveOrder
-parts_have_order = record {
-  readied = λ plan c a. order_readied model_ends plan c a;
-  turned = λ c a. order_turn model_ends c a;
-  follows = λ plan c a. order_follows model_ends plan c a;
-  opens = λ plan caller c conn a. order_opens model_ends plan caller c conn a;
-}
+pub opening_is_kept : OpeningIsKept
+unfolding given_of octets_of of
+opening_is_kept plan caller c conn a =
+    sequenced plan (opens model_ends plan caller c conn a) (order_opens model_ends plan caller c conn a) (λ n. (opens_so plan caller c conn a n).0) (λ n. (opens_so plan caller c conn a n).1)

@@ -6,7 +6,7 @@ use Rattle.loop_model.specs.Ends.{ModelEnd, model_ends}
 use Rattle.loop_model.specs.Deeds.{Deed, Calling, entries_in, calls_in}
 use Rattle.loop_model.specs.Outs.{Out, HasOrder}
 use Rattle.loop_model.specs.Visits.{Met}
-use Rattle.loop_model.specs.Loops.{Plan, Caller, Course, Turn, readied, turn, follows, opens}
+use Rattle.loop_model.specs.Loops.{Plan, Caller, Course, opens}
 use Rattle.loop_model.specs.Parts.{of, calls_at}
 use Rattle.loop_model.specs.Laws.{octets_of, IsBeginning, Holds}
 
@@ -29,10 +29,6 @@ pub record IsSequenced (plan : Plan) (o : Out (Course ModelEnd)) : Type 0 where
 abbrev pub OrderIsKept : Type 0
 OrderIsKept = Holds IsSequenced
 
--- of each part of a loop, too, the events and the calls are those of its one order: of what comes before a turn, of the turn itself, of what follows it, and of
--- the opening of a dial
-pub record PartsHaveOrder : Type 0 where
-  pub readied : (plan : Plan) (c : Course ModelEnd) (a : Turn) → HasOrder (readied model_ends plan c a)
-  pub turned : (c : Course ModelEnd) (a : Turn) → HasOrder (turn model_ends c a)
-  pub follows : (plan : Plan) (c : Course ModelEnd) (a : Turn) → HasOrder (follows model_ends plan c a)
-  pub opens : (plan : Plan) (caller : Caller) (c : Course ModelEnd) (conn : ℕ) (a : Met) → HasOrder (opens model_ends plan caller c conn a)
+-- so is the opening of a dial by itself
+abbrev pub OpeningIsKept : Type 0
+OpeningIsKept = (plan : Plan) (caller : Caller) (c : Course ModelEnd) (conn : ℕ) (a : Met) → IsSequenced plan (opens model_ends plan caller c conn a)

@@ -13,7 +13,7 @@ ghost use Rattle.loop_model.specs.Openings.{OpeningsAreTold, DialIsOpened};
 ghost use Rattle.loop_model.specs.Recordings.{RecordingsReplay};
 ghost use Rattle.loop_model.specs.Visitings.{TurnsVisit};
 ghost use Rattle.loop_model.specs.Shows.{EndsShow};
-ghost use Rattle.loop_model.specs.Orderings.{OrderIsKept, PartsHaveOrder};
+ghost use Rattle.loop_model.specs.Orderings.{OrderIsKept, OpeningIsKept};
 ghost use Rattle.loop_model.specs.Ends.{model_ends};
 ghost use Rattle.loop_model.specs.Told.{EventsAreHeard, SpeechIsHeard, UsersHear};
 ghost use Rattle.loop_model.specs.Settling.{WritableIsWritten, VisitsWrite, ClosesHaveReasons};
@@ -234,8 +234,8 @@ pub fn ends()
 
 /// The events that a loop prints and the calls that it makes come in one order. At each place of it the octets that were given to a connection are a
 /// beginning of those of the outcomes that were printed of it before; and behind the close of a connection no event of it is printed, and no call is
-/// made on it. Of the parts in which a loop may break off, too, the events and the calls are those of one order.
+/// made on it. So it is in the opening of a dial by itself.
 pub fn order()
     ensures kept { OrderIsKept }
-    ensures parts { PartsHaveOrder }
+    ensures opening { OpeningIsKept }
 {}

@@ -41,3 +41,16 @@ behind_next o f cut = sym (append_assoc (signs o.order) (signs (f o.state).order
 -- a part that is spelled otherwise
 pub lies_as : {S T : Type 0} (o : Out S) (p : Out T) (cut : Cut) → o.order ≡ p.order → LiesIn o cut → LiesIn p cut
 lies_as o p cut same l = record { rest = l.rest; is = l.is ∙ ap signs same }
+
+-- in the first of two parts, and in the second
+pub lies_first : {S T : Type 0} (o : Out S) (f : S → Out T) (cut : Cut) → LiesIn o cut → LiesIn (next o f) cut
+lies_first o f cut l = record {
+  rest = l.rest ++ signs (f o.state).order;
+  is = sym (append_assoc cut l.rest (signs (f o.state).order)) ∙ ap (λ z. z ++ signs (f o.state).order) l.is ∙ sym (signs_parts o.order (f o.state).order);
+}
+
+pub lies_then : {S T : Type 0} (o : Out S) (f : S → Out T) (cut : Cut) → LiesIn (f o.state) cut → LiesIn (next o f) (behind o cut)
+lies_then o f cut l = record {
+  rest = l.rest;
+  is = append_assoc (signs o.order) cut l.rest ∙ ap (λ z. signs o.order ++ z) l.is ∙ sym (signs_parts o.order (f o.state).order);
+}

@@ -17,7 +17,7 @@ use Rattle.link_trait.specs.Wires as wires
 use Rattle.link_trait.specs.Wires.{Call, given_of, taken_of}
 use Rattle.loop_model.specs.Ends.{EndOps, ModelEnd, model_ends}
 use Rattle.loop_model.specs.Journals.{header, text}
-use Rattle.loop_model.specs.Deeds.{text_of, calls_of}
+use Rattle.loop_model.specs.Deeds.{Calling, text_of, calls_of}
 use Rattle.loop_model.specs.Outs.{Out, still, next, makes, acts, exactly}
 use Rattle.loop_model.specs.Visits.{Met}
 use Rattle.link_trait.specs.declared.sink.Sink as sink_of
@@ -33,12 +33,12 @@ use Rattle.loop_session.specs.declared.loop_fault.LoopFault.{LoopFault}
 use Rattle.loop_session.specs.declared.loop_fault.LoopFault.TheVariants.{Wires, Sink, NoMemory}
 use Rattle.loop_visit.specs.Seeing.{Counts}
 use Rattle.readiness_loop.specs.declared.line_plan.Served.{Served}
-use Rattle.readiness_loop.specs.Cuts.{Cut, LiesIn, behind, first_turns}
+use Rattle.readiness_loop.specs.Cuts.{Cut, LiesIn, behind, IsToldFirst, first_turns}
 use Rattle.readiness_loop.specs.Claims.{pair_of, IsDone, IsCutAt, IsLawful, HasTurns, HasDialled, NotDialling, LineFailed, FailsToDial, opening as model_opening, BeforeDialling, InDiallingHeader, InOpening, InDialling, BreaksOffDialling, halt_for, caller_of, DialsOn}
 use Rattle.readiness_loop.specs.Courses.{Around, Came, Went, Broke, WentOff, RanOff, Runs, Dials, outside_of, course_of, opening, Opened, Opens, halt_if}
 use Rattle.readiness_loop.specs.Lives.{around_at}
 use Rattle.loop_visit.specs.Sequels.{counts_then, failed_behind}
-use Rattle.readiness_loop.proofs.Cutting.{broke_behind, lies_as}
+use Rattle.readiness_loop.proofs.Cutting.{broke_behind, lies_as, lies_then}
 use Rattle.readiness_loop.proofs.Planned.{many, run_many, opens_many, lies_acts}
 use Rattle.readiness_loop.proofs.Likewise.{Same, same_as, AlwaysSame, rest_same, behind_as, lies_in_run}
 use Rattle.readiness_loop.proofs.Sweeps.{after}
@@ -46,6 +46,7 @@ use Rattle.readiness_loop.proofs.Openings.{opened_in-append, turns_of-append}
 use Rattle.readiness_loop.proofs.Running.{came_next, course_is, halted_acts, after_still}
 use Rattle.readiness_loop.proofs.Calling.{opens_opens, called_moment}
 use Rattle.readiness_loop.proofs.Shown.{Shown, shown}
+use Rattle.readiness_loop.proofs.Tellings.{told_first, told_dialled, lies_with, rises_before, rises_with}
 use Rattle.readiness_loop.proofs.Listening.{Laws, HasBegun, nothing_done, rose_past}
 
 -- the opening, and the run behind it
@@ -392,6 +393,23 @@ rises_whole laws plan caller m k minds words address conn l turns allowed p risi
     ap (λ (z : Out (Course KEnd)). z.calls) (sym is) ∙ (whole_alike laws few caller minds words address conn (met_so conn x turns) allowed refl).calls in
     subst (λ z. Rises m.newest (opened_in z)) same (subst (λ z. Rises m.newest z) (sym both) (subst (λ z. Rises z (opened_in r.calls)) top rising))
 
+-- what is done before a cut behind the opening is done in order
+dial_told : (laws : Laws) (plan : Plan) (caller : Caller) (minds : List Mind) (words : Stream) (address : List ℕ) (conn : ℕ) (x : ℕ × Met) (turns : List Turn) (cut : Cut)
+    → IsDialling (many plan (length turns)) caller (beginning minds words) address (met_so conn x turns)
+    → LiesIn (first_turns model_ends plan (model_opening plan caller minds words conn x.0 x.1).state turns) cut
+    → IsToldFirst (behind (model_opening plan caller minds words conn x.0 x.1) cut)
+unfolding met_so
+dial_told laws plan caller minds words address conn x turns cut dialling l =
+    let more = many plan (length turns) in
+    let mine = model_opening plan caller minds words conn x.0 x.1 in
+    let d = dials model_ends more caller (beginning minds words) address (met_so conn x turns) in
+    let all : Out (Course ModelEnd) = next mine (λ e. run model_ends more e turns) in
+    let is : d.order ≡ Calling (wires.Dials address (Some conn)) ∷ all.order =
+    ap (λ (z : Out (Course ModelEnd)). z.order) (dials_is model_ends more caller (beginning minds words) address conn (met_so conn x turns) refl)
+    ∙ ap (λ (z : Out (Course ModelEnd)). Calling (wires.Dials address (Some conn)) ∷ (next z (λ e. run model_ends more e turns)).order) (opens_many model_ends plan (length turns) caller (asks x.0 (beginning minds words)) conn x.1) in
+    let within = lies_then mine (λ e. run model_ends more e turns) cut l in
+    told_dialled more d address conn all.order (behind mine cut) within.rest (laws.in_order.dialling more caller (beginning minds words) address (met_so conn x turns) dialling) is within.is
+
 -- the run behind the opening broke off
 dial_off : (laws : Laws) (engine rbc : ℕ) (kmac : TripleKey) (plan : Plan) (a m k b : Around) (minds : List Mind) (words : Stream) (address : List ℕ) (conn : ℕ) (l : Loop KEnd) (fault : LoopFault)
     → AllAllowed plan.settings → plan.keys ≡ pair_of engine rbc kmac ∷ [] → plan.rbc ≡ rbc → m.newest ≡ conn → 0 < conn
@@ -408,11 +426,16 @@ dial_off laws engine rbc kmac plan a m k b minds words address conn l fault allo
     let mine = model_opening plan caller minds words conn x.0 x.1 in
     let few = many plan (length w.lies.turns) in
     let dialling = is_dialling engine rbc kmac few m minds words address conn (met_so conn x w.lies.turns) allowed keys number top above refl p.early
-    (rises_whole laws plan caller m k minds words address conn l w.lies.turns allowed p w.rises) in
+    (rises_whole laws plan caller m k minds words address conn l w.lies.turns allowed p (rises_before plan k b o.state fault w)) in
+    let next_too = w.lies.turns ++ w.lies.last ∷ [] in
+    let more = many plan (length next_too) in
+    let dialling_too = is_dialling engine rbc kmac more m minds words address conn (met_so conn x next_too) allowed keys number top above refl p.early
+    (rises_whole laws plan caller m k minds words address conn l next_too allowed p (rises_with plan k b o.state fault w)) in
+    let lies = lies_in_run plan o.state mine.state (turns_same laws plan caller minds words address conn x allowed) w.cut w.lies in
     let broke = broke_behind m.seen k.seen b.seen o.state o w.cut fault p.went.is.acted w.broke in (
-      InDialling conn x.0 x.1 w.cut (behind mine w.cut)
-          (lies_in_run plan o.state mine.state (turns_same laws plan caller minds words address conn x allowed) w.cut w.lies)
+      InDialling conn x.0 x.1 w.cut (behind mine w.cut) lies
           (dials_lawful laws few caller minds words address (met_so conn x w.lies.turns) dialling) refl
+          (dial_told laws plan caller minds words address conn x next_too w.cut dialling_too (lies_with model_ends plan mine.state w.cut lies))
           (cut_at plan a m b address conn (behind mine w.cut) fault begun
           (subst (λ z. Broke m.seen b.seen z fault) (behind_as o mine w.cut same.order) broke)),
       failed_behind a.seen.sunk m.seen.sunk b.seen.sunk fault begun.sunk broke.failed,
@@ -459,6 +482,8 @@ opening_off laws plan caller a m b minds words address conn fault allowed begun 
     let same = opening_same laws plan caller minds words address conn x allowed in (
       InOpening conn x.0 x.1 p.cut
           (lies_as (opening plan caller (beginning minds words) conn x) (model_opening plan caller minds words conn x.0 x.1) p.cut same.order p.lies)
+          (told_first plan (model_opening plan caller minds words conn x.0 x.1) p.cut (laws.opening plan caller (asks x.0 (beginning minds words)) conn x.1)
+          (lies_as (opening plan caller (beginning minds words) conn x) (model_opening plan caller minds words conn x.0 x.1) p.cut same.order p.lies))
           (cut_at plan a m b address conn p.cut fault begun p.broke),
       failed_behind a.seen.sunk m.seen.sunk b.seen.sunk fault begun.sunk p.broke.failed,
     )

@@ -7,16 +7,16 @@ use Rattle.link_trait.specs.Outside.{Grew, Rose}
 use Rattle.link_trait.specs.Growth.{grew_then}
 use Rattle.loop_model.specs.Outs.{Out, still, next}
 use Rattle.loop_model.specs.Sessions.{Session}
-use Rattle.loop_model.specs.Loops.{Plan, Loop, rules_of, before, Halt, OnClosed, OnFailed, halt_by, Course, Turn, readied, turn, turned_unless, went, nothing_comes}
-use Rattle.loop_model.specs.Parts.{opened_in, Rises, newest}
+use Rattle.loop_model.specs.Loops.{Plan, Loop, rules_of, before, Halt, OnClosed, OnFailed, halt_by, Course, Turn, readied, turn, follows, turned_unless, went, nothing_comes}
+use Rattle.loop_model.specs.Parts.{opened_in, opened_by, Rises, newest}
 use Rattle.loop_session.specs.declared.loop_fault.LoopFault.{LoopFault}
 use Rattle.loop_session.specs.declared.loop_fault.LoopFault.TheVariants.{Wires, Sink, NoMemory}
 use Rattle.loop_visit.specs.Acting.{Acted, BreaksAt, Did, Stopped}
 use Rattle.loop_visit.specs.Seeing.{Seen}
 use Rattle.readiness_loop.specs.declared.live_loop.Next.{Next}
-use Rattle.readiness_loop.specs.Cuts.{behind, LiesInTurn, Before, Behind}
-use Rattle.readiness_loop.specs.Courses.{Around, Came, Went, WentOff, LiesBehind, Turned, Turns, halt_of, course_of}
-use Rattle.readiness_loop.proofs.Cutting.{cut_of, cut_lies, cut_broke, broke_behind, behind_next, lies_as}
+use Rattle.readiness_loop.specs.Cuts.{behind, LiesIn}
+use Rattle.readiness_loop.specs.Courses.{Around, Came, Went, WentOff, LiesBehind, LiesInTurn, Turned, Turns, halt_of, course_of}
+use Rattle.readiness_loop.proofs.Cutting.{cut_of, cut_lies, cut_broke, broke_behind, lies_as, lies_first, lies_then}
 use Rattle.readiness_loop.proofs.Sequences.{acted_as, acted_still, acted_then}
 use Rattle.readiness_loop.proofs.Openings.{opened_in-append, before_opens}
 use Rattle.readiness_loop.proofs.Turning.{closed_is}
@@ -41,7 +41,7 @@ readied_acted plan a m l ss n first at asked t moment did =
     acted_as a m ss (readied_to plan l n asked first ss) o (readied kept_ends plan (course_of l n asked) x) (record { entries = refl; calls = refl; order = refl })
     (ap (readied_to plan l n asked first) is.state) is
 
-readied_opens : (plan : Plan) (c : Course KEnd) (x : Turn) → opened_in (readied kept_ends plan c x).calls ≡ []
+pub readied_opens : (plan : Plan) (c : Course KEnd) (x : Turn) → opened_in (readied kept_ends plan c x).calls ≡ []
 unfolding readied
 readied_opens plan c x = before_opens kept_ends (rules_of plan) (max c.loop.moment x.first) c.loop.sessions x.sweeps
 
@@ -85,10 +85,11 @@ go_came plan a m b l new ss n count first at asked h moment clock did top fails 
     }
 
 pub go_off : (plan : Plan) (a m b : Around) (l : Loop KEnd) (ss : List (Session KEnd)) (n first at : ℕ) (asked : List ℕ) (fault : LoopFault)
-    → at ≡ max l.moment first → Did a.seen m.seen ss (before kept_ends (rules_of plan) at l.sessions) → None ≡ halt_by plan ss
-    → WentOff (LiesBehind plan (course_of (record l { sessions = ss; moment = at }) n (asked ++ first ∷ []))) m b fault
-    → WentOff (LiesInTurn kept_ends plan (course_of l n asked)) a b fault
-go_off plan a m b l ss n first at asked fault moment did none q =
+    → at ≡ max l.moment first → Did a.seen m.seen ss (before kept_ends (rules_of plan) at l.sessions) → m.newest ≡ a.newest → None ≡ halt_by plan ss
+    → WentOff (LiesBehind plan m.newest (course_of (record l { sessions = ss; moment = at }) n (asked ++ first ∷ []))) m b fault
+    → WentOff (LiesInTurn plan a.newest (course_of l n asked)) a b fault
+unfolding went
+go_off plan a m b l ss n first at asked fault moment did top none q =
     let x : Turn = record q.answers { first = first; sweeps = did.answers } in
     let c = course_of l n asked in
     let r = readied kept_ends plan c x in
@@ -98,11 +99,17 @@ go_off plan a m b l ss n first at asked fault moment did none q =
     ap (λ (z : ℕ). course_of (record l { sessions = ss; moment = z }) n (asked ++ first ∷ [])) moment
     ∙ ap (λ (z : Option Halt). let d : Course KEnd = record { loop = record l { sessions = ss; moment = max l.moment first }; turns = n; halt = z; asked = asked ++ first ∷ [] } in d) none
     ∙ acted.state in
-    let q' : LiesBehind plan r.state q.answers q.cut = subst (λ (z : Course KEnd). LiesBehind plan z q.answers q.cut) there q.lies in
+    let q' : LiesBehind plan m.newest r.state q.answers q.cut = subst (λ (z : Course KEnd). LiesBehind plan m.newest z q.answers q.cut) there q.lies in
+    let on : None ≡ r.state.halt = ap (λ (z : Course KEnd). z.halt) there in
+    let behind_turn : LiesIn (turned_unless kept_ends None plan r.state x) q.cut =
+    subst (λ z. LiesIn (turned_unless kept_ends None plan r.state x) z) (sym q'.is) (lies_then (turn kept_ends r.state x) (λ z. follows kept_ends plan z x) q'.rest q'.lies) in
     record {
       answers = x;
       cut = behind r q.cut;
-      lies = Behind q'.rest (ap (λ (z : Course KEnd). z.halt) (sym there)) q'.lies (ap (behind r) q'.is ∙ behind_next r (λ z. turn kept_ends z x) q'.rest);
+      lies = record {
+        lies = lies_then r (λ z. turned_unless kept_ends z.halt plan z x) q.cut (subst (λ (z : Option Halt). LiesIn (turned_unless kept_ends z plan r.state x) q.cut) on behind_turn);
+        rises = subst (λ z. Rises z (opened_by x.happening)) top q'.rises;
+      };
       broke = broke_behind a.seen m.seen b.seen (readied_to plan l n asked first ss) r q.cut fault acted q.broke;
     }
 
@@ -117,15 +124,15 @@ go_on plan a m b l new ss n count first at asked (Err Wires) moment clock did to
   went = go_came plan a m b l new ss n count first at asked (Some OnFailed) moment clock did top fails hears none q.went;
   rose = subst (λ z. Rose z b.turns_failed) fails q.rose;
 }
-go_on plan a m b l new ss n count first at asked (Err Sink) moment clock did top fails hears none q = go_off plan a m b l ss n first at asked Sink moment did none q
+go_on plan a m b l new ss n count first at asked (Err Sink) moment clock did top fails hears none q = go_off plan a m b l ss n first at asked Sink moment did top none q
 go_on plan a m b l new ss n count first at asked (Err (NoMemory want)) moment clock did top fails hears none q =
-    go_off plan a m b l ss n first at asked (NoMemory want) moment did none q
+    go_off plan a m b l ss n first at asked (NoMemory want) moment did top none q
 
 -- what comes before the turn broke off
 before_off : (plan : Plan) (a b : Around) (l : Loop KEnd) (n first at : ℕ) (asked : List ℕ) (fault : LoopFault)
     → at ≡ max l.moment first → Stopped a.seen b.seen (before kept_ends (rules_of plan) at l.sessions) fault
-    → WentOff (LiesInTurn kept_ends plan (course_of l n asked)) a b fault
-unfolding readied
+    → WentOff (LiesInTurn plan a.newest (course_of l n asked)) a b fault
+unfolding readied went
 before_off plan a b l n first at asked fault moment p =
     let x : Turn = record nothing_comes { first = first; sweeps = p.answers } in
     let c = course_of l n asked in
@@ -134,7 +141,11 @@ before_off plan a b l n first at asked fault moment p =
     record {
       answers = x;
       cut = cut_of a.seen b.seen o fault breaks;
-      lies = Before (lies_as o (readied kept_ends plan c x) (cut_of a.seen b.seen o fault breaks) refl (cut_lies a.seen b.seen o fault breaks));
+      lies = record {
+        lies = lies_first (readied kept_ends plan c x) (λ z. turned_unless kept_ends z.halt plan z x) (cut_of a.seen b.seen o fault breaks)
+            (lies_as o (readied kept_ends plan c x) (cut_of a.seen b.seen o fault breaks) refl (cut_lies a.seen b.seen o fault breaks));
+        rises = tt;
+      };
       broke = cut_broke a.seen b.seen o fault breaks;
     }
 

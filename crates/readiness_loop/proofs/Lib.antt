@@ -23,3 +23,4 @@ mod Shown
 mod Listening
 mod Calling
 mod Dials
+mod Tellings

@@ -25,7 +25,7 @@ use Rattle.loop_model.specs.Journals.{header, text}
 use Rattle.loop_model.specs.Deeds.{Deed, Calling, entries_in, calls_in, text_of, calls_of}
 use Rattle.loop_model.specs.Outs.{Out, next, makes}
 use Rattle.loop_model.specs.Signs.{order_next, order_makes}
-use Rattle.loop_model.specs.Orderings.{GivesTold, IsSilent, IsSequenced, OrderIsKept}
+use Rattle.loop_model.specs.Orderings.{GivesTold, IsSilent, IsSequenced, OrderIsKept, OpeningIsKept}
 use Rattle.loop_model.specs.Loops.{Plan, Loop, Halt, OnFailed, Course, Turn, run, beginning, serves, printed}
 use Rattle.loop_model.specs.Parts.{Rises, of, calls_at, opened_in}
 use Rattle.loop_model.specs.Laws.{ConnectionsAreIsolated, JournalIsPrinted, OctetsAreAccounted, CallsAreOnOpen, FaultsHaveFailed, TurnsAreCounted, IsServing, RunsSo, octets_of, faults, failures, turns_of, HaltsBy}
@@ -46,6 +46,7 @@ use Rattle.readiness_loop.proofs.Acceptings.{no_sessions}
 use Rattle.readiness_loop.proofs.Planned.{many, lies_acts}
 use Rattle.readiness_loop.proofs.Likewise.{begin_same, lies_in_run}
 use Rattle.readiness_loop.proofs.Shown.{Shown, shown}
+use Rattle.readiness_loop.proofs.Tellings.{same_first, told_first, lies_with, rises_before, rises_with}
 
 -- the laws of the loop, as a function cites them
 pub record Laws : Type 0 where
@@ -56,6 +57,7 @@ pub record Laws : Type 0 where
   pub heard : OctetsAreHeard
   pub replayed : RecordingsReplay
   pub in_order : OrderIsKept
+  pub opening : OpeningIsKept
   pub replies : UsersReply
   pub users : UsersHear
   pub faults : FaultsHaveFailed
@@ -103,9 +105,6 @@ serves_done laws plan a m b minds words address turns count why begun s =
           omega (arith, few, less, counted));
       in_grammar = s.in_grammar;
     }
-
-same_first : {A : Type 0} (x y : A) (xs ys : List A) → x ∷ xs ≡ y ∷ ys → (x ≡ y) × (xs ≡ ys)
-same_first x y xs ys p = (cc, cc)
 
 -- with the listen before it
 listened : (plan : Plan) (c : Course ModelEnd) (address : List ℕ) (o : Out (Course ModelEnd)) → IsSequenced plan o → IsSequenced plan (next (makes (Listens address true) c) (λ d. o))
@@ -216,11 +215,20 @@ serve_off laws plan a m b minds words address fault allowed begun w =
     let few = many plan (length w.lies.turns) in
     let serving : IsServing few (beginning minds words) w.lies.turns = record {
       none = refl;
-      rises = rises_low 0 m.newest _ (omega arith) (subst (λ z. Rises m.newest (opened_in z)) (laws.runs few minds words w.lies.turns allowed).calls w.rises);
+      rises = rises_low 0 m.newest _ (omega arith) (subst (λ z. Rises m.newest (opened_in z)) (laws.runs few minds words w.lies.turns allowed).calls (rises_before plan m b (beginning minds words) fault w));
       allowed = allowed;
     } in
-    InServing w.cut (lies_in_run plan (beginning minds words) (beginning minds words) (begin_same laws.runs plan minds words allowed) w.cut w.lies)
+    let next_too = w.lies.turns ++ w.lies.last ∷ [] in
+    let more = many plan (length next_too) in
+    let serving_too : IsServing more (beginning minds words) next_too = record {
+      none = refl;
+      rises = rises_low 0 m.newest _ (omega arith) (subst (λ z. Rises m.newest (opened_in z)) (laws.runs more minds words next_too allowed).calls (rises_with plan m b (beginning minds words) fault w));
+      allowed = allowed;
+    } in
+    let lies = lies_in_run plan (beginning minds words) (beginning minds words) (begin_same laws.runs plan minds words allowed) w.cut w.lies in
+    InServing w.cut lies
     (serves_lawful laws few minds words address w.lies.turns serving)
+    (told_first more (run model_ends more (beginning minds words) next_too) w.cut (laws.in_order.serving more (beginning minds words) next_too serving_too) (lies_with model_ends plan (beginning minds words) w.cut lies))
     (record {
       text = grew_then a.seen.held m.seen.held b.seen.held (header plan.settings) (text_of w.cut) begun.text w.broke.text;
       calls = grew_then a.seen.calls m.seen.calls b.seen.calls (Listens address true ∷ []) (calls_of w.cut) begun.calls w.broke.calls;

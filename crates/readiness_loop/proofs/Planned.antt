@@ -9,7 +9,7 @@ use Rattle.loop_model.specs.Ends.{EndOps}
 use Rattle.loop_model.specs.Outs.{Out, next, changed, acts, exactly}
 use Rattle.loop_model.specs.Visits.{Met}
 use Rattle.loop_model.specs.Loops.{Plan, Loop, Halt, Course, Turn, Caller, most_live, turned_away, next_user, halt_by, halt_behind, nothing_comes, answered_by, accepted, called_by, called, opens, happened, readied, turn, turned_unless, went_unless, went, run}
-use Rattle.readiness_loop.specs.Cuts.{Cut, behind, LiesInTurn, LiesInRun}
+use Rattle.readiness_loop.specs.Cuts.{Cut, LiesIn, behind, LiesInRun}
 use Rattle.readiness_loop.proofs.Sweeps.{after}
 
 pub exactly_all : (n : ℕ) (xs : List Turn) → length xs ≡ n → exactly n nothing_comes xs ≡ xs
@@ -76,13 +76,13 @@ module _ {E : Type 0} (o : EndOps E) where
       ap (λ (z : Out (Loop E)). changed (λ (l : Loop E). let d : Course E = record c { loop = l; halt = halt_by plan l.sessions } in d) z) (called_many (next_user c.loop.users) plan n caller c.loop conn a)
 
   unfoldable pub lies_acts : (plan : Plan) (c : Course E) (cut : Cut) (turns : List Turn) → length turns < plan.turns → (acts (went o plan) c turns).state.halt ≡ None → (last : Turn) (rest : Cut)
-      → LiesInTurn o plan (acts (went o plan) c turns).state last rest → cut ≡ behind (acts (went o plan) c turns) rest → LiesInRun o plan c cut
+      → LiesIn (went o plan (acts (went o plan) c turns).state last) rest → cut ≡ behind (acts (went o plan) c turns) rest → LiesInRun o plan c cut
   lies_acts plan c cut turns fewer goes last rest lies is = record {
     turns = turns;
     fewer = fewer;
     goes_on = subst (λ (z : Out (Course E)). z.state.halt ≡ None) (sym (run_many plan c turns)) goes;
     last = last;
     rest = rest;
-    lies = subst (λ (z : Out (Course E)). LiesInTurn o plan z.state last rest) (sym (run_many plan c turns)) lies;
+    lies = subst (λ (z : Out (Course E)). LiesIn (went o plan z.state last) rest) (sym (run_many plan c turns)) lies;
     is = subst (λ (z : Out (Course E)). cut ≡ behind z rest) (sym (run_many plan c turns)) is;
   }

@@ -7,12 +7,12 @@ use Rattle.link_trait.specs.Growth.{grew_nothing, grew_then}
 use Rattle.loop_model.specs.Ends.{EndOps}
 use Rattle.loop_model.specs.Outs.{Out, still, next, acts, exactly}
 use Rattle.loop_model.specs.Loops.{Plan, Loop, Halt, OnFailed, Course, Turn, went, went_unless, run, nothing_comes}
-use Rattle.loop_model.specs.Parts.{opened_in, Rises, newest}
+use Rattle.loop_model.specs.Parts.{opened_in, opened_by, Rises, newest}
 use Rattle.loop_session.specs.declared.loop_fault.LoopFault.{LoopFault}
 use Rattle.loop_session.specs.declared.loop_fault.LoopFault.TheVariants.{Wires, Sink, NoMemory}
 use Rattle.readiness_loop.specs.declared.live_loop.Next.{Next}
-use Rattle.readiness_loop.specs.Cuts.{behind, LiesInTurn}
-use Rattle.readiness_loop.specs.Courses.{Around, Came, Went, WentOff, RanOff, Turns, Runs, course_of, halt_of}
+use Rattle.readiness_loop.specs.Cuts.{behind, LiesIn}
+use Rattle.readiness_loop.specs.Courses.{Around, Came, Went, WentOff, LiesInTurn, RanOff, Turns, Runs, course_of, halt_of}
 use Rattle.readiness_loop.proofs.Cutting.{broke_behind}
 use Rattle.readiness_loop.proofs.Planned.{exactly_all, run_many, lies_acts}
 use Rattle.readiness_loop.proofs.Sequences.{acted_still, acted_then}
@@ -85,7 +85,7 @@ course_is a b c l n o p =
     ∙ ap (λ (z : ℕ). course_of o.state.loop z o.state.asked) p.turns
     ∙ ap (λ (z : Option Halt). let d : Course KEnd = record { loop = o.state.loop; turns = o.state.turns; halt = z; asked = o.state.asked } in d) p.halt
 
-newest-append : (from : ℕ) (xs ys : List ℕ) → newest from (xs ++ ys) ≡ newest (newest from xs) ys
+pub newest-append : (from : ℕ) (xs ys : List ℕ) → newest from (xs ++ ys) ≡ newest (newest from xs) ys
 newest-append from [] ys = refl
 newest-append from (x ∷ xs) ys = newest-append x xs ys
 
@@ -171,7 +171,7 @@ ran_all plan a b c l n many p is = record {
 
 pub ran_off : (plan : Plan) (a m b : Around) (c : Course KEnd) (l : Loop KEnd) (n many : ℕ) (fault : LoopFault)
     → RanSome plan a m c l n many → many + 1 ≤ plan.turns
-    → ((asked : List ℕ) → WentOff (LiesInTurn kept_ends plan (course_of l n asked)) m b fault)
+    → ((asked : List ℕ) → WentOff (LiesInTurn plan m.newest (course_of l n asked)) m b fault)
     → RanOff plan a b c fault
 unfolding lies_acts
 ran_off plan a m b c l n many fault p fits q =
@@ -180,8 +180,9 @@ ran_off plan a m b c l n many fault p fits q =
     record {
       cut = behind o t.cut;
       lies = lies_acts kept_ends plan c (behind o t.cut) p.answers (let h = p.count in omega (arith, h, fits)) (sym p.is.halt) t.answers t.cut
-          (subst (λ (z : Course KEnd). LiesInTurn kept_ends plan z t.answers t.cut) (course_is a m c l n o p.is) t.lies) refl;
-      rises = subst (λ (z : Out (Course KEnd)). Rises a.newest (opened_in z.calls)) (sym (run_many kept_ends plan c p.answers)) p.is.rises;
+          (subst (λ (z : Course KEnd). LiesIn (went kept_ends plan z t.answers) t.cut) (course_is a m c l n o p.is) t.lies.lies) refl;
+      rises = subst (λ (z : Out (Course KEnd)). Rises a.newest (opened_in z.calls ++ opened_by t.answers.happening)) (sym (run_many kept_ends plan c p.answers))
+          (rises-append a.newest (opened_in o.calls) (opened_by t.answers.happening) p.is.rises (subst (λ z. Rises z (opened_by t.answers.happening)) p.is.opened t.lies.rises));
       broke = broke_behind a.seen m.seen b.seen o.state o t.cut fault p.is.acted t.broke;
     }
 

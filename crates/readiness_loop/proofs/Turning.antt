@@ -99,7 +99,7 @@ unfolding opened_in
 answered_opens None plan l conn = refl
 answered_opens (Some mind) plan l conn = refl
 
-happened_opens : (plan : Plan) (l : Loop KEnd) (what : Happening) (a : Met) → opened_in (happened kept_ends plan l what a).calls ≡ []
+pub happened_opens : (plan : Plan) (l : Loop KEnd) (what : Happening) (a : Met) → opened_in (happened kept_ends plan l what a).calls ≡ []
 unfolding happened accepted opened_in
 happened_opens plan l (happening.Accepted conn) a =
     elim (cases_Bool (nat_lt (length l.sessions) most_live)) [
@@ -191,9 +191,10 @@ went_off : (plan : Plan) (h i : SinkState) (calls mid now : WiresState) (k j : C
     (l : Loop KEnd) (n : ℕ) (asked : List ℕ) (at : Option ℕ) (what : Happening) (second : ℕ) (fault : LoopFault)
     → at ≡ until kept_ends l.sessions → Grew calls.calls mid.calls (Turns at what ∷ []) → calls.faults ≤ mid.faults
     → Stopped (seen h mid) (seen i now) (happened kept_ends plan (record l { moment = max l.moment second }) what) fault
-    → WentOff (LiesBehind plan (course_of l n asked)) (around h calls k) (around i now j) fault
+    → ((conn : Conn) → what ≡ happening.Accepted conn → conn.0 ≡ calls.opened + 1)
+    → WentOff (LiesBehind plan calls.opened (course_of l n asked)) (around h calls k) (around i now j) fault
 unfolding met_in
-went_off plan h i calls mid now k j l n asked at what second fault due told less p =
+went_off plan h i calls mid now k j l n asked at what second fault due told less p number =
     let c = course_of l n asked in
     let a = met_in what second p.answers in
     let d : Course KEnd = record { loop = record l { moment = max l.moment second }; turns = n + 1; halt = None; asked = asked ++ second ∷ [] } in
@@ -203,7 +204,7 @@ went_off plan h i calls mid now k j l n asked at what second fault due told less
     record {
       answers = a;
       cut = behind (turn kept_ends c a) rest;
-      lies = record { rest = rest; lies = cut_lies (seen h mid) (seen i now) (follows kept_ends plan d a) fault breaks; is = refl };
+      lies = record { rest = rest; lies = cut_lies (seen h mid) (seen i now) (follows kept_ends plan d a) fault breaks; is = refl; rises = (newest_by what calls.opened (opened_by_turn what calls.opened) refl number).1 };
       broke = broke_behind (seen h calls) (seen h mid) (seen i now) d (turn kept_ends c a) rest fault first
           (cut_broke (seen h mid) (seen i now) (follows kept_ends plan d a) fault breaks);
     }
@@ -212,12 +213,13 @@ pub turned_off : (plan : Plan) (h i : SinkState) (calls mid now : WiresState) (k
     (l new : Loop KEnd) (n m : ℕ) (asked : List ℕ) (at : Option ℕ) (what : Happening) (second : ℕ) (fault : LoopFault)
     → at ≡ until kept_ends l.sessions → Grew calls.calls mid.calls (Turns at what ∷ []) → calls.faults ≤ mid.faults
     → Stopped (seen h mid) (seen i now) (happened kept_ends plan (record l { moment = max l.moment second }) what) fault
+    → ((conn : Conn) → what ≡ happening.Accepted conn → conn.0 ≡ calls.opened + 1)
     → Turned plan (around h calls k) (around i now j) (course_of l n asked) new m (Err fault)
-turned_off plan h i calls mid now k j l new n m asked at what second Wires due told less p = absurd p.breaks.failed
-turned_off plan h i calls mid now k j l new n m asked at what second Sink due told less p =
-    went_off plan h i calls mid now k j l n asked at what second Sink due told less p
-turned_off plan h i calls mid now k j l new n m asked at what second (NoMemory want) due told less p =
-    went_off plan h i calls mid now k j l n asked at what second (NoMemory want) due told less p
+turned_off plan h i calls mid now k j l new n m asked at what second Wires due told less p number = absurd p.breaks.failed
+turned_off plan h i calls mid now k j l new n m asked at what second Sink due told less p number =
+    went_off plan h i calls mid now k j l n asked at what second Sink due told less p number
+turned_off plan h i calls mid now k j l new n m asked at what second (NoMemory want) due told less p number =
+    went_off plan h i calls mid now k j l n asked at what second (NoMemory want) due told less p number
 
 not_failed : (plan : Plan) (ss : List (Session KEnd)) → Some OnFailed ≡ halt_by plan ss → ⊥
 not_failed plan ss p =
@@ -313,7 +315,8 @@ pub turn_stops : (plan : Plan) (h i : SinkState) (calls mid now : WiresState) (k
     (l new : Loop KEnd) (n count m : ℕ) (asked : List ℕ) (at : Option ℕ) (what : Happening) (second : ℕ) (fault : LoopFault)
     → at ≡ until kept_ends l.sessions → Grew calls.calls mid.calls (Turns at what ∷ []) → calls.faults ≤ mid.faults → m ≡ max l.moment second
     → Stopped (seen h mid) (seen i now) (happened kept_ends plan (record l { moment = m }) what) fault
+    → ((conn : Conn) → what ≡ happening.Accepted conn → conn.0 ≡ calls.opened + 1)
     → Turned plan (around h calls k) (around i now j) (course_of l n asked) new count (Err fault)
-turn_stops plan h i calls mid now k j l new n count m asked at what second fault due told less moment p =
+turn_stops plan h i calls mid now k j l new n count m asked at what second fault due told less moment p number =
     turned_off plan h i calls mid now k j l new n count asked at what second fault due told less
-    (subst (λ t. Stopped (seen h mid) (seen i now) (happened kept_ends plan (record l { moment = t }) what) fault) moment p)
+    (subst (λ t. Stopped (seen h mid) (seen i now) (happened kept_ends plan (record l { moment = t }) what) fault) moment p) number

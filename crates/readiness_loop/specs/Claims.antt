@@ -28,7 +28,7 @@ use Rattle.loop_model.specs.Recordings.{IsReplayed}
 use Rattle.loop_session.specs.declared.loop_fault.LoopFault.{LoopFault}
 use Rattle.loop_session.specs.declared.loop_fault.LoopFault.TheVariants as fault
 use Rattle.loop_visit.specs.Seeing.{Seen, seen, AreAnsweredSo, Counts}
-use Rattle.readiness_loop.specs.Cuts.{Cut, LiesIn, behind, with_turns, LiesInRun}
+use Rattle.readiness_loop.specs.Cuts.{Cut, LiesIn, behind, IsToldFirst, with_turns, LiesInRun}
 use Rattle.readiness_loop.specs.declared.line_plan.LinePlan.{LinePlan}
 use Rattle.readiness_loop.specs.declared.line_plan.Served.{Served}
 use Rattle.readiness_loop.specs.declared.line_plan.Stop.{Stop}
@@ -159,6 +159,7 @@ pub data BreaksOffServing (before now : Outside) (plan : Plan) (address : List �
   -- the whole turns before the cut are lawful
   InServing : (cut : Cut) (lies : LiesInRun model_ends plan (beginning minds words) cut)
       → IsLawful (with_turns plan (length lies.turns)) (serves model_ends (with_turns plan (length lies.turns)) (beginning minds words) address true lies.turns)
+      → IsToldFirst cut
       → IsCutAt before now (header plan.settings ++ text_of cut) (Listens address true ∷ calls_of cut)
       → BreaksOffServing before now plan address minds words
 
@@ -202,11 +203,13 @@ pub data BreaksOffDialling (before now : Outside) (plan : Plan) (caller : Caller
   InDiallingHeader : (conn : ℕ) (part rest : List ℕ) → part ++ rest ≡ header plan.settings → IsCutAt before now part (Dials address (Some conn) ∷ [])
       → BreaksOffDialling before now plan caller address minds words
   InOpening : (conn first : ℕ) (met : Met) (cut : Cut) → LiesIn (opening plan caller minds words conn first met) cut
+      → IsToldFirst cut
       → IsCutAt before now (header plan.settings ++ text_of cut) (Dials address (Some conn) ∷ calls_of cut)
       → BreaksOffDialling before now plan caller address minds words
   InDialling : (conn first : ℕ) (met : Met) (rest cut : Cut) (lies : LiesInRun model_ends plan (opening plan caller minds words conn first met).state rest)
       → IsLawful (with_turns plan (length lies.turns)) (dials model_ends (with_turns plan (length lies.turns)) caller (beginning minds words) address (dialled conn first met lies.turns))
       → cut ≡ behind (opening plan caller minds words conn first met) rest
+      → IsToldFirst cut
       → IsCutAt before now (header plan.settings ++ text_of cut) (Dials address (Some conn) ∷ calls_of cut)
       → BreaksOffDialling before now plan caller address minds words
 

@@ -19,7 +19,7 @@ use Rattle.loop_model.specs.Outs.{Out}
 use Rattle.loop_model.specs.Sessions.{Session}
 use Rattle.loop_model.specs.Visits.{Met}
 use Rattle.loop_model.specs.Loops.{Plan, Loop, Halt, OnEnded, OnClosed, OnFailed, Course, Turn, turn, follows, went, turned_unless, run, asks, opens, begun, Caller}
-use Rattle.loop_model.specs.Parts.{opened_in, Rises, newest}
+use Rattle.loop_model.specs.Parts.{opened_in, opened_by, Rises, newest}
 use Rattle.loop_session.specs.declared.loop_fault.LoopFault.{LoopFault}
 use Rattle.loop_session.specs.declared.loop_fault.LoopFault.TheVariants.{Wires, Sink, NoMemory}
 use Rattle.loop_session.specs.Parts.{FailedFor}
@@ -32,7 +32,7 @@ use Rattle.readiness_loop.specs.declared.live_loop.Next.TheVariants as next
 use Rattle.link_trait.specs.declared.wires.Happening.{Happening}
 use Rattle.link_trait.specs.declared.wires.Happening.TheVariants as happening
 use Rattle.readiness_loop.specs.Books.{sessions, AreSeated}
-use Rattle.readiness_loop.specs.Cuts.{Cut, LiesIn, behind, LiesInTurn, first_turns, LiesInRun}
+use Rattle.readiness_loop.specs.Cuts.{Cut, LiesIn, behind, first_turns, LiesInRun}
 use Rattle.readiness_loop.specs.Claims.{Outside, halt_for, HasServed, FailsToServe, BreaksOffServing, HasDialled, FailsToDial, BreaksOffDialling}
 
 -- what the code goes by, as a plan
@@ -96,11 +96,17 @@ pub record WentOff {A : Type 0} (Lies : A → Cut → Type 0) (a b : Around) (fa
   pub lies : Lies answers cut
   pub broke : Broke a.seen b.seen cut fault
 
--- it lies behind a turn, in what follows that
-pub record LiesBehind (plan : Plan) (c : Course KEnd) (x : Turn) (cut : Cut) : Type 0 where
+-- it lies behind a turn, in what follows that; a connection that is accepted is above those before
+pub record LiesBehind (plan : Plan) (low : ℕ) (c : Course KEnd) (x : Turn) (cut : Cut) : Type 0 where
   pub rest : Cut
   pub lies : LiesIn (follows kept_ends plan (turn kept_ends c x).state x) rest
   pub is : cut ≡ behind (turn kept_ends c x) rest
+  pub rises : Rises low (opened_by x.happening)
+
+-- it lies in a turn, with what comes before and behind it
+pub record LiesInTurn (plan : Plan) (low : ℕ) (c : Course KEnd) (x : Turn) (cut : Cut) : Type 0 where
+  pub lies : LiesIn (went kept_ends plan c x) cut
+  pub rises : Rises low (opened_by x.happening)
 
 -- a turn failed, and the count of such faults rose
 pub record WentWrong {A : Type 0} (model : A → Out (Course KEnd)) (a b : Around) (c : Course KEnd) (l : Loop KEnd) (n : ℕ) : Type 0 where
@@ -120,16 +126,16 @@ Goes model lies a b c l n (Err (NoMemory want)) = WentOff lies a b (NoMemory wan
 
 -- a turn and what follows it; and with what comes before it
 abbrev pub Turned : Plan → Around → Around → Course KEnd → Loop KEnd → ℕ → Result Next LoopFault → Type 0
-Turned plan a b c l n r = Goes (turned_unless kept_ends None plan c) (LiesBehind plan c) a b c l n r
+Turned plan a b c l n r = Goes (turned_unless kept_ends None plan c) (LiesBehind plan a.newest c) a b c l n r
 
 abbrev pub Turns : Plan → Around → Around → Course KEnd → Loop KEnd → ℕ → Result Next LoopFault → Type 0
-Turns plan a b c l n r = Goes (went kept_ends plan c) (LiesInTurn kept_ends plan c) a b c l n r
+Turns plan a b c l n r = Goes (went kept_ends plan c) (LiesInTurn plan a.newest c) a b c l n r
 
 -- a run of turns broke off
 pub record RanOff (plan : Plan) (a b : Around) (c : Course KEnd) (fault : LoopFault) : Type 0 where
   pub cut : Cut
   pub lies : LiesInRun kept_ends plan c cut
-  pub rises : Rises a.newest (opened_in (first_turns kept_ends plan c lies.turns).calls)
+  pub rises : Rises a.newest (opened_in (first_turns kept_ends plan c lies.turns).calls ++ opened_by lies.last.happening)
   pub broke : Broke a.seen b.seen cut fault
 
 -- a run of turns

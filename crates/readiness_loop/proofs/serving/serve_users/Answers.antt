@@ -35,6 +35,7 @@ returns-clause-does g c =
       heard = c.octets_taken.ensures;
       replayed = c.recordings.ensures;
       in_order = c.order.ensures.kept;
+      opening = c.order.ensures.opening;
       replies = c.replies.ensures;
       users = c.hearing.ensures.live;
       faults = c.faults.ensures;

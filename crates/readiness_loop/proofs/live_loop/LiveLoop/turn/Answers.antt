@@ -20,4 +20,4 @@ returns-in-Err-clause-does g c = λ asked.
     (g.S.Sink.state c.args.sink.now) (g.S.Sink.state c.react.new.sink)
     (g.W.Wires.state c.args.wires.now) (g.W.Wires.state c.turn-happening.new.self) (g.W.Wires.state c.react.new.wires) (g.C.Clock.state c.args.clock.now) (g.C.Clock.state c.now.new.self)
     (loop_of c.args.self.now.book.slots c.args.self.now.book.places (map g.U.SafeUser.mind c.args.self.now.users.items) c.args.self.now.moment (g.R.Rng.stream c.args.randoms.now)) _ c.args.self.now.turns c.react.new.self.turns c.max-self.result asked c.args.until c.turn-happening.result c.now.result c.in-Err.fault
-    c.requires.until c.turn-happening.ensures.told c.turn-happening.ensures.count c.max-self.ensures c.in-Err.ensures.does
+    c.requires.until c.turn-happening.ensures.told c.turn-happening.ensures.count c.max-self.ensures c.in-Err.ensures.does c.turn-happening.ensures.number
