@@ -1,6 +1,6 @@
 -- In which order a loop prints and calls.
 use Rattle.loop_model.specs.Ends.{ModelEnd, model_ends}
-use Rattle.std.proofs.Common.{◌≡◌, ℕ, ◌<◌, ◌≤◌, max, inl, inr, Bool, true, false, if◌then◌else◌, List, [], ◌∷◌, ◌++◌, Option, Some, None, refl, sym, ◌∙◌, ap, subst, subst₂, append-nil, append_assoc, arith, eqb-true, ne_eqb, true≢false}
+use Rattle.std.proofs.Common.{◌≡◌, ℕ, ◌<◌, ◌≤◌, inl, inr, Bool, true, false, if◌then◌else◌, List, [], ◌∷◌, ◌++◌, Option, Some, None, refl, sym, ◌∙◌, ap, subst, subst₂, append-nil, append_assoc, arith, eqb-true, ne_eqb, true≢false}
 use Rattle.std.specs.Prelude.{◌==◌, nat_le}
 use Rattle.std.proofs.lemmas.Bool.{cases_Bool}
 use Rattle.std.proofs.lemmas.Bool.Decides.{nat_tests}
@@ -8,7 +8,7 @@ use Rattle.er_trace.specs.declared.event.Event.{Event}
 use Rattle.er_trace.specs.declared.event.Event.TheVariants as event
 use Rattle.er_users.specs.Users.{Mind}
 use Rattle.rand_core.specs.Stream.{next_u64}
-use Rattle.link_trait.specs.Wires.{Call, Listens, Dials, Turns, Closes, given_of}
+use Rattle.link_trait.specs.Wires.{Call, Dials, Turns, Closes, given_of}
 use Rattle.link_trait.specs.declared.wires.Conn.{Conn}
 use Rattle.link_trait.specs.declared.wires.Happening.{Happening}
 use Rattle.link_trait.specs.declared.wires.Happening.TheVariants as happening
@@ -24,7 +24,7 @@ use Rattle.loop_model.specs.Parts.{session_of, of, calls_at, is_at, opened_in, o
 use Rattle.loop_model.specs.Laws.{octets_of, IsBeginning}
 use Rattle.loop_model.specs.Orderings.{IsSilent, IsSequenced, OrderIsKept, OpeningIsKept}
 use Rattle.loop_model.proofs.Projections.{of-append, calls_at-append, opened_in-append, rises_first, rises_rest, newest-append, newest_later}
-use Rattle.loop_model.proofs.Steadies.{Steady, Calls, AllLeft, all_left_of, Left, Stays, Closed, left_visited, left_served, steady_handled}
+use Rattle.loop_model.proofs.Steadies.{Steady, AllLeft, all_left_of, Left, Stays, Closed, left_visited, left_served, steady_handled}
 use Rattle.loop_model.proofs.Lives.{Own, Keeps, Moved, Absent, Found, moved, Fits, Knows, knows_none, knows_moved, knows_turned, knows_opened, knows_away, accepted_above}
 use Rattle.loop_model.proofs.Owns.{Both, steady_both, calls_both, usual_calls, own_steady}
 use Rattle.loop_model.proofs.Orders.{own_calls}
@@ -34,7 +34,7 @@ use Rattle.loop_model.proofs.Givings as givings
 use Rattle.loop_model.proofs.Givings.{Given_so, given_in, given_at, all_given, octets_of-append}
 use Rattle.loop_model.proofs.Closings as closings
 use Rattle.loop_model.proofs.Closings.{NoClose, no_close-append}
-use Rattle.loop_model.proofs.Sequencing.{given_of-append, given_to, told_to, given_parts, told_parts, Goes, goes_then, goes_place, nothing_goes, EndsAtClose, Holding, so_served, so_visited}
+use Rattle.loop_model.proofs.Sequencing.{given_of-append, given_to, told_to, Goes, goes_then, goes_place, nothing_goes, EndsAtClose, Holding, so_served, so_visited}
 use Rattle.loop_model.proofs.Orderwise.{away, Orderwise, run_wise}
 
 -- ---- what is known of each connection: what was told and given, and that a live one wasn't closed
@@ -279,8 +279,8 @@ left_silent n s ts xs cs (Stays t p q) e = (q.entries n ∙ if_none (s.number ==
 left_silent n s ts xs cs (Closed t ds over p is q) e = (
   q.entries n ∙ if_none (s.number == n) xs e,
   ap (λ z. calls_at n z) is ∙ calls_at-append n ds (Closes t.number ∷ [])
-  ∙ ap (λ z. z ++ calls_at n (Closes t.number ∷ [])) (q.calls n ∙ if_none (s.number == n) ds e)
-  ∙ if_none (t.number == n) (Closes t.number ∷ []) (subst (λ z. (z == n) ≡ false) (sym q.number) e),
+      ∙ ap (λ z. z ++ calls_at n (Closes t.number ∷ [])) (q.calls n ∙ if_none (s.number == n) ds e)
+      ∙ if_none (t.number == n) (Closes t.number ∷ []) (subst (λ z. (z == n) ≡ false) (sym q.number) e),
 )
 
 -- silent deeds give and tell nothing

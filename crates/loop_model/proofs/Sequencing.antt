@@ -1,6 +1,6 @@
 -- In which order a visit prints and calls: what it gives was told before, and a close comes last.
 use Rattle.loop_model.specs.Ends.{ModelEnd, model_ends}
-use Rattle.std.proofs.Common.{◌≡◌, ℕ, inl, inr, Bool, true, false, ◌&&◌, ◌||◌, if◌then◌else◌, List, [], ◌∷◌, ◌++◌, length, take, drop, Option, Some, None, refl, sym, ◌∙◌, ap, subst, subst₂, append-nil, append_assoc, true≢false, take-append-drop, eq-eqb}
+use Rattle.std.proofs.Common.{◌≡◌, ℕ, inl, inr, Bool, true, false, ◌&&◌, ◌||◌, if◌then◌else◌, List, [], ◌∷◌, ◌++◌, length, take, drop, refl, sym, ◌∙◌, ap, subst, subst₂, append-nil, append_assoc, true≢false, take-append-drop, eq-eqb}
 use Rattle.std.specs.Prelude.{◌==◌}
 use Rattle.std.proofs.lemmas.Bool.{cases_Bool}
 use Rattle.link_trait.specs.Wires.{Call, Reading, Gave, NotNow, End, Failed, Reads, Writes, Closes, given_by, given_of}
@@ -8,9 +8,9 @@ use Rattle.link_trait.specs.declared.wires.WriteAnswer.{WriteAnswer}
 use Rattle.link_trait.specs.declared.wires.WriteAnswer.TheVariants as write
 use Rattle.loop_model.specs.Journals.{Entry}
 use Rattle.loop_model.specs.Deeds.{Deed, Printing, Calling, entries_in, calls_in, printings}
-use Rattle.loop_model.specs.Outs.{Out, next, prints, makes, acts, exactly, first_of}
+use Rattle.loop_model.specs.Outs.{next, acts, exactly, first_of}
 use Rattle.loop_model.specs.Signs.{entries_parts, calls_parts, printings_entries, printings_calls}
-use Rattle.loop_model.specs.Sessions.{Rules, Session, is_released, Given, Ticks, Ends, Faults, Says, nothing_said, handled, pours}
+use Rattle.loop_model.specs.Sessions.{Rules, Session, is_released, Given, Ticks, Ends, Faults, Says, nothing_said, handled}
 use Rattle.loop_model.specs.Visits.{most_read, Flow, Going, PutOff, Failing, after_write, writes_once, writes, Wrote, closed, stays, Visit, Tick, Read, Write, Expire, Met, is_due, fault_unless, flowed, written_unless, written, settled, rests, came, read_once, rests_behind, served, visited}
 use Rattle.loop_model.specs.Parts.{of}
 use Rattle.loop_model.specs.Laws.{octets_of, IsBeginning, is_close}
@@ -59,8 +59,8 @@ goes_then conn g t [] es p q = goes_as conn (g ++ []) g (t ++ []) t es (append-n
 goes_then conn g t (d ∷ ds) es p q = (
   p.0,
   goes_then conn (g ++ given_to conn (d ∷ [])) (t ++ told_to conn (d ∷ [])) ds es p.1
-  (goes_as conn _ _ _ _ es (again g (given_to conn (d ∷ [])) (given_to conn ds) (given_to conn (d ∷ ds)) (given_parts conn (d ∷ []) ds))
-  (again t (told_to conn (d ∷ [])) (told_to conn ds) (told_to conn (d ∷ ds)) (told_parts conn (d ∷ []) ds)) q),
+      (goes_as conn _ _ _ _ es (again g (given_to conn (d ∷ [])) (given_to conn ds) (given_to conn (d ∷ ds)) (given_parts conn (d ∷ []) ds))
+      (again t (told_to conn (d ∷ [])) (told_to conn ds) (told_to conn (d ∷ ds)) (told_parts conn (d ∷ []) ds)) q),
 )
 
 goes_first : (conn : ℕ) (g t : List ℕ) (ds : List Deed) → Goes conn g t ds → IsBeginning g t
@@ -87,7 +87,7 @@ nothing_goes conn g t (d ∷ ds) p q b =
     let f = empty_parts (told_to conn (d ∷ [])) (told_to conn ds) (sym (told_parts conn (d ∷ []) ds) ∙ q) in (
       b,
       nothing_goes conn (g ++ given_to conn (d ∷ [])) (t ++ told_to conn (d ∷ [])) ds e.1 f.1
-      (begins_as g _ t _ (sym (ap (λ z. g ++ z) e.0 ∙ append-nil g)) (sym (ap (λ z. t ++ z) f.0 ∙ append-nil t)) b),
+          (begins_as g _ t _ (sym (ap (λ z. g ++ z) e.0 ∙ append-nil g)) (sym (ap (λ z. t ++ z) f.0 ∙ append-nil t)) b),
     )
 
 begins_more : (g t u : List ℕ) → IsBeginning g t → IsBeginning g (t ++ u)
@@ -99,7 +99,7 @@ lines_go conn g t [] b = b
 lines_go conn g t (x ∷ xs) b = (
   b,
   lines_go conn (g ++ []) (t ++ told_to conn (Printing x ∷ [])) xs
-  (subst (λ z. IsBeginning z (t ++ told_to conn (Printing x ∷ []))) (sym (append-nil g)) (begins_more g t (told_to conn (Printing x ∷ [])) b)),
+      (subst (λ z. IsBeginning z (t ++ told_to conn (Printing x ∷ []))) (sym (append-nil g)) (begins_more g t (told_to conn (Printing x ∷ [])) b)),
 )
 
 -- ---- closes

@@ -1,5 +1,5 @@
 -- Lemmas: the events and the calls of each part of the loop are those of its one order; for the proofs of this crate and of those above.
-use Rattle.std.proofs.Common.{◌≡◌, ℕ, Bool, true, false, if◌then◌else◌, List, [], ◌∷◌, ◌++◌, length, drop, Option, Some, None}
+use Rattle.std.proofs.Common.{ℕ, Bool, true, false, if◌then◌else◌, List, [], ◌∷◌, ◌++◌, length, drop, Option, Some, None}
 use Rattle.std.specs.Prelude.{◌==◌, ◌&&◌, ◌||◌, nat_lt}
 use Rattle.rand_core.specs.Stream.{next_u64}
 use Rattle.er_trace.specs.declared.event.Event.{Event}

@@ -11,9 +11,9 @@ use Rattle.er_trace.specs.declared.event.Event.{Event}
 use Rattle.er_trace.specs.declared.event.Event.TheVariants as event
 use Rattle.er_users.specs.Users.{Mind}
 use Rattle.link_trait.specs.States.{SinkState, WiresState}
-use Rattle.link_trait.specs.Outside.{Grew, GrewPart}
+use Rattle.link_trait.specs.Outside.{Grew}
 use Rattle.link_trait.specs.Growth.{grew_nothing, part_nothing, part_whole}
-use Rattle.link_trait.specs.Wires.{Call, Closes}
+use Rattle.link_trait.specs.Wires.{Closes}
 use Rattle.loop_model.specs.Grammar.{IsInGrammar}
 use Rattle.loop_model.specs.Journals.{Entry, text}
 use Rattle.loop_model.specs.Deeds.{Deed, Printing, Calling}

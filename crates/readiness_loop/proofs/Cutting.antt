@@ -1,8 +1,8 @@
 -- Where a part broke off, as a cut.
-use Rattle.std.proofs.Common.{◌≡◌, List, ◌++◌, sym, ◌∙◌, ap, subst, append_assoc}
+use Rattle.std.proofs.Common.{◌≡◌, ◌++◌, sym, ◌∙◌, ap, subst, append_assoc}
 use Rattle.link_trait.specs.Outside.{Grew}
 use Rattle.link_trait.specs.Growth.{grew_then}
-use Rattle.loop_model.specs.Deeds.{Deed, Sign, signs, text_of, calls_of}
+use Rattle.loop_model.specs.Deeds.{signs, calls_of}
 use Rattle.loop_model.specs.Signs.{signs_parts}
 use Rattle.loop_model.specs.Outs.{Out, next}
 use Rattle.loop_session.specs.declared.loop_fault.LoopFault.{LoopFault}
@@ -33,10 +33,6 @@ broke_behind a b c s o cut fault p q = record {
   counted = subst (λ z. Counts a.failed c.failed z) (calls_are o cut p.has_order) (counts_then a.failed b.failed c.failed o.calls (calls_of cut) p.counted q.counted);
   failed = failed_behind a.sunk b.sunk c.sunk fault p.later q.failed;
 }
-
--- behind two parts, one behind the other
-pub behind_next : {S T : Type 0} (o : Out S) (f : S → Out T) (cut : Cut) → behind o (behind (f o.state) cut) ≡ behind (next o f) cut
-behind_next o f cut = sym (append_assoc (signs o.order) (signs (f o.state).order) cut) ∙ ap (λ z. z ++ cut) (sym (signs_parts o.order (f o.state).order))
 
 -- a part that is spelled otherwise
 pub lies_as : {S T : Type 0} (o : Out S) (p : Out T) (cut : Cut) → o.order ≡ p.order → LiesIn o cut → LiesIn p cut

@@ -1,21 +1,16 @@
 -- A cut in a loop over ends as they are kept is one in the loop over ends of the end model.
-use Rattle.std.proofs.Common.{◌≡◌, ℕ, List, [], ◌∷◌, ◌++◌, Option, Some, None, length, refl, sym, ◌∙◌, ap, subst, append-nil, append_assoc}
+use Rattle.std.proofs.Common.{◌≡◌, List, [], ◌∷◌, ◌++◌, None, length, sym, ◌∙◌, ap, subst}
 use Rattle.rand_core.specs.Stream.{Stream}
 use Rattle.er_settings.specs.Ranges.{AllAllowed}
 use Rattle.er_end.specs.KeptEnds.{KEnd}
 use Rattle.er_users.specs.Users.{Mind}
-use Rattle.link_trait.specs.Wires.{Call, Listens, Dials, Turns, Reads, Writes, Closes}
-use Rattle.link_trait.specs.declared.wires.Happening.TheVariants as happening
 use Rattle.loop_model.specs.Ends.{EndOps, ModelEnd, model_ends}
-use Rattle.loop_model.specs.Deeds.{Deed, Printing, Calling, calls_in, signs}
-use Rattle.loop_model.specs.Outs.{Out, HasOrder, next, acts}
-use Rattle.loop_model.specs.Orderly.{order_readied}
-use Rattle.loop_model.specs.Laws.{turns_of}
-use Rattle.loop_model.specs.Loops.{Plan, Halt, Course, Turn, beginning, halt_by, happened, readied, turn, follows, turned_unless, went_unless, went, rules_of, asks}
+use Rattle.loop_model.specs.Deeds.{signs}
+use Rattle.loop_model.specs.Outs.{Out, acts}
+use Rattle.loop_model.specs.Loops.{Plan, Course, Turn, beginning, went}
 use Rattle.loop_session.specs.Keeping.{kept_ends}
 use Rattle.loop_session.specs.Standing.{RunsAlike}
 use Rattle.readiness_loop.specs.Cuts.{Cut, LiesIn, behind, LiesInRun}
-use Rattle.readiness_loop.proofs.Openings.{before_turns}
 use Rattle.readiness_loop.proofs.Sweeps.{after}
 use Rattle.readiness_loop.proofs.Cutting.{lies_as}
 use Rattle.readiness_loop.proofs.Planned.{many, run_many, lies_acts}

@@ -1,17 +1,17 @@
 -- What is done before a cut is done in order; and the numbers of the connections that are opened in the turns up to it rise.
 use Rattle.er_end.specs.KeptEnds.{KEnd}
 use Rattle.loop_session.specs.Keeping.{kept_ends}
-use Rattle.std.proofs.Common.{◌≡◌, ◌⊎◌, ℕ, true, false, inl, inr, List, [], ◌∷◌, ◌++◌, Option, Some, None, length, refl, sym, ◌∙◌, ap, subst, append-nil, append_assoc}
+use Rattle.std.proofs.Common.{◌≡◌, ◌⊎◌, ℕ, inl, inr, List, [], ◌∷◌, ◌++◌, Option, Some, None, refl, sym, ◌∙◌, ap, subst, append-nil, append_assoc}
 use Rattle.std.specs.Prelude.{◌==◌}
 use Rattle.std.proofs.lemmas.Bool.{cases_Bool}
-use Rattle.link_trait.specs.Wires.{Dials, Turns, Closes, given_of}
+use Rattle.link_trait.specs.Wires.{Dials, Closes, given_of}
 use Rattle.loop_model.specs.Ends.{EndOps, ModelEnd}
 use Rattle.loop_model.specs.Journals.{entry_text}
 use Rattle.loop_model.specs.Deeds.{Deed, Printing, Calling, entries_in, calls_in, Sign, Octet, OnWires, octet_signs, signs}
 use Rattle.loop_model.specs.Outs.{Out, acts}
-use Rattle.loop_model.specs.Loops.{Plan, Halt, Course, Turn, readied, turn, follows, turned_unless, went_unless, went, run}
+use Rattle.loop_model.specs.Loops.{Plan, Halt, Course, Turn, readied, turn, follows, turned_unless, went_unless, went}
 use Rattle.loop_model.specs.Parts.{of, is_at, calls_at, opened_in, opened_by, Rises}
-use Rattle.loop_model.specs.Orderings.{GivesTold, IsSilent, IsSequenced}
+use Rattle.loop_model.specs.Orderings.{IsSilent, IsSequenced}
 use Rattle.loop_session.specs.declared.loop_fault.LoopFault.{LoopFault}
 use Rattle.readiness_loop.specs.Cuts.{Cut, LiesIn, behind, IsToldFirst, first_turns, LiesInRun}
 use Rattle.readiness_loop.specs.Courses.{Around, RanOff}
