@@ -45,7 +45,7 @@ pub record IsMade (keys : (engine rbc : ℕ) → Option TripleKey) (moment : ℕ
 -- what an end hears of the octets that are passed to it; a station has no safety layer
 abbrev pub IsHeard : (keys : (engine rbc : ℕ) → Option TripleKey) (moment : ℕ) → End → (earlier octets heard : List ℕ) → Type 0
 IsHeard keys moment (OfSafe side) earlier octets heard = heard ≡ octets
-IsHeard keys moment (OfStation station stream) earlier octets heard = ⊥
+IsHeard keys moment (OfStation selective station stream) earlier octets heard = ⊥
 IsHeard keys moment (OfStack m) earlier octets heard = IsMade keys moment m earlier octets heard
 
 -- what was heard at a side of a link behind this history is what the newest pass brought it from the other side: the link's own steps up to that

@@ -75,16 +75,19 @@ went_on w n a = (with_link w n a.0, map (On n) a.1)
 abbrev pub fixed_opening : Level → (engine rbc : ℕ) (ke kr : TripleKey) → Option LinkOpening
 fixed_opening level.Safe engine rbc ke kr = Some (OfPair (OfFixed engine rbc ke kr))
 fixed_opening level.Link engine rbc ke kr = None
+fixed_opening level.LinkSr engine rbc ke kr = None
 fixed_opening level.Full engine rbc ke kr = None
 
 abbrev pub link_opening : Level → (engine rbc : ℕ) (ke : TripleKey) (kr : Option TripleKey) (ra rb : ℕ) → Option LinkOpening
 link_opening level.Safe engine rbc ke kr ra rb = Some (OfPair (OfKeys engine rbc ke kr ra rb))
 link_opening level.Link engine rbc ke kr ra rb = None
+link_opening level.LinkSr engine rbc ke kr ra rb = None
 link_opening level.Full engine rbc ke kr ra rb = Some (OfStacks engine rbc ke kr ra rb)
 
 abbrev pub wire_opening : Level → Option LinkOpening
 wire_opening level.Safe = None
-wire_opening level.Link = Some OfStations
+wire_opening level.Link = Some (OfStations false)
+wire_opening level.LinkSr = Some (OfStations true)
 wire_opening level.Full = None
 
 -- link n is opened, where it is the number of a link that wasn't

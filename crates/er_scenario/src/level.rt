@@ -10,6 +10,8 @@ pub enum Level {
     Link,
     /// The whole stack: what waits between two ends are frames, from flag to flag.
     Full,
+    /// Two HDLC stations with selective reject: what waits between them are frames, from flag to flag.
+    LinkSr,
 }
 
 const ALL_LEVELS: [Level; 3] = [Level::Safe, Level::Link, Level::Full];
