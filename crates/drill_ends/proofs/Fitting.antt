@@ -6,8 +6,8 @@ use Rattle.std.proofs.lemmas.Bool.{cond_both, ltb-false}
 use Rattle.std.proofs.lemmas.List.{length-drop, length-take}
 use Rattle.std.proofs.lemmas.Option.{same_Some}
 use Rattle.hdlc_fcs.specs.FrameCheck.{fcs_of}
-use Rattle.hdlc_fcs.specs.Contents.{shortest, address_of, body_of}
-use Rattle.hdlc_frames.specs.Framing.{Verdict, Frame, TooLong, TooShort, BadFcs, Aborted, longest, checked_part, check_number, ends_in_escape, unescaped, verdict_on_content, verdict_on, has_octets, between_flags, frames_of}
+use Rattle.hdlc_fcs.specs.Contents.{shortest, address_of, checked_part, body_of}
+use Rattle.hdlc_frames.specs.Framing.{Verdict, Frame, TooLong, TooShort, BadFcs, Aborted, longest, check_number, ends_in_escape, unescaped, verdict_on_content, verdict_on, has_octets, between_flags, frames_of}
 use Rattle.hdlc_frames.specs.Deframing.{Kept, feeding_of, stream_of}
 use Rattle.hdlc_frames.specs.declared.found.Found.{Found}
 use Rattle.hdlc_frames.specs.Shown.{shown}
