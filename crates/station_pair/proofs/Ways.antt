@@ -120,8 +120,14 @@ module _ (k : ℕ) (handed : List (List ℕ)) (a s : ℕ) (taken : List (List �
     climb = w.climb;
   }
 
-  pub way_frame_twice : (f : ℕ × List ℕ) → 1 ≤ k → Way k handed a s taken (f ∷ waits) shows → Way k handed a s taken (f ∷ f ∷ waits) shows
-  way_frame_twice f some w = record {
+  -- a frame waits only where the window has room for one
+  pub way_some : (f : ℕ × List ℕ) → Way k handed a s taken (f ∷ waits) shows → 1 ≤ k
+  way_some f w =
+      let le = forward_le k (max (length taken) (f.0 + 1)) s handed waits w.chain.2 in
+      omega (arith, w.window, w.chain.0, le, climbs_le a (length taken) shows w.climb)
+
+  pub way_frame_twice : (f : ℕ × List ℕ) → Way k handed a s taken (f ∷ waits) shows → Way k handed a s taken (f ∷ f ∷ waits) shows
+  way_frame_twice f w = record {
     prefix = w.prefix;
     window = w.window;
     given = w.given;
@@ -129,7 +135,7 @@ module _ (k : ℕ) (handed : List (List ℕ)) (a s : ℕ) (taken : List (List �
       w.chain.0,
       w.chain.1,
       (
-        omega (arith, w.chain.0),
+        omega (arith, w.chain.0, way_some f w),
         w.chain.1,
         forward_low k (max (max (length taken) (f.0 + 1)) (f.0 + 1)) (max (length taken) (f.0 + 1)) s handed waits (omega arith) w.chain.2,
       ),
@@ -157,13 +163,13 @@ module _ (k : ℕ) (handed : List (List ℕ)) (a s : ℕ) (taken : List (List �
 
 -- an I frame in front that shows V(R) has the number V(R)
 pub way_tells : (extended : Bool) (k : ℕ) (handed : List (List ℕ)) (a s : ℕ) (taken : List (List ℕ)) (f : ℕ × List ℕ) (waits : List (ℕ × List ℕ)) (shows : List ℕ)
-    → k + 1 ≡ modulo extended → length taken % modulo extended ≡ f.0 % modulo extended
+    → k < modulo extended → length taken % modulo extended ≡ f.0 % modulo extended
     → Way k handed a s taken (f ∷ waits) shows → length taken ≡ f.0
-way_tells true k handed a s taken f waits shows bound same w =
+way_tells true k handed a s taken f waits shows below same w =
     let b = way_bounds k handed a s taken (f ∷ waits) shows w in
     let le = forward_le k (max (length taken) (f.0 + 1)) s handed waits w.chain.2 in
     omega (arith, w.window, w.chain.0, b.0, b.1, le, same)
-way_tells false k handed a s taken f waits shows bound same w =
+way_tells false k handed a s taken f waits shows below same w =
     let b = way_bounds k handed a s taken (f ∷ waits) shows w in
     let le = forward_le k (max (length taken) (f.0 + 1)) s handed waits w.chain.2 in
     omega (arith, w.window, w.chain.0, b.0, b.1, le, same)
