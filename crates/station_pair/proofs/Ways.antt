@@ -1,5 +1,5 @@
 -- One direction of a losing line: how the numbers that wait change with each move.
-use Rattle.std.proofs.Common.{◌≡◌, ℕ, zero, suc, ◌+◌, ◌%◌, ◌<◌, ◌≤◌, max, Bool, true, false, List, [], ◌∷◌, ◌++◌, length, take, refl, sym, ◌∙◌, ap, subst, arith, length-append}
+use Rattle.std.proofs.Common.{◌≡◌, ℕ, zero, suc, ◌+◌, ◌%◌, ◌<◌, ◌≤◌, max, Bool, true, false, List, [], ◌∷◌, ◌++◌, length, take, refl, sym, ◌∙◌, ap, subst, arith, append_assoc, length-append}
 use Rattle.std.specs.Prelude.{slice_index_or}
 use Rattle.std.proofs.lemmas.List.{take-append-le, take_more, get_or_append_left}
 use Rattle.station_model.specs.Frames.{modulo}
@@ -157,6 +157,24 @@ module _ (k : ℕ) (handed : List (List ℕ)) (a s : ℕ) (taken : List (List �
         chain = subst (λ n. Forward k handed n waits s) (sym len)
             (forward_low k (length taken + 1) (max (length taken) (length taken + 1)) s handed waits (omega arith) w.chain.2);
         climb = subst (λ n. Climbs a shows n) (sym len) (climbs_high a (length taken) (length taken + 1) shows (omega arith) w.climb);
+      }
+
+  -- and a run behind it
+  pub way_run : (p : List ℕ) (run : List (List ℕ)) → take (length taken + 1 + length run) handed ≡ take (length taken + 1) handed ++ run
+      → Forward k handed (length taken + 1 + length run) waits s
+      → Way k handed a s taken ((length taken, p) ∷ waits) shows → Way k handed a s (taken ++ p ∷ run) waits shows
+  way_run p run is chain w =
+      let one = way_take p w in
+      let l = length-append taken (p ∷ []) in
+      let len : length (taken ++ p ∷ []) ≡ length taken + 1 = omega (arith, l) in
+      let m = length-append taken (p ∷ run) in
+      let all : length (taken ++ p ∷ run) ≡ length taken + 1 + length run = omega (arith, m) in
+      record {
+        prefix = sym (append_assoc taken (p ∷ []) run) ∙ ap (λ t. t ++ run) (one.prefix ∙ ap (λ (n : ℕ). take n handed) len) ∙ sym is ∙ ap (λ (n : ℕ). take n handed) (sym all);
+        window = w.window;
+        given = w.given;
+        chain = subst (λ n. Forward k handed n waits s) (sym all) chain;
+        climb = climbs_high a (length taken) (length (taken ++ p ∷ run)) shows (omega (arith, all)) w.climb;
       }
 
 -- ---- equality modulo the modulo is equality
