@@ -16,3 +16,4 @@ pub mod Counted
 pub mod Telling
 pub mod Keeping
 pub mod LossFree
+pub mod Giving
