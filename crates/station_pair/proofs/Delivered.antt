@@ -7,7 +7,7 @@ use Rattle.er_base.specs.declared.side.Side.TheVariants.{E, R}
 use Rattle.hdlc_frames.specs.Framing.{Verdict}
 use Rattle.station_model.specs.declared.phase.Phase.{Phase}
 use Rattle.station_model.specs.declared.phase.Phase.TheVariants.{Up}
-use Rattle.station_model.specs.Frames.{Frame, SetUp, Ua, modulo}
+use Rattle.station_model.specs.Frames.{Frame, SetUp, Ua}
 use Rattle.station_model.specs.Stations.{Station, is_up, is_down}
 use Rattle.station_model.specs.Sending.{can_send}
 use Rattle.station_model.specs.Calls.{finishes}

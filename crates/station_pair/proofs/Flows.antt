@@ -1,6 +1,6 @@
 -- A loss-free line whose stations are both up: one station acts, and what flows keeps its shape.
 use Rattle.std.proofs.Common.{if◌then◌else◌, ◌≡◌, ℕ, zero, suc, ◌+◌, ◌%◌, ◌<◌, ◌≤◌, inl, inr, Bool, true, false, not, List, [], ◌∷◌, ◌++◌, length, Option, Some, None, refl, sym, ◌∙◌, ap, subst, arith, length-append, append_assoc, append-nil, eq-eqb, true≢false}
-use Rattle.std.specs.Prelude.{slice_index_or, nat_le, ◌-◌, ◌==◌}
+use Rattle.std.specs.Prelude.{slice_index_or, nat_le, ◌-◌}
 use Rattle.std.proofs.lemmas.Bool.{cases_Bool, cond_both}
 use Rattle.std.specs.List.{filter}
 use Rattle.hdlc_frames.specs.Framing.{Verdict, Frame as Frame_found}

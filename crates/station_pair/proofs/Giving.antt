@@ -1,15 +1,15 @@
 -- What a frame gives that comes to a station of either kind.
-use Rattle.std.proofs.Common.{if◌then◌else◌, ◌≡◌, ℕ, zero, suc, ◌+◌, ◌-◌, Bool, true, false, not, ◌||◌, List, [], ◌∷◌, ◌++◌, length, Option, Some, None, refl, sym, ap, ◌∙◌, subst, append-nil}
+use Rattle.std.proofs.Common.{if◌then◌else◌, ◌≡◌, ℕ, zero, suc, ◌+◌, ◌-◌, Bool, true, false, ◌||◌, List, [], ◌∷◌, ◌++◌, length, Option, Some, None, refl, sym, ap, ◌∙◌, append-nil}
 use Rattle.std.specs.Prelude.{◌==◌, nat_lt}
 use Rattle.std.specs.Option.{option_to_list}
-use Rattle.std.proofs.lemmas.Bool.{cond_both, cases_Bool}
+use Rattle.std.proofs.lemmas.Bool.{cond_both}
 use Rattle.hdlc_frames.specs.declared.controls.Control.{Control}
 use Rattle.hdlc_frames.specs.declared.controls.Control.TheVariants as control
 use Rattle.hdlc_frames.specs.ControlOctets.{control_of}
 use Rattle.hdlc_frames.specs.Framing.{Verdict, Frame, BadFcs, TooShort, TooLong, Aborted}
 use Rattle.station_model.specs.declared.phase.Phase.{Phase}
 use Rattle.station_model.specs.declared.phase.Phase.TheVariants.{Idle, Setting, Up, Down}
-use Rattle.station_model.specs.Frames.{Srej, modulo}
+use Rattle.station_model.specs.Frames.{modulo}
 use Rattle.station_model.specs.Stations.{Station, Deed, no_deed, is_down, sees, puts}
 use Rattle.station_model.specs.Sending.{can_send, waiting, info_at, sends_next, sends_up_to, sends_waiting, starts_timer, refuses_frame}
 use Rattle.station_model.specs.Receiving.{strays, is_known_address, is_addressed, errs, named, acknowledges, acknowledging, marks_busy, agrees}

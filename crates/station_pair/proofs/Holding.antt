@@ -5,7 +5,7 @@ use Rattle.std.specs.List.{filter}
 use Rattle.std.proofs.lemmas.Bool.{cases_Bool, cond_both}
 use Rattle.std.proofs.lemmas.List.{get_or_append_left, take_more}
 use Rattle.station_model.specs.Selective.{held_for, without_gap}
-use Rattle.station_pair.specs.Invariant.{Forward, AllOwn, Holding, Holds, reach}
+use Rattle.station_pair.specs.Invariant.{AllOwn, Holding, Holds, reach}
 use Rattle.station_pair.proofs.Ways.{forward_le, forward_low, forward_push, forward_hand}
 
 -- ---- the sender

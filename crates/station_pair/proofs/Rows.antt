@@ -1,17 +1,14 @@
 -- One station acts: the first frame that waits goes, or stands twice, and what stations of both kinds do at it keeps the invariant.
-use Rattle.std.proofs.Common.{◌≡◌, ℕ, zero, suc, ◌+◌, ◌-◌, ◌%◌, ◌<◌, ◌≤◌, inl, inr, Bool, true, false, not, eqb, List, [], ◌∷◌, ◌++◌, length, Option, Some, None, refl, sym, ◌∙◌, ap, subst, arith, eq-eqb, eqb-true, true≢false}
-use Rattle.std.specs.Prelude.{nat_lt, ◌==◌}
-use Rattle.std.proofs.lemmas.Bool.{cases_Bool, cond_both, cases_lt}
+use Rattle.std.proofs.Common.{◌≡◌, ℕ, zero, suc, ◌+◌, ◌-◌, ◌%◌, ◌<◌, ◌≤◌, inl, inr, Bool, true, false, not, eqb, List, [], ◌∷◌, ◌++◌, length, Option, Some, refl, sym, ◌∙◌, ap, subst, arith, eq-eqb, eqb-true}
+use Rattle.std.proofs.lemmas.Bool.{cases_Bool, cases_lt}
 use Rattle.er_base.specs.declared.cause.Cause.TheVariants.{PeerDisconnected}
 use Rattle.er_base.specs.Causes.{release_of}
-use Rattle.station_model.specs.declared.phase.Phase.{Phase}
-use Rattle.station_model.specs.declared.phase.Phase.TheVariants.{Idle, Setting, Up, Down}
-use Rattle.station_model.specs.Frames.{Frame, Info, Rr, Rej, Srej, SetUp, Disc, Dm, Ua, modulo, set_up, shown, information}
-use Rattle.station_model.specs.Stations.{Station, puts}
+use Rattle.station_model.specs.Frames.{Frame, Info, Rr, Rej, Srej, SetUp, Disc, Dm, Ua, modulo, set_up}
+use Rattle.station_model.specs.Stations.{Station}
 use Rattle.station_model.specs.Sending.{releases}
 use Rattle.station_model.specs.Receiving.{named, acknowledges, acknowledging, by_number, comes_up, row_idle}
-use Rattle.station_pair.specs.Invariant.{Climbs, Way, least_mark, greatest_mark, Half, IsSpan, Pair, Both, infos, numbers, marks}
-use Rattle.station_pair.proofs.Ways.{climbs_le, climbs_low, way_ack, way_number_gone, way_number_twice, way_frame_gone, way_some, way_frame_twice, way_take, way_tells, way_bounds}
+use Rattle.station_pair.specs.Invariant.{Climbs, least_mark, greatest_mark, Half, IsSpan, Pair, Both, infos, numbers, marks}
+use Rattle.station_pair.proofs.Ways.{climbs_le, climbs_low, way_ack, way_number_gone, way_number_twice, way_frame_gone, way_some, way_frame_twice, way_bounds}
 use Rattle.station_pair.proofs.Holding.{holds_gone, holds_twice}
 use Rattle.station_pair.proofs.Keeps.{puts_quiet, down_keeps}
 use Rattle.station_pair.proofs.Hearing.{MayCome}

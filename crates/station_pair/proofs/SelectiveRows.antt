@@ -1,8 +1,8 @@
 -- One station with selective reject acts: what it does at the first frame that waits keeps the invariant.
-use Rattle.std.proofs.Common.{if◌then◌else◌, ◌≡◌, ℕ, zero, suc, ◌+◌, ◌-◌, ◌*◌, ◌%◌, ◌<◌, ◌≤◌, inl, inr, max, Bool, true, false, List, [], ◌∷◌, ◌++◌, length, take, map, Option, Some, None, refl, sym, ◌∙◌, ap, subst, arith, append_assoc, append-nil, length-append, eq-eqb, eqb-true, ltb-true, true≢false}
+use Rattle.std.proofs.Common.{if◌then◌else◌, ◌≡◌, ℕ, zero, suc, ◌+◌, ◌-◌, ◌*◌, ◌%◌, ◌<◌, ◌≤◌, max, Bool, true, false, List, [], ◌∷◌, ◌++◌, length, take, map, Option, Some, None, refl, sym, ◌∙◌, ap, subst, arith, append_assoc, append-nil, length-append, eq-eqb, eqb-true, ltb-true, true≢false}
 use Rattle.std.specs.Prelude.{nat_lt, nat_le, ◌==◌}
 use Rattle.std.specs.List.{filter}
-use Rattle.std.proofs.lemmas.Bool.{cases_Bool, cond_both}
+use Rattle.std.proofs.lemmas.Bool.{cond_both}
 use Rattle.station_model.specs.declared.phase.Phase.{Phase}
 use Rattle.station_model.specs.declared.phase.Phase.TheVariants.{Idle, Setting, Up, Down}
 use Rattle.station_model.specs.Frames.{Frame, Info, Rr, Rej, Srej, SetUp, Disc, Dm, Ua, modulo, set_up, shown, information}
@@ -11,7 +11,7 @@ use Rattle.station_model.specs.Sending.{info_at, refuses_frame}
 use Rattle.station_model.specs.Receiving.{strays, named, acknowledges, marks_busy, agrees}
 use Rattle.station_model.specs.Selective.{held_for, is_found, without_gap, takes_run, missing_below, holds, says_next, files_at, files, repeats_at, repeats_one, sets_up_selective_again, selective_row_up, selective_row}
 use Rattle.station_pair.specs.Invariant.{Way, least_mark, greatest_mark, Pair, Both, infos, numbers, marks, reach, Holding}
-use Rattle.station_pair.proofs.Ways.{climbs_low, forward_le, forward_low, way_some, way_frame_gone, way_run, way_bounds}
+use Rattle.station_pair.proofs.Ways.{climbs_low, forward_le, forward_low, way_some, way_run, way_bounds}
 use Rattle.station_pair.proofs.Holding.{holding_emptied, holding_more, holding_kept, IsRun, run_is}
 use Rattle.station_pair.proofs.Keeps.{info_pushed, puts_quiet, puts_shown}
 use Rattle.station_pair.proofs.Rows.{no_foreign, half_shown, first_gone, set_up_at, least_le, numbered_keeps, disconnects, up_keeps, set_up_idle}
