@@ -181,7 +181,7 @@ ends_well c n w x l y given h =
 
 -- ---- what is heard
 
--- the gap mark, what is held and what was asked for behind the next payload, where none was held
+-- behind the next payload: the gap mark, what is held and what was asked for, of either kind
 abbrev pub gap_behind : (selective : Bool) → Station → Bool
 gap_behind true x = x.gap
 gap_behind false x = false
@@ -194,7 +194,7 @@ abbrev pub asked_behind : (selective : Bool) → Station → List ℕ
 asked_behind true x = filter (λ n. nat_le (length x.taken + 1 + 0) n) x.asked
 asked_behind false x = x.asked
 
--- that payload is taken
+-- the next payload is taken by a station that holds none behind it
 abbrev pub takes_next : (selective : Bool) → List ℕ → Station → Station
 takes_next selective p x = record (accepts p x) { gap = gap_behind selective x; held = held_behind selective x; asked = asked_behind selective x }
 
@@ -202,7 +202,7 @@ none_behind : (selective : Bool) (x : Station) → x.held ≡ [] → held_behind
 none_behind true x none = ap (filter (λ (h : ℕ × List ℕ). nat_le (length x.taken + 1 + 0) h.0)) none
 none_behind false x none = none
 
--- something is found at a station that isn't released
+-- something is found for a station that isn't released
 pub heard_live : (selective : Bool) (now : ℕ) (v : Verdict) (x : Station) → is_down x.phase ≡ false
     → receives_as selective now v x ≡ sends_waiting (hears_as selective v (sees now x))
 heard_live selective now v x live =
@@ -216,7 +216,7 @@ heard_row law selective k lx x f fs y h =
     ∙ ap (λ (e : Bool). hears_as selective (Frame_found (sent_address (not x.calling) f) (sent_body e f)) x) (sym h.3)
     ∙ frame_heard law selective x f (may_come selective k lx x f fs y h)
 
--- N(S) is the next number: it is named, and none is held behind it
+-- N(S) is the next number: it is named first
 named_first : (e : Bool) (a n : ℕ) → named e a n (a % modulo e) ≡ Some a
 named_first e a zero = ap (λ (b : Bool). if b then Some a else None) (eq-eqb (a % modulo e) (a % modulo e) refl)
 named_first e a (suc n) = ap (λ (b : Bool). if b then Some a else named e (a + 1) n (a % modulo e)) (eq-eqb (a % modulo e) (a % modulo e) refl)

@@ -61,7 +61,7 @@ strayed x live d = calm x (strays x) live refl refl refl refl d
 refused : (x : Station) → Given x (refuses_frame x)
 refused x = record { handed = refl; taken = sym (append-nil x.taken); released = refl; down = refl }
 
--- the same numbers were acknowledged before
+-- an I frame: what x was before it stands in y, but for the numbers acknowledged
 filed : (o : Option ℕ) (payload : List ℕ) (x y : Station) → is_down x.phase ≡ false → y.handed ≡ x.handed → y.taken ≡ x.taken → y.released ≡ x.released → y.phase ≡ x.phase → y.deed ≡ no_deed
     → Given x (files_at o payload y)
 filed None payload x y live h t r p d = calm x (says_next y) live h t r p d
