@@ -1,5 +1,5 @@
 -- A link that was just opened: the set-up frame waits, and the invariant of a losing line holds.
-use Rattle.std.proofs.Common.{◌≡◌, ℕ, ◌-◌, ◌≤◌, inl, Bool, true, false, [], ◌∷◌, refl, arith}
+use Rattle.std.proofs.Common.{ℕ, ◌-◌, ◌≤◌, inl, Bool, true, false, [], ◌∷◌, refl, arith}
 use Rattle.station_model.specs.Frames.{SetUp, modulo}
 use Rattle.station_pair.specs.Links.{Link, opened}
 use Rattle.station_pair.specs.Laws.{IsNarrow, Opening}
