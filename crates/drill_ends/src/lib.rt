@@ -1,4 +1,4 @@
-//! The ends of the links of a drill, one kind a level, and what each tells of an event.
+//! The ends of the links of a drill, by their level, and what each tells of an event.
 #![tactic(auto)]
 
 mod drill_end;
