@@ -1,5 +1,5 @@
 -- The calls of a station of either kind, by those of its kind.
-use Rattle.std.proofs.Common.{◌≡◌, ℕ, ◌+◌, ◌*◌, ◌≤◌, Bool, true, false, List, [], ◌∷◌, ◌++◌, length, map, Option, Some, None, refl, sym, ap, ◌∙◌, subst, append_assoc, arith}
+use Rattle.std.proofs.Common.{◌≡◌, ℕ, ◌*◌, ◌≤◌, Bool, true, false, List, [], ◌∷◌, ◌++◌, map, Option, refl, sym, ap, ◌∙◌, append_assoc, arith}
 use Rattle.er_base.specs.Stored.{Stored}
 use Rattle.er_base.specs.declared.release.Release.{Release}
 use Rattle.station_model.specs.Stations.{Station, Deed, no_deed}
@@ -14,10 +14,9 @@ use Rattle.hdlc_selective.specs.Places.{lent}
 use Rattle.hdlc_selective.specs.Told.{first_of, rest_of, deed_of}
 use Rattle.drill_ends.specs.declared.told.Told.{Told}
 use Rattle.drill_ends.specs.declared.told.Told.TheVariants as told
-use Rattle.drill_ends.specs.declared.either_station.EitherStation.{EitherStation}
 use Rattle.drill_ends.specs.declared.either_station.EitherStation.TheVariants as either
-use Rattle.drill_ends.specs.EitherStations.{Keeps, ShownOf, StandsInCall, Does, Says, Wrote}
-use Rattle.drill_ends.specs.StationEnds.{told_up, told_arrived, told_payloads, told_released, told_deed, TellsDeed, Heard, BackHeard, SelectiveHeard}
+use Rattle.drill_ends.specs.EitherStations.{ShownOf, StandsInCall, Does, Says, Wrote}
+use Rattle.drill_ends.specs.StationEnds.{told_up, told_arrived, told_payloads, told_released, told_deed, Heard, BackHeard, SelectiveHeard}
 
 -- ---- within a call
 

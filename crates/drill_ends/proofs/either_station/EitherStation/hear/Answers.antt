@@ -1,4 +1,3 @@
-use Rattle.std.proofs.Common.{List}
 use Rattle.std.proofs.lemmas.Result.{IfOk-weaker}
 use Rattle.hdlc_frames.specs.Shown.{shown}
 use Rattle.drill_ends.proofs.EitherCalls.{heard_back, heard_selective}
