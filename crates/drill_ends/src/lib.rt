@@ -2,6 +2,7 @@
 #![tactic(auto)]
 
 mod drill_end;
+mod either_station;
 mod end_event;
 mod finder;
 pub mod laws;
@@ -12,6 +13,7 @@ mod send_counts;
 mod stack_call;
 mod stack_end;
 mod station_end;
+mod telling;
 mod telling_station;
 mod told;
 
