@@ -1,6 +1,6 @@
 -- The world of a drill: links of one level by their numbers, and a moment. A step gives the next world and what came of it; a list of
 -- steps gives one list of all that came (this profile).
-use Rattle.std.specs.Prelude.{ℕ, zero, suc, ◌+◌, ◌==◌, ◌&&◌, nat_lt, Bool, if◌then◌else◌, List, [], ◌∷◌, ◌++◌, length, map, Option, Some, None}
+use Rattle.std.specs.Prelude.{ℕ, zero, suc, ◌+◌, ◌==◌, ◌&&◌, nat_lt, Bool, true, false, if◌then◌else◌, List, [], ◌∷◌, ◌++◌, length, map, Option, Some, None}
 use Rattle.std.specs.List.{flat_map}
 use Rattle.er_base.specs.declared.side.Side.{Side}
 use Rattle.er_base.specs.declared.side.Side.TheVariants.{E, R}

@@ -1,8 +1,11 @@
 pub mod Ways
+pub mod Holding
 pub mod Hearing
 pub mod Streams
 pub mod Keeps
 pub mod Rows
+pub mod GoBackRows
+pub mod SelectiveRows
 pub mod Events
 pub mod Lines
 pub mod Runs
@@ -13,3 +16,4 @@ pub mod Counted
 pub mod Telling
 pub mod Keeping
 pub mod LossFree
+pub mod Giving
