@@ -53,22 +53,22 @@ pub record TellingFrames (calling extended : Bool) (frames : List Frame) (rest :
   pub leads : now ++ told_frames calling extended left ≡ before ++ told_frames calling extended frames
 
 -- a frame that came was heard, and what it brought was told
-pub record TellsDeed (d : Deed) (before now : List Told) (released : Option Release) : Type 0 where
+pub record TellsDeed (d : Deed) (before now : List Told) (why : Option Release) : Type 0 where
   pub grew : now ≡ before ++ told_deed d
-  pub released : released ≡ d.released
+  pub released : why ≡ d.released
 
-pub record Heard (new : EitherStation) (selective : Bool) (text : List ℕ) (out : Stored) (before now : List Told) (released : Option Release) (t : Station) : Type 0 where
+pub record Heard (new : EitherStation) (selective : Bool) (text : List ℕ) (out : Stored) (before now : List Told) (why : Option Release) (t : Station) : Type 0 where
   pub stands : StandsInCall new selective text out t.deed t
-  pub tells : TellsDeed t.deed before now released
+  pub tells : TellsDeed t.deed before now why
 
 -- the same of each kind of station by itself
-pub record BackHeard (new : Kept) (text : List ℕ) (out : Stored) (before now : List Told) (released : Option Release) (t : Station) : Type 0 where
+pub record BackHeard (new : Kept) (text : List ℕ) (out : Stored) (before now : List Told) (why : Option Release) (t : Station) : Type 0 where
   pub stands : Stands new text out t.deed t
-  pub tells : TellsDeed t.deed before now released
+  pub tells : TellsDeed t.deed before now why
 
-pub record SelectiveHeard (new : SelectiveKept) (text : List ℕ) (out : Stored) (before now : List Told) (released : Option Release) (t : Station) : Type 0 where
+pub record SelectiveHeard (new : SelectiveKept) (text : List ℕ) (out : Stored) (before now : List Told) (why : Option Release) (t : Station) : Type 0 where
   pub stands : SelectiveStands new.core new.places text out t.deed t
-  pub tells : TellsDeed t.deed before now released
+  pub tells : TellsDeed t.deed before now why
 
 -- a call was made, what it told and the frames that it sent were told
 pub record CallDid (new : EitherStation) (selective : Bool) (before now : List Told) (a : Station × List Outcome) : Type 0 where

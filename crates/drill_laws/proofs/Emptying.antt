@@ -135,7 +135,8 @@ module _ (laws : StationLaws) (delivers : Delivery) (deliveries_bound : Deliveri
   abbrev most_of : List Occurrence → ℕ
   most_of history = 2 + 2 * (length (sent_by E history) + length (sent_by R history))
 
-  free_of : (l : Link) (history : List Occurrence) (w : IsWired settings selective l history) → is_disturbed history ≡ false → (run (wired settings selective w.moment) w.steps).loss_free ≡ true
+  free_of : (l : Link) (history : List Occurrence) (w : IsWired settings selective l history) → is_disturbed history ≡ false
+      → (run (wired settings selective w.moment) w.steps).loss_free ≡ true
   free_of l history w none = not_false (run (wired settings selective w.moment) w.steps).loss_free (sym w.sees.free ∙ none)
 
   bounded_by : (l : Link) (history : List Occurrence) → IsWired settings selective l history → is_disturbed history ≡ false → deliveries history ≤ most_of history
@@ -166,13 +167,15 @@ module _ (laws : StationLaws) (delivers : Delivery) (deliveries_bound : Deliveri
   abbrev Nothing : Link → Type 0
   Nothing l = (l.from_e ≡ []) × (l.from_r ≡ [])
 
-  none_left : (l : Link) (history : List Occurrence) → IsWired settings selective l history → is_disturbed history ≡ false → most_of history ≤ deliveries history
+  none_left : (l : Link) (history : List Occurrence) → IsWired settings selective l history → is_disturbed history ≡ false
+      → most_of history ≤ deliveries history
       → (side : Side) (frames : List (List ℕ)) → waiting_of l side ≡ frames → waiting_of l side ≡ []
   none_left l history w none enough side [] is = is
   none_left l history w none enough side (frame ∷ frames) is =
       let a : Link × List Occurrence = link_step l (Pass side) in
       let q = pass_quiet l history (run (wired settings selective w.moment) w.steps) side frame frames w.sees is in
-      let after : deliveries (history ++ a.1) ≤ most_of (history ++ a.1) = bounded_by a.0 (history ++ a.1) (wired_steps laws settings selective l history (Pass side) w) (q.disturbed ∙ none) in
+      let after : deliveries (history ++ a.1) ≤ most_of (history ++ a.1) =
+      bounded_by a.0 (history ++ a.1) (wired_steps laws settings selective l history (Pass side) w) (q.disturbed ∙ none) in
       let e : length (sent_by E (history ++ a.1)) ≡ length (sent_by E history) = ap length q.sent_e in
       let r : length (sent_by R (history ++ a.1)) ≡ length (sent_by R history) = ap length q.sent_r in
       let count : deliveries (history ++ a.1) ≡ deliveries history + 1 = q.count in
@@ -184,7 +187,8 @@ module _ (laws : StationLaws) (delivers : Delivery) (deliveries_bound : Deliveri
       (l : Link) (history : List Occurrence) → IsWired settings selective l history → is_disturbed history ≡ false → most_of history ≤ deliveries history + most
       → Nothing (drained l).link
 
-  passes_empty : (most : ℕ) (others : Link → Drain) → Empties most others → (l : Link) (history : List Occurrence) → IsWired settings selective l history → is_disturbed history ≡ false
+  passes_empty : (most : ℕ) (others : Link → Drain) → Empties most others → (l : Link) (history : List Occurrence) → IsWired settings selective l history
+      → is_disturbed history ≡ false
       → most_of history ≤ deliveries history + suc most → (side : Side) (frame : List ℕ) (frames : List (List ℕ)) → waiting_of l side ≡ frame ∷ frames
       → Nothing (others (link_step l (Pass side)).0).link
   passes_empty most others each l history w none enough side frame frames is =
@@ -196,7 +200,8 @@ module _ (laws : StationLaws) (delivers : Delivery) (deliveries_bound : Deliveri
       let still : most_of (history ++ a.1) ≤ deliveries (history ++ a.1) + most = omega arith in
       each a.0 (history ++ a.1) (wired_steps laws settings selective l history (Pass side) w) (q.disturbed ∙ none) still
 
-  drains_on : (most : ℕ) (others : Link → Drain) → Empties most others → (l : Link) (history : List Occurrence) → IsWired settings selective l history → is_disturbed history ≡ false
+  drains_on : (most : ℕ) (others : Link → Drain) → Empties most others → (l : Link) (history : List Occurrence) → IsWired settings selective l history
+      → is_disturbed history ≡ false
       → most_of history ≤ deliveries history + suc most → (xs ys : List (List ℕ)) → l.from_e ≡ xs → l.from_r ≡ ys
       → Nothing (drain_on others l (next_of xs ys) None).link
   drains_on most others each l history w none enough [] [] e r = (e, r)

@@ -88,7 +88,8 @@ wired_in_order law bounds settings selective l history w fit keeping =
       at_e = prefix_of (accepted_by E history) (sent_by R history) p.e.taken p.r.handed v.accepted_e v.sent_r both.1;
     }
 
-one_reason : (selective : Bool) (released : Option Release) (release : Release) → released ≡ Some release → of_pair.IsLosingLineRelease released → IsLosingLineReason (OfStations selective) release
+one_reason : (selective : Bool) (released : Option Release) (release : Release) → released ≡ Some release
+    → of_pair.IsLosingLineRelease released → IsLosingLineReason (OfStations selective) release
 one_reason selective released release is reason = subst of_pair.IsLosingLineRelease is reason
 
 all_reasons : (selective : Bool) (p : Pair) (releases : List Release) → of_pair.IsLosingLineRelease p.e.released → of_pair.IsLosingLineRelease p.r.released

@@ -160,7 +160,8 @@ alter_kind side place mask [] p = refl
 alter_kind side place mask (frame ∷ frames) p =
     let q : Pair = with_line side (altered frame place mask ∷ frames) (record p { order_kept = false; loss_free = false }) in
     cond_both (nat_lt place (length frame)) (if mask == 0 then p else q) (tells (pair.IsShort side (length frame) ∷ []) p) (λ (t : Pair). t.selective ≡ p.selective)
-    (λ e. cond_both (mask == 0) p q (λ (t : Pair). t.selective ≡ p.selective) (λ e. refl) (λ e. line_kind side (altered frame place mask ∷ frames) (record p { order_kept = false; loss_free = false })))
+    (λ e. cond_both (mask == 0) p q (λ (t : Pair). t.selective ≡ p.selective) (λ e. refl)
+    (λ e. line_kind side (altered frame place mask ∷ frames) (record p { order_kept = false; loss_free = false })))
     (λ e. refl)
 
 release_kind : (side : Side) (sub : ℕ) (p : Pair) → (on_pair.release side sub p).selective ≡ p.selective

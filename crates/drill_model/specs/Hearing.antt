@@ -13,11 +13,10 @@ use Rattle.end_model.specs.Layers.{model}
 use Rattle.end_model.specs.Steps.{begins_at}
 use Rattle.end_model.specs.Ends.{End as Stack, hears_each}
 use Rattle.station_model.specs.Events as station_events
-use Rattle.end_model.specs.Ends as stacks
 use Rattle.end_model.specs.Hearing.{IsTextOf}
 use Rattle.drill_model.specs.Outcomes.{OfSafety, Passed, Occurrence, at_end}
 use Rattle.drill_model.specs.Ends.{End, OfSafe, OfStation, OfStack}
-use Rattle.drill_model.specs.Links.{Link, LinkOpening, end_of, key_on, LinkStep, life}
+use Rattle.drill_model.specs.Links.{Link, end_of, key_on, LinkStep, life}
 use Rattle.drill_model.specs.Worlds.{Plan, link_at, history_on, world_run}
 use Rattle.drill_model.specs.Kinds.{passed_in, deliveries}
 

@@ -10,7 +10,6 @@ use Rattle.drill_model.specs.Outcomes.{Outcome}
 use Rattle.end_model.specs.Layers.{model}
 use Rattle.end_model.specs.Steps.{begins_at}
 use Rattle.end_model.specs.Ends.{End as Stack}
-use Rattle.end_model.specs.Ends as stacks
 use Rattle.drill_model.specs.StationEnds.{heard_parts}
 use Rattle.drill_model.specs.StackEnds.{stack_parts}
 use Rattle.drill_model.specs.Ends.{End, OfSafe, OfStation, OfStack, EndEvent, station_end_step, stack_end_step, end_step}

@@ -21,7 +21,8 @@ use Rattle.station_pair.specs.Invariant.{Pair, infos, numbers}
 use Rattle.station_pair.specs.Flowing.{Rests, Shape}
 use Rattle.station_pair.proofs.Ways.{way_bounds}
 use Rattle.station_pair.proofs.Lines.{none_on_line}
-use Rattle.station_pair.proofs.Runs.{Frames, refused_long, span_of, opened_stands}
+use Rattle.station_pair.proofs.Opened.{span_of, opened_stands}
+use Rattle.station_pair.proofs.Runs.{Frames, refused_long}
 use Rattle.station_pair.proofs.Delivers.{Flows, Passed, e_sends, r_sends, e_ticks, r_ticks, e_pass, r_pass}
 
 -- the parts of a link that the shape doesn't speak of

@@ -1,5 +1,5 @@
 -- The steps of a link, one after the other, and the two laws of an order-keeping line.
-use Rattle.std.proofs.Common.{if◌then◌else◌, ◌≡◌, ℕ, zero, suc, ◌-◌, ◌≤◌, inl, inr, max, Bool, true, false, not, ◌&&◌, ◌||◌, List, [], ◌∷◌, ◌++◌, length, Option, Some, None, refl, sym, ◌∙◌, ap, subst, arith, leb-true}
+use Rattle.std.proofs.Common.{if◌then◌else◌, ◌≡◌, ℕ, zero, suc, ◌≤◌, inl, inr, max, Bool, true, false, not, ◌&&◌, ◌||◌, List, [], ◌∷◌, ◌++◌, length, Option, Some, None, refl, sym, ◌∙◌, ap, subst, leb-true}
 use Rattle.std.specs.Prelude.{nat_lt, nat_le, ◌==◌}
 use Rattle.std.proofs.lemmas.Bool.{cases_Bool, and_parts, cond_both}
 use Rattle.er_base.specs.declared.side.Side.{Side}
@@ -7,7 +7,7 @@ use Rattle.er_base.specs.declared.side.Side.TheVariants.{E, R}
 use Rattle.er_base.specs.declared.release.Release.{Release}
 use Rattle.hdlc_frames.specs.Framing.{Verdict}
 use Rattle.hdlc_frames.specs.Laws.{ControlReadsBack, FlagParts, FrameAlone}
-use Rattle.station_model.specs.Frames.{Frame, SetUp, modulo}
+use Rattle.station_model.specs.Frames.{Frame, SetUp}
 use Rattle.station_model.specs.Stations.{Station, is_down}
 use Rattle.station_model.specs.Sending.{waiting}
 use Rattle.station_model.specs.Calls.{hands, finishes, ticks}
@@ -16,11 +16,11 @@ use Rattle.station_model.specs.Events.{news, quits, is_late}
 use Rattle.station_model.specs.Lines.{altered, next_of}
 use Rattle.station_pair.specs.Links.{Came, RefusedLength, RefusedFull, Link, station_of, line_of, with_line, did, hears_each, reads, opened}
 use Rattle.station_pair.specs.Steps.{LinkStep, Send, Pass, Lose, Repeat, Alter, Put, UserRelease, Drain, Tick, refusal_at, send_unless, send, pass, lose, repeat, alter, release, tick_at, tick, is_overfull, Draining, pass_next, drained, step, happens, run}
-use Rattle.station_pair.specs.Laws.{IsNarrow, Opening, after, Prefix, LosingLineReasons}
-use Rattle.station_pair.specs.Invariant.{IsSpan, Pair, Both}
-use Rattle.station_pair.proofs.Holding.{holds_nothing}
+use Rattle.station_pair.specs.Laws.{Opening, after, Prefix, LosingLineReasons}
+use Rattle.station_pair.specs.Invariant.{Pair, Both}
 use Rattle.station_pair.proofs.Events.{finishes_keeps, hands_keeps, ticks_keeps, quits_keeps}
 use Rattle.station_pair.proofs.Lines.{octets_of, Stands, turned, begun, acted, First, first_of_line, answered, one_event, flag_behind, answered_keeps, lost, repeated}
+use Rattle.station_pair.proofs.Opened.{span_of, opened_stands}
 
 -- the three laws of frames that a pass rests on
 pub record Frames : Type 0 where
@@ -310,37 +310,6 @@ run_keeps laws [] l h = h
 run_keeps laws (s ∷ rest) l h = run_keeps laws rest (happens s l) (happens_keeps laws s l h)
 
 -- ---- a link that was just opened
-
--- the greatest window of a link with go-back; with selective reject the window itself does
-abbrev pub span_of : (selective extended : Bool) → ℕ → ℕ
-span_of true extended window = window
-span_of false extended window = modulo extended - 1
-
-span_is : (selective extended : Bool) (window : ℕ) → IsNarrow selective extended window
-    → IsSpan selective extended (span_of selective extended window) × (window ≤ span_of selective extended window)
-span_is true extended window h = (h, omega arith)
-span_is false true window h = (refl, omega arith)
-span_is false false window h = (refl, omega arith)
-
-pub opened_stands : (s : Opening) → let l : Link = opened s.selective s.extended s.window s.n2 s.t1 s.moment in
-    Stands s.selective (span_of s.selective s.extended s.window) (SetUp ∷ []) l.e [] l.r l.from_e l.from_r l.read_e l.read_r
-opened_stands s =
-    let b = span_is s.selective s.extended s.window s.narrow in
-    record {
-      lined_x = refl;
-      lined_y = refl;
-      quiet_x = refl;
-      quiet_y = refl;
-      flag_x = inl refl;
-      flag_y = inl refl;
-      pair = (
-        (record { prefix = refl; window = omega arith; given = omega arith; chain = omega arith; climb = omega arith }, (omega arith, omega arith), (refl, refl), b.1, tt, tt, holds_nothing s.selective (span_of s.selective s.extended s.window)),
-        (record { prefix = refl; window = omega arith; given = omega arith; chain = omega arith; climb = omega arith }, omega arith, refl, b.1, tt, tt, holds_nothing s.selective (span_of s.selective s.extended s.window)),
-        refl,
-        refl,
-        b.0,
-      );
-    }
 
 pub opened_holds : (s : Opening) → Holds (opened s.selective s.extended s.window s.n2 s.t1 s.moment)
 opened_holds s = record { k = span_of s.selective s.extended s.window; fe = SetUp ∷ []; fr = []; stands = opened_stands s }
