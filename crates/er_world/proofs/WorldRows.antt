@@ -204,12 +204,12 @@ opens_nothing f found grows w n opening before none is link empty = record {
 }
 
 -- whether the stations of a level have selective reject was found, or that its links aren't of stations
-pub no_stations : (found : Option Bool) (opening : Option LinkOpening) → None ≡ found → option_map OfStations found ≡ opening → opening ≡ None
-no_stations found opening none is = sym is ∙ ap (option_map OfStations) (sym none)
+pub no_stations : (found : Option Bool) (opening : Option LinkOpening) → found ≡ None → option_map OfStations found ≡ opening → opening ≡ None
+no_stations found opening none is = sym is ∙ ap (option_map OfStations) none
 
-pub some_stations : (selective : Bool) (found : Option Bool) (opening : Option LinkOpening) → Some selective ≡ found → option_map OfStations found ≡ opening
+pub some_stations : (selective : Bool) (found : Option Bool) (opening : Option LinkOpening) → found ≡ Some selective → option_map OfStations found ≡ opening
     → opening ≡ Some (OfStations selective)
-some_stations selective found opening some is = sym is ∙ ap (option_map OfStations) (sym some)
+some_stations selective found opening some is = sym is ∙ ap (option_map OfStations) some
 
 -- ---- a copy
 
