@@ -40,7 +40,7 @@ row_keeps : (selective : Bool) (k : ℕ) (w : List Frame) (x : Station) (f : Fra
 row_keeps true k w x f fs y b = selective_row_keeps k w x.phase x f fs y b
 row_keeps false k w x f fs y b = go_back_row_keeps k w x.phase x f fs y b
 
-heard_keeps : ControlReadsBack → (selective : Bool) (k : ℕ) (w : List Frame) (x : Station) (f : Frame) (fs : List Frame) (y : Station)
+pub heard_keeps : ControlReadsBack → (selective : Bool) (k : ℕ) (w : List Frame) (x : Station) (f : Frame) (fs : List Frame) (y : Station)
     → Both selective k w x (f ∷ fs) y → Both selective k w (hears_as selective (Frame_found (sent_address (not x.calling) f) (sent_body x.extended f)) x) fs y
 heard_keeps law selective k w x f fs y b =
     subst (λ (t : Station). Both selective k w t fs y) (sym (frame_heard law selective x f (may_come selective k (w ++ x.said) x f fs y b))) (row_keeps selective k w x f fs y b)
