@@ -18,3 +18,9 @@ pub mod Telling
 pub mod Keeping
 pub mod LossFree
 pub mod Giving
+pub mod Sound
+pub mod SoundRows
+pub mod Gaps
+pub mod SoundCalls
+pub mod Sounds
+pub mod SoundRuns

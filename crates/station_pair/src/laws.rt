@@ -91,7 +91,7 @@ pub fn loss_free_keeps()
 /// Whatever a line lost and repeated, while no end was released: all that waits is given; a moment finds each T1 that runs expired; all that
 /// waits is given. Then each end took all that the other was handed: the calling one where it was handed a payload itself.
 pub fn recovery()
-    ensures { Recovery }
+    ensures recovered { Recovery }
     ensures live { PassesRelease }
 {
     control_reads_back();
@@ -101,7 +101,7 @@ pub fn recovery()
 
 /// How many passes that takes at most, from any moment on.
 pub fn passes_are_bounded()
-    ensures { PassesBound }
+    ensures passes { PassesBound }
     ensures drain { DrainEmptiesLive }
 {
     control_reads_back();
