@@ -35,7 +35,7 @@ not_not false false h = absurd cc
 pub swap : (selective : Bool) (k : ℕ) (lx : List Frame) (x : Station) (ly : List Frame) (y : Station) → Pair selective k lx x ly y → Pair selective k ly y lx x
 swap selective k lx x ly y h = (h.1, h.0, not_not x.calling y.calling h.2, sym h.3, subst (λ (e : Bool). IsSpan selective e k) h.3 h.4)
 
-row_keeps : (selective : Bool) (k : ℕ) (w : List Frame) (x : Station) (f : Frame) (fs : List Frame) (y : Station)
+pub row_keeps : (selective : Bool) (k : ℕ) (w : List Frame) (x : Station) (f : Frame) (fs : List Frame) (y : Station)
     → Both selective k w x (f ∷ fs) y → Both selective k w (row_as selective x.phase x (shown x.extended f) (information f)) fs y
 row_keeps true k w x f fs y b = selective_row_keeps k w x.phase x f fs y b
 row_keeps false k w x f fs y b = go_back_row_keeps k w x.phase x f fs y b

@@ -26,3 +26,9 @@ pub mod Windows
 pub mod WindowsRun
 pub mod Bounded
 pub mod Lasting
+pub mod Sound
+pub mod SoundRows
+pub mod Gaps
+pub mod SoundCalls
+pub mod Sounds
+pub mod SoundRuns

@@ -1,5 +1,5 @@
 -- What a station with selective reject spends at a frame that comes.
-use Rattle.std.proofs.Common.{if◌then◌else◌, ◌≡◌, ℕ, ◌+◌, ◌-◌, ◌%◌, ◌≤◌, max, Bool, true, false, List, [], ◌∷◌, ◌++◌, length, map, Option, Some, None, refl, sym, ap, subst, arith, length-append}
+use Rattle.std.proofs.Common.{if◌then◌else◌, ◌≡◌, ◌⊎◌, inl, inr, ℕ, ◌+◌, ◌-◌, ◌%◌, ◌≤◌, max, Bool, true, false, List, [], ◌∷◌, ◌++◌, length, map, Option, Some, None, refl, sym, ◌∙◌, ap, subst, arith, length-append}
 use Rattle.std.specs.Prelude.{nat_lt, nat_le, ◌==◌}
 use Rattle.std.specs.List.{filter}
 use Rattle.std.proofs.lemmas.Bool.{cond_both}
@@ -13,7 +13,7 @@ use Rattle.station_model.specs.Selective.{held_for, is_found, without_gap, takes
 use Rattle.station_pair.specs.Invariant.{Both, infos, numbers, marks, greatest_mark}
 use Rattle.station_pair.proofs.Ways.{forward_le}
 use Rattle.station_pair.proofs.Rows.{half_ack, no_foreign}
-use Rattle.station_pair.proofs.SelectiveRows.{named_at, number_is}
+use Rattle.station_pair.proofs.SelectiveRows.{named_at, named_none_or}
 use Rattle.station_pair.proofs.Potential.{weight, weights_join, weights_push, weights_asked, sets_up, none_sets_up, passing}
 use Rattle.station_pair.proofs.Repairs.{is_open, repairs_le, holds_passing, kept_passing}
 use Rattle.station_pair.proofs.Spending.{Spends, numbered, idle_spends, refuses_spends, down_spends}
@@ -51,15 +51,16 @@ module _ (set_up_cost window : ℕ) where
       (λ held. next_spends high x) (λ free. holds_spends high n p x low below))
 
   found_spends : (k : ℕ) (lw : List Frame) (x : Station) (n r : ℕ) (p : List ℕ) (fs : List Frame) (y : Station)
-      → (o : Option ℕ) → named x.extended (length x.taken) (x.window - 1) (n % modulo x.extended) ≡ o
+      → (o : Option ℕ) → named x.extended (length x.taken) (x.window - 1) (n % modulo x.extended) ≡ o → (o ≡ None) ⊎ (o ≡ Some n)
       → Both true k lw x (Info n r p ∷ fs) y → Spends true set_up_cost window (length y.handed) false false 2 x (files_at o p x)
-  found_spends k lw x n r p fs y None e b = next_spends (length y.handed) x
-  found_spends k lw x n r p fs y (Some m) e b =
+  found_spends k lw x n r p fs y o is (inl e) b =
+      subst (λ (o : Option ℕ). Spends true set_up_cost window (length y.handed) false false 2 x (files_at o p x)) (sym e) (next_spends (length y.handed) x)
+  found_spends k lw x n r p fs y o is (inr e) b =
       let v = b.1.0 in
-      let same = number_is k lw x n r p fs y m e b in
-      let at = named_at x.extended (length x.taken) (x.window - 1) (n % modulo x.extended) m e in
+      let at = named_at x.extended (length x.taken) (x.window - 1) (n % modulo x.extended) n (is ∙ e) in
       let le = forward_le k (max (length x.taken) (n + 1)) y.sent y.handed (infos fs) v.chain.2 in
-      number_spends (length y.handed) m p x at.low (omega (arith, same, le, v.given))
+      subst (λ (o : Option ℕ). Spends true set_up_cost window (length y.handed) false false 2 x (files_at o p x)) (sym e)
+      (number_spends (length y.handed) n p x at.low (omega (arith, le, v.given)))
 
   -- ---- SREJ
 
@@ -112,11 +113,12 @@ module _ (set_up_cost window : ℕ) where
       let u : Station = record x { phase = Up } in
       let high : ℕ = length y.handed in
       let none = none_sets_up true 1 fs (greatest_mark y.calling y.sent) (omega arith) b.1.1.1 in
+      let a : Both true k lw (acknowledges r u) (Info n r q ∷ fs) y = (half_ack true k r (infos (lw ++ x.said)) (marks true (lw ++ x.said)) (numbers fs) u y b.0, b.1, b.2, b.3, b.4) in
+      let o : Option ℕ = named x.extended (length x.taken) (x.window - 1) (n % modulo x.extended) in
       numbered true k (infos (lw ++ x.said)) (marks true (lw ++ x.said)) (numbers fs) u r y (files (n % modulo x.extended) q)
       (λ t. Spends true set_up_cost window high (sets_up fs) (sets_up fs) 2 x t) b.4 b.0
       (subst (λ (c : Bool). Spends true set_up_cost window high c c 2 x (files (n % modulo x.extended) q (acknowledges r u))) (sym none)
-      (found_spends k lw (acknowledges r u) n r q fs y (named x.extended (length x.taken) (x.window - 1) (n % modulo x.extended)) refl
-      (half_ack true k r (infos (lw ++ x.said)) (marks true (lw ++ x.said)) (numbers fs) u y b.0, b.1, b.2, b.3, b.4)))
+      (found_spends k lw (acknowledges r u) n r q fs y o refl (named_none_or k (lw ++ x.said) (acknowledges r u) n r q fs y a o refl) a))
   selective_spends k lw Up x (Rr r) fs y b =
       let u : Station = record x { phase = Up } in
       numbered true k (infos (lw ++ x.said)) (marks true (lw ++ x.said)) (numbers fs) u r y (marks_busy false)
