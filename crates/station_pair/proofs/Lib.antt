@@ -18,3 +18,17 @@ pub mod Telling
 pub mod Keeping
 pub mod LossFree
 pub mod Giving
+pub mod Potential
+pub mod Repairs
+pub mod Spending
+pub mod SpendingSelective
+pub mod Windows
+pub mod WindowsRun
+pub mod Bounded
+pub mod Lasting
+pub mod Sound
+pub mod SoundRows
+pub mod Gaps
+pub mod SoundCalls
+pub mod Sounds
+pub mod SoundRuns

@@ -5,4 +5,5 @@ pub mod Invariant
 pub mod Flowing
 pub mod Keeping
 pub mod LossFree
+pub mod Recovery
 pub mod KnownAnswers

@@ -1,0 +1,5 @@
+use Rattle.station_pair.proofs.SoundRuns.{passes_release}
+use Rattle.station_pair.proofs.laws.recovery.Goals as goal
+
+pub returns-clause-live : goal.returns-clause-live
+returns-clause-live c = passes_release (record { back = c.control_reads_back.ensures; parts = c.flag_parts.ensures; alone = c.frame_alone.ensures })
