@@ -15,6 +15,7 @@ pub mod Hearing
 pub mod Totals
 pub mod Texts
 pub mod Headline
+pub mod Recovery
 pub mod Printing
 pub mod KnownAnswers
 pub mod KnownPayloads
