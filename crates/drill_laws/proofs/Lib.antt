@@ -35,4 +35,7 @@ mod StackEnding
 mod Keyed
 mod StackOrdered
 mod OrderUnforged
+mod OneLink
+mod Repairing
+pub mod Recovering
 pub mod StackRuns

@@ -14,8 +14,8 @@ pub mod Effects
 pub mod Hearing
 pub mod Totals
 pub mod Texts
-pub mod Headline
 pub mod Recovery
+pub mod Headline
 pub mod Printing
 pub mod KnownAnswers
 pub mod KnownPayloads
