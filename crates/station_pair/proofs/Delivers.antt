@@ -199,7 +199,7 @@ pub agreed_row : (selective : Bool) (x : Station) → row_as selective Setting x
 agreed_row true x = refl
 agreed_row false x = refl
 
-agreed_answer : ControlReadsBack → (selective : Bool) (k : ℕ) (now : ℕ) (lx : List Frame) (x : Station) (fs : List Frame) (y : Station) → x.phase ≡ Setting
+pub agreed_answer : ControlReadsBack → (selective : Bool) (k : ℕ) (now : ℕ) (lx : List Frame) (x : Station) (fs : List Frame) (y : Station) → x.phase ≡ Setting
     → Pair selective k lx x (Ua true ∷ fs) y → answered selective now y (Ua true) x ≡ finishes (sends_waiting (comes_up (record (sees now x) { timer = None; expiries = 0 })))
 agreed_answer law selective k now lx x fs y setting h =
     ap finishes (heard_live selective now (found y (Ua true)) x (ap is_down setting))

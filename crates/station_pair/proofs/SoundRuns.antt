@@ -25,7 +25,7 @@ use Rattle.station_pair.proofs.Sounds.{Claim, Sounds, own_gone, own_twice, e_doe
 
 -- nothing is claimed besides
 abbrev pub NoClaim : Claim
-NoClaim fe e fr r = Unit {0}
+NoClaim selective fe e fr r = Unit {0}
 
 abbrev pub Sound : (window : ℕ) → Link → Type 0
 Sound window l = Sounds window NoClaim l
@@ -78,6 +78,7 @@ module _ (wd : ℕ) where
         rests_r = h.rests_r;
         first = h.first;
         wide = h.wide;
+        begun = h.begun;
         claim = tt;
       }
   lost_sound R l (octets ∷ rest) e h =
@@ -93,6 +94,7 @@ module _ (wd : ℕ) where
         rests_r = h.rests_r;
         first = h.first;
         wide = h.wide;
+        begun = h.begun;
         claim = tt;
       }
 
@@ -113,6 +115,7 @@ module _ (wd : ℕ) where
         rests_r = h.rests_r;
         first = h.first;
         wide = h.wide;
+        begun = h.begun;
         claim = tt;
       }
   repeated_sound R l (octets ∷ rest) e h =
@@ -128,6 +131,7 @@ module _ (wd : ℕ) where
         rests_r = h.rests_r;
         first = h.first;
         wide = h.wide;
+        begun = h.begun;
         claim = tt;
       }
 
@@ -232,6 +236,7 @@ opened_sound s = record {
   rests_r = (inl refl, λ live. refl);
   first = λ idle. refl;
   wide = wide_at s.selective s.extended s.window;
+  begun = λ idle. absurd cc;
   claim = tt;
 }
 

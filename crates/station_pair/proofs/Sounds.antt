@@ -26,9 +26,9 @@ use Rattle.station_pair.proofs.Telling.{phases_stay, ticks_tell}
 use Rattle.station_pair.proofs.Sound.{IsPolite, AllPolite, Own, OwnIn}
 use Rattle.station_pair.proofs.SoundCalls.{Rested, Leaves, Lives, hands_leaves, ticks_leaves, quits_leaves, answered_lives}
 
--- what is claimed besides of the frames that wait and the stations: from e, e, from r, r
+-- what is claimed besides of the kind, the frames that wait and the stations: from e, e, from r, r
 abbrev pub Claim : Type 1
-Claim = List Frame → Station → List Frame → Station → Type 0
+Claim = (selective : Bool) → List Frame → Station → List Frame → Station → Type 0
 
 pub record Sounds (window : ℕ) (Q : Claim) (l : Link) : Type 0 where
   pub k : ℕ
@@ -43,7 +43,9 @@ pub record Sounds (window : ℕ) (Q : Claim) (l : Link) : Type 0 where
   pub first : l.r.phase ≡ Idle → is_up l.e.phase ≡ false
   -- with selective reject the greatest window is the window
   pub wide : l.selective ≡ true → k ≡ window
-  pub claim : Q fe l.e fr l.r
+  -- the calling station started
+  pub begun : l.e.phase ≡ Idle → ⊥
+  pub claim : Q l.selective fe l.e fr l.r
 
 -- between two calls nothing is said
 pub own_begun : (c : Bool) (wd : ℕ) (w : List Frame) (x : Station) → x.said ≡ [] → Own c wd w x → OwnIn c wd w x
@@ -60,7 +62,7 @@ module _ (wd : ℕ) (Q P : Claim) where
   -- ---- an event at an end
 
   pub e_does : (l : Link) (h : Sounds wd Q l) (x : Station) → Both l.selective h.k h.fe x h.fr l.r → Leaves true wd h.fe l.e.phase x → (l.r.phase ≡ Idle → is_up x.phase ≡ false)
-      → P (h.fe ++ x.said) (settled x) h.fr l.r → Sounds wd P (did E x l)
+      → P l.selective (h.fe ++ x.said) (settled x) h.fr l.r → Sounds wd P (did E x l)
   e_does l h x b o first claim = record {
     k = h.k;
     fe = h.fe ++ x.said;
@@ -72,11 +74,12 @@ module _ (wd : ℕ) (Q P : Claim) where
     rests_r = h.rests_r;
     first = first;
     wide = h.wide;
+    begun = λ idle. h.begun (o.2 idle);
     claim = claim;
   }
 
   pub r_does : (l : Link) (h : Sounds wd Q l) (x : Station) → Both l.selective h.k h.fr x h.fe l.e → Leaves false wd h.fr l.r.phase x
-      → P h.fe l.e (h.fr ++ x.said) (settled x) → Sounds wd P (did R x l)
+      → P l.selective h.fe l.e (h.fr ++ x.said) (settled x) → Sounds wd P (did R x l)
   r_does l h x b o claim =
       let t = turned l.selective h.k h.fe l.e h.fr l.r l.from_e l.from_r l.read_e l.read_r h.stands in
       let a = acted l.selective h.k h.fr l.r h.fe l.e l.from_r l.from_e l.read_r l.read_e x h.fe l.from_e l.read_r t t.lined_y t.flag_x b in
@@ -91,6 +94,7 @@ module _ (wd : ℕ) (Q P : Claim) where
         rests_r = o.1;
         first = λ idle. h.first (o.2 idle);
         wide = h.wide;
+        begun = h.begun;
         claim = claim;
       }
 
@@ -111,20 +115,20 @@ module _ (wd : ℕ) (Q : Claim) where
   pub same : (l : Link) (h : Sounds wd Q l) (moment passes : ℕ) (order_kept loss_free : Bool) (came : List Came)
       → Sounds wd Q (record l { moment = moment; passes = passes; order_kept = order_kept; loss_free = loss_free; came = came })
   same l h moment passes order_kept loss_free came =
-      record { k = h.k; fe = h.fe; fr = h.fr; stands = h.stands; own_e = h.own_e; own_r = h.own_r; rests_e = h.rests_e; rests_r = h.rests_r; first = h.first; wide = h.wide; claim = h.claim }
+      record { k = h.k; fe = h.fe; fr = h.fr; stands = h.stands; own_e = h.own_e; own_r = h.own_r; rests_e = h.rests_e; rests_r = h.rests_r; first = h.first; wide = h.wide; begun = h.begun; claim = h.claim }
 
   -- ---- a frame is passed
 
   -- the claim outlasts the frame that comes to r, and to e
   abbrev pub ToR : Type 0
   ToR = (selective : Bool) (k now : ℕ) (fr : List Frame) (r : Station) (f : Frame) (fs : List Frame) (e : Station) → (selective ≡ true → k ≡ wd) → r.said ≡ []
-      → Both selective k fr r (f ∷ fs) e → Own false wd fr r → Own true wd (f ∷ fs) e → Rested r → Rested e → Q (f ∷ fs) e fr r
-      → Q fs e (fr ++ (answered selective now e f r).said) (settled (answered selective now e f r))
+      → Both selective k fr r (f ∷ fs) e → Own false wd fr r → Own true wd (f ∷ fs) e → Rested r → Rested e → Q selective (f ∷ fs) e fr r
+      → Q selective fs e (fr ++ (answered selective now e f r).said) (settled (answered selective now e f r))
 
   abbrev pub ToE : Type 0
   ToE = (selective : Bool) (k now : ℕ) (fe : List Frame) (e : Station) (f : Frame) (fs : List Frame) (r : Station) → (selective ≡ true → k ≡ wd) → e.said ≡ []
-      → Both selective k fe e (f ∷ fs) r → Own true wd fe e → Own false wd (f ∷ fs) r → Rested e → Rested r → Q fe e (f ∷ fs) r
-      → Q (fe ++ (answered selective now r f e).said) (settled (answered selective now r f e)) fs r
+      → Both selective k fe e (f ∷ fs) r → Own true wd fe e → Own false wd (f ∷ fs) r → Rested e → Rested r → Q selective fe e (f ∷ fs) r
+      → Q selective (fe ++ (answered selective now r f e).said) (settled (answered selective now r f e)) fs r
 
   -- and live ends stay so
   abbrev pub Gone : Link → Link → Type 0
@@ -142,7 +146,7 @@ module _ (wd : ℕ) (Q : Claim) where
       (answered_keeps laws.back l.selective h.k h.fr l.moment l.r f.frame f.frames l.e b) in
       let g = answered_lives laws.back l.selective h.k false wd h.fr l.moment l.r f.frame f.frames l.e b (r_own l h) in
       let c = keeps l.selective h.k l.moment h.fr l.r f.frame f.frames l.e h.wide h.stands.quiet_y b h.own_r o h.rests_r h.rests_e
-      (subst (λ (q : List Frame). Q q l.e h.fr l.r) f.all h.claim) in
+      (subst (λ (q : List Frame). Q l.selective q l.e h.fr l.r) f.all h.claim) in
       subst (λ (os : List ℕ). Gone l (reads R os (record l { from_e = rest; passes = passes }))) (sym f.octets_are)
       (subst (λ (vs : List Verdict). Gone l (hears_each R vs (record l { from_e = rest; passes = passes; read_r = l.read_r ++ octets_of l.e f.frame })))
       (sym (one_event laws.parts laws.alone l.selective h.k h.fr l.r f.frame f.frames l.e l.read_r t.flag_x p)) (
@@ -157,6 +161,7 @@ module _ (wd : ℕ) (Q : Claim) where
           rests_r = g.0.1;
           first = λ idle. h.first (g.0.2 idle);
           wide = h.wide;
+          begun = h.begun;
           claim = c;
         },
         λ live. (live.0, g.1 (o.6 live.0).0 live.1),
@@ -174,7 +179,7 @@ module _ (wd : ℕ) (Q : Claim) where
       (answered_keeps laws.back l.selective h.k h.fe l.moment l.e f.frame f.frames l.r b) in
       let g = answered_lives laws.back l.selective h.k true wd h.fe l.moment l.e f.frame f.frames l.r b (e_own l h) in
       let c = keeps l.selective h.k l.moment h.fe l.e f.frame f.frames l.r h.wide h.stands.quiet_x b h.own_e o h.rests_e h.rests_r
-      (subst (λ (q : List Frame). Q h.fe l.e q l.r) f.all h.claim) in
+      (subst (λ (q : List Frame). Q l.selective h.fe l.e q l.r) f.all h.claim) in
       subst (λ (os : List ℕ). Gone l (reads E os (record l { from_r = rest; passes = passes }))) (sym f.octets_are)
       (subst (λ (vs : List Verdict). Gone l (hears_each E vs (record l { from_r = rest; passes = passes; read_e = l.read_e ++ octets_of l.r f.frame })))
       (sym (one_event laws.parts laws.alone l.selective h.k h.fe l.e f.frame f.frames l.r l.read_e t.flag_x p)) (
@@ -190,6 +195,7 @@ module _ (wd : ℕ) (Q : Claim) where
           -- in Idle the called station sent nothing
           first = λ idle. absurd (let n : f.frame ∷ f.frames ≡ [] = (o.7 idle).0 in let u : ⊥ = cc in u);
           wide = h.wide;
+          begun = λ idle. h.begun (g.0.2 idle);
           claim = c;
         },
         λ live. (g.1 (o.6 live.1).0 live.0, live.1),
