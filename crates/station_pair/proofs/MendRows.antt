@@ -1,23 +1,22 @@
 -- Two stations that are up, once each sent again what was unacknowledged: what a station does at the first frame that waits keeps that all that
 -- was sent comes. Everywhere x acts and y doesn't, and w waited from x before the call.
-use Rattle.std.proofs.Common.{if◌then◌else◌, ◌≡◌, ℕ, zero, suc, ◌+◌, ◌-◌, ◌%◌, ◌<◌, ◌≤◌, ◌⊎◌, inl, inr, max, Bool, true, false, List, [], ◌∷◌, ◌++◌, length, Option, Some, None, refl, sym, ◌∙◌, ap, subst, arith, length-append, eq-eqb, eqb-true, ltb-true, true≢false}
+use Rattle.std.proofs.Common.{if◌then◌else◌, ◌≡◌, ℕ, ◌+◌, ◌-◌, ◌%◌, ◌<◌, ◌≤◌, ◌⊎◌, inl, inr, max, Bool, true, false, List, [], ◌∷◌, ◌++◌, length, Option, Some, None, refl, sym, ◌∙◌, ap, subst, arith, length-append, eq-eqb, eqb-true, ltb-true, true≢false}
 use Rattle.std.specs.Prelude.{nat_lt, nat_le, ◌==◌}
 use Rattle.std.specs.List.{filter}
 use Rattle.std.proofs.lemmas.Bool.{cases_Bool, cond_both}
 use Rattle.station_model.specs.declared.phase.Phase.TheVariants.{Up}
 use Rattle.station_model.specs.Frames.{Frame, Info, Rr, Rej, Srej, SetUp, Disc, Dm, Ua, modulo, shown, information}
 use Rattle.station_model.specs.Stations.{Station, puts}
-use Rattle.station_model.specs.Sending.{info_at, sends_again, starts_timer}
+use Rattle.station_model.specs.Sending.{sends_again, starts_timer}
 use Rattle.station_model.specs.Receiving.{strays, named, acknowledges, acknowledging, by_number, accepts, rejects, takes, marks_busy, repeats_rejected}
 use Rattle.station_model.specs.Selective.{held_for, is_found, without_gap, takes_run, missing_below, holds, says_next, files_at, files, repeats_at, repeats_one}
-use Rattle.station_pair.specs.Invariant.{Half, IsSpan, Pair, infos, numbers, marks}
-use Rattle.station_pair.specs.Flowing.{Ends}
-use Rattle.station_pair.proofs.Ways.{climbs_le, forward_le, way_bounds, way_tells}
+use Rattle.station_pair.specs.Invariant.{Half, Pair, infos, numbers, marks}
+use Rattle.station_pair.proofs.Ways.{forward_le, way_bounds, way_tells}
 use Rattle.station_pair.proofs.Rows.{found, no_foreign, named_is, span_below}
 use Rattle.station_pair.proofs.Hearing.{row_as}
 use Rattle.station_pair.proofs.SelectiveRows.{named_at, named_none_or}
 use Rattle.station_pair.proofs.Gaps.{held_kept, held_push}
-use Rattle.station_pair.proofs.Mending.{leads, Waits, Comes, Toward, Near, NearIn, Mends, MendsIn, puts_shown_mends, puts_again_mends, asked_mends, sends_again_mends}
+use Rattle.station_pair.proofs.Mending.{leads, Waits, Comes, NearIn, Mends, MendsIn, puts_shown_mends, puts_again_mends, asked_mends, sends_again_mends}
 
 -- ---- N(R)
 

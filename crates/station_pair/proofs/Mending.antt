@@ -1,9 +1,8 @@
 -- Two stations that are up, once each sent again what was unacknowledged: while frames are given alone, what waits leads to all that was sent.
 -- What a station sends keeps that. Everywhere x acts and y doesn't, and w waited from x before the call.
-use Rattle.std.proofs.Common.{if◌then◌else◌, ◌≡◌, ℕ, zero, suc, ◌+◌, ◌-◌, ◌<◌, ◌≤◌, ◌⊎◌, inl, inr, Bool, true, false, List, [], ◌∷◌, ◌++◌, length, map, refl, sym, ◌∙◌, ap, subst, arith, append_assoc, append-nil, eq-eqb, eqb-true, true≢false}
+use Rattle.std.proofs.Common.{if◌then◌else◌, ◌≡◌, ℕ, zero, suc, ◌+◌, ◌-◌, ◌<◌, ◌≤◌, ◌⊎◌, inl, inr, Bool, true, false, List, [], ◌∷◌, ◌++◌, length, map, refl, sym, ◌∙◌, ap, subst, arith, append_assoc, append-nil, eq-eqb, eqb-true}
 use Rattle.std.specs.Prelude.{slice_index_or, ◌==◌}
 use Rattle.std.proofs.lemmas.Bool.{cases_Bool, cases_lt, cond_both}
-use Rattle.station_model.specs.declared.phase.Phase.{Phase}
 use Rattle.station_model.specs.declared.phase.Phase.TheVariants.{Up}
 use Rattle.station_model.specs.Frames.{Frame, Info, Rr, Rej, Srej, SetUp, Disc, Dm, Ua}
 use Rattle.station_model.specs.Stations.{Station, is_down, puts}

@@ -1,18 +1,18 @@
 -- The law of recovery: the tick sends again all that is unacknowledged, and once no frame waits behind it, all was taken.
-use Rattle.std.proofs.Common.{if◌then◌else◌, ◌≡◌, ℕ, zero, suc, ◌+◌, ◌-◌, ◌<◌, ◌≤◌, ◌⊎◌, inl, inr, max, Bool, true, false, not, ◌&&◌, ◌||◌, List, [], ◌∷◌, ◌++◌, length, Option, None, refl, sym, ◌∙◌, ap, subst, arith, append_assoc, eq-eqb, eqb-true, lt-ltb, true≢false}
+use Rattle.std.proofs.Common.{◌≡◌, ℕ, ◌+◌, ◌<◌, ◌≤◌, ◌⊎◌, inl, inr, max, Bool, true, false, not, ◌&&◌, ◌||◌, List, [], ◌∷◌, ◌++◌, length, None, refl, sym, ◌∙◌, ap, subst, arith, eq-eqb, eqb-true, lt-ltb, true≢false}
 use Rattle.std.specs.Prelude.{nat_lt, ◌==◌}
-use Rattle.std.proofs.lemmas.Bool.{cases_Bool, cases_lt, cond_both}
+use Rattle.std.proofs.lemmas.Bool.{cases_lt, cond_both}
 use Rattle.er_base.specs.declared.side.Side.TheVariants.{E, R}
 use Rattle.station_model.specs.declared.phase.Phase.{Phase}
 use Rattle.station_model.specs.declared.phase.Phase.TheVariants.{Idle, Setting, Up, Down}
 use Rattle.station_model.specs.Frames.{Frame, SetUp, Ua}
-use Rattle.station_model.specs.Stations.{Station, is_up, is_down, settled}
+use Rattle.station_model.specs.Stations.{Station, is_up, is_down}
 use Rattle.station_model.specs.Selective.{held_for, is_found}
 use Rattle.station_model.specs.Calls.{finishes, ticks}
 use Rattle.station_model.specs.Events.{is_late}
 use Rattle.station_pair.specs.Links.{Link, opened}
 use Rattle.station_pair.specs.Steps.{LinkStep, Tick, tick_at, tick, happens, run}
-use Rattle.station_pair.specs.Laws.{Opening, after, IsEmpty}
+use Rattle.station_pair.specs.Laws.{after, IsEmpty}
 use Rattle.station_pair.specs.Invariant.{Pair, Early, infos, numbers}
 use Rattle.station_pair.specs.Flowing.{Consecutive, Ends}
 use Rattle.station_pair.specs.Recovery.{ArePasses, AreLive, MayRepeat, IsRecovered, Recovery}

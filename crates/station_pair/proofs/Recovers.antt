@@ -1,33 +1,29 @@
 -- Two stations behind a tick that found each running T1 expired: while frames are given alone, all that was sent comes; so once no frame waits,
 -- all was taken.
-use Rattle.std.proofs.Common.{if◌then◌else◌, ◌≡◌, ℕ, zero, suc, ◌+◌, ◌-◌, ◌<◌, ◌≤◌, ◌⊎◌, inl, inr, max, Bool, true, false, not, ◌&&◌, ◌||◌, List, [], ◌∷◌, ◌++◌, length, take, Option, None, refl, sym, ◌∙◌, ap, subst, arith, append-nil, append_assoc, eq-eqb, eqb-true, lt-ltb, true≢false, take_all}
-use Rattle.std.specs.Prelude.{nat_lt, ◌==◌}
-use Rattle.std.proofs.lemmas.Bool.{cases_Bool, cases_lt, cond_both}
+use Rattle.std.proofs.Common.{◌≡◌, ℕ, ◌+◌, ◌⊎◌, inl, inr, Bool, true, false, List, [], ◌∷◌, ◌++◌, length, None, refl, sym, ◌∙◌, ap, subst, arith, append-nil, eq-eqb, true≢false}
+use Rattle.std.specs.Prelude.{◌==◌}
+use Rattle.std.proofs.lemmas.Bool.{cond_both}
 use Rattle.hdlc_frames.specs.Laws.{ControlReadsBack}
 use Rattle.station_model.specs.declared.phase.Phase.{Phase}
-use Rattle.station_model.specs.declared.phase.Phase.TheVariants.{Idle, Setting, Up, Down}
+use Rattle.station_model.specs.declared.phase.Phase.TheVariants.{Idle, Setting, Up}
 use Rattle.station_model.specs.Frames.{Frame, SetUp, Ua, set_up, shown, information}
-use Rattle.station_model.specs.Stations.{Station, is_up, is_down, sees, settled}
-use Rattle.station_model.specs.Sending.{can_send, sends_waiting, refuses_frame}
-use Rattle.station_model.specs.Receiving.{agrees, comes_up, row_up}
-use Rattle.station_model.specs.Selective.{held_for, is_found, selective_row_up, sets_up_selective_again}
+use Rattle.station_model.specs.Stations.{Station, is_down, sees, settled}
+use Rattle.station_model.specs.Sending.{sends_waiting, refuses_frame}
+use Rattle.station_model.specs.Receiving.{agrees, comes_up}
+use Rattle.station_model.specs.Selective.{held_for}
 use Rattle.station_model.specs.Calls.{finishes}
 use Rattle.station_pair.specs.Invariant.{Pair, Both, Early, infos, numbers}
 use Rattle.station_pair.specs.Keeping.{found}
-use Rattle.station_pair.specs.Flowing.{Consecutive, Ends, Rests}
 use Rattle.station_pair.proofs.Ways.{way_bounds}
 use Rattle.station_pair.proofs.Rows.{set_up_at}
 use Rattle.station_pair.proofs.Hearing.{row_as}
-use Rattle.station_pair.proofs.Events.{swap}
 use Rattle.station_pair.proofs.Lines.{answered}
 use Rattle.station_pair.proofs.Flows.{heard_live, heard_row}
 use Rattle.station_pair.proofs.Delivers.{quiet, sets_up, agreed_answer}
-use Rattle.station_pair.proofs.Sound.{Own}
-use Rattle.station_pair.proofs.SoundCalls.{Rested}
 use Rattle.station_pair.proofs.Sounds.{Claim, ToR, ToE}
-use Rattle.station_pair.proofs.Mending.{leads, Waits, Comes, Mends, MendsIn, mends_swap, ends_mends}
+use Rattle.station_pair.proofs.Mending.{Comes, Mends, MendsIn, mends_swap, ends_mends}
 use Rattle.station_pair.proofs.MendRows.{go_back_mends, selective_mends}
-use Rattle.station_pair.proofs.Repeats.{AllAre, Fires, cannot_yet}
+use Rattle.station_pair.proofs.Repeats.{cannot_yet}
 
 -- ---- the stages, from the tick on
 

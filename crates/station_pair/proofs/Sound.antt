@@ -1,6 +1,6 @@
 -- One station, whatever its line loses and repeats: what holds of it alone at any moment, and that no frame of a station that isn't released
 -- releases the other one. Everywhere x acts and y doesn't, and w waited from x before the call.
-use Rattle.std.proofs.Common.{if◌then◌else◌, ◌≡◌, ℕ, zero, suc, ◌+◌, ◌-◌, ◌<◌, ◌≤◌, inl, inr, Bool, true, false, List, [], ◌∷◌, ◌++◌, length, Option, Some, None, refl, sym, ◌∙◌, ap, subst, arith, append_assoc, append-nil, length-append, ltb-true}
+use Rattle.std.proofs.Common.{if◌then◌else◌, ◌≡◌, ℕ, zero, suc, ◌+◌, ◌-◌, ◌≤◌, Bool, false, List, [], ◌∷◌, ◌++◌, length, Option, Some, None, sym, subst, arith, append_assoc, append-nil}
 use Rattle.std.specs.Prelude.{nat_lt}
 use Rattle.std.proofs.lemmas.Bool.{cond_both, ltb-false}
 use Rattle.er_base.specs.declared.cause.Cause.{Cause}
@@ -8,10 +8,9 @@ use Rattle.station_model.specs.declared.phase.Phase.{Phase}
 use Rattle.station_model.specs.declared.phase.Phase.TheVariants.{Idle, Setting, Up, Down}
 use Rattle.station_model.specs.Frames.{Frame, Info, Rr, Rej, Srej, SetUp, Disc, Dm, Ua}
 use Rattle.station_model.specs.Stations.{Station, is_down, puts}
-use Rattle.station_model.specs.Sending.{info_at, can_send, waiting, frames_again, sends_next, sends_up_to, sends_waiting, sends_again, starts_timer, settles, releases, started}
+use Rattle.station_model.specs.Sending.{info_at, frames_again, sends_again, starts_timer, releases}
 use Rattle.station_model.specs.Receiving.{acknowledges}
 use Rattle.station_model.specs.Selective.{held_for}
-use Rattle.station_model.specs.Calls.{finishes}
 
 -- a frame that a station sends before it is released
 abbrev pub IsPolite : Frame → Type 0

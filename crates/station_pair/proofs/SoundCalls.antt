@@ -1,22 +1,20 @@
 -- Each call keeps what holds of a station alone, and leaves nothing unsent that may be sent, and no answer owed. Everywhere x acts and y
 -- doesn't, w waited from x before the call.
-use Rattle.std.proofs.Common.{if◌then◌else◌, ◌≡◌, ℕ, zero, suc, ◌+◌, ◌-◌, ◌<◌, ◌≤◌, ◌⊎◌, inl, inr, Bool, true, false, not, ◌&&◌, ◌||◌, ltb, List, [], ◌∷◌, ◌++◌, length, Option, Some, None, refl, sym, ◌∙◌, ap, subst, arith, length-append, ltb-true, true≢false}
+use Rattle.std.proofs.Common.{◌≡◌, ℕ, zero, suc, ◌+◌, ◌-◌, ◌≤◌, inl, inr, Bool, true, false, not, ◌&&◌, ◌||◌, ltb, List, [], ◌∷◌, ◌++◌, length, Option, Some, None, refl, sym, ◌∙◌, ap, subst, arith, length-append, ltb-true, true≢false}
 use Rattle.std.specs.Prelude.{nat_lt}
 use Rattle.std.proofs.lemmas.Bool.{cases_Bool, cond_both, and_parts}
 use Rattle.er_base.specs.declared.release.Release.{Release}
 use Rattle.er_base.specs.declared.cause.Cause.TheVariants.{SetUpUnanswered, NoProgress, User}
 use Rattle.er_base.specs.Causes.{release_of}
-use Rattle.hdlc_frames.specs.Framing.{Frame as Frame_found}
 use Rattle.hdlc_frames.specs.Laws.{ControlReadsBack}
 use Rattle.station_model.specs.declared.phase.Phase.{Phase}
 use Rattle.station_model.specs.declared.phase.Phase.TheVariants.{Idle, Setting, Up, Down}
-use Rattle.station_model.specs.Frames.{Frame, Rr, SetUp, Disc, shown, information, sent_address, sent_body}
+use Rattle.station_model.specs.Frames.{Frame, Rr, SetUp, Disc, shown, information}
 use Rattle.station_model.specs.Stations.{Station, is_up, is_down, sees, puts}
 use Rattle.station_model.specs.Sending.{info_at, can_send, waiting, sends_next, sends_up_to, sends_waiting, sends_again, starts_timer, settles, gives_up, counts_expiry, expires_at, expires, expires_if_due, is_due, started}
-use Rattle.station_model.specs.Selective.{receives_as}
-use Rattle.station_model.specs.Calls.{hands, finishes, ticks, closes_at, closes}
+use Rattle.station_model.specs.Calls.{hands, finishes, ticks, closes_at}
 use Rattle.station_model.specs.Events.{quits}
-use Rattle.station_pair.specs.Invariant.{Pair, Both}
+use Rattle.station_pair.specs.Invariant.{Both}
 use Rattle.station_pair.specs.Keeping.{found}
 use Rattle.station_pair.specs.Flowing.{Rests}
 use Rattle.station_pair.proofs.Hearing.{row_as, hears_as, received}
@@ -25,7 +23,7 @@ use Rattle.station_pair.proofs.Events.{row_keeps}
 use Rattle.station_pair.proofs.Flows.{heard_row, up_to_rests}
 use Rattle.station_pair.proofs.Lines.{answered}
 use Rattle.station_pair.proofs.Delivers.{early_cannot}
-use Rattle.station_pair.proofs.Sound.{IsPolite, AllPolite, Timed, OwnIn, polite_said, own_again, own_dead}
+use Rattle.station_pair.proofs.Sound.{IsPolite, Timed, OwnIn, polite_said, own_again, own_dead}
 use Rattle.station_pair.proofs.SoundRows.{Wakes, go_back_wakes, selective_wakes}
 
 -- behind a call

@@ -1,9 +1,9 @@
 -- What a station does at a frame keeps what holds of it alone, and no frame of a live station releases it. Everywhere x acts and y doesn't,
 -- w waited from x before the call.
-use Rattle.std.proofs.Common.{if◌then◌else◌, ◌≡◌, ℕ, zero, suc, ◌+◌, ◌-◌, ◌%◌, ◌<◌, ◌≤◌, ◌⊎◌, inl, inr, Bool, true, false, List, [], ◌∷◌, ◌++◌, length, map, Option, Some, None, refl, sym, ◌∙◌, ap, subst, arith, append_assoc, append-nil, length-append, eq-eqb, eqb-true, true≢false}
+use Rattle.std.proofs.Common.{if◌then◌else◌, ◌≡◌, ℕ, ◌+◌, ◌-◌, ◌%◌, ◌⊎◌, inl, inr, Bool, true, false, List, [], ◌∷◌, ◌++◌, length, map, Option, Some, None, refl, sym, ◌∙◌, ap, subst, arith, append_assoc, append-nil, length-append, eq-eqb, eqb-true, true≢false}
 use Rattle.std.specs.Prelude.{nat_lt, nat_le, ◌==◌}
 use Rattle.std.specs.List.{filter}
-use Rattle.std.proofs.lemmas.Bool.{cond_both, cases_Bool}
+use Rattle.std.proofs.lemmas.Bool.{cond_both}
 use Rattle.er_base.specs.declared.cause.Cause.TheVariants.{PeerDisconnected}
 use Rattle.station_model.specs.declared.phase.Phase.{Phase}
 use Rattle.station_model.specs.declared.phase.Phase.TheVariants.{Idle, Setting, Up, Down}
@@ -12,12 +12,12 @@ use Rattle.station_model.specs.Stations.{Station, is_down, puts}
 use Rattle.station_model.specs.Sending.{info_at, refuses_frame, sends_again, starts_timer, releases}
 use Rattle.station_model.specs.Receiving.{strays, named, acknowledges, acknowledging, by_number, accepts, rejects, takes, marks_busy, repeats_rejected, agrees, comes_up, row_idle, row_up, row}
 use Rattle.station_model.specs.Selective.{held_for, is_found, without_gap, takes_run, missing_below, holds, says_next, files_at, files, repeats_at, repeats_one, sets_up_selective_again, selective_row_up, selective_row}
-use Rattle.station_pair.specs.Invariant.{Half, IsSpan, Pair, Both, infos, numbers, marks}
+use Rattle.station_pair.specs.Invariant.{Half, IsSpan, Both, marks}
 use Rattle.station_pair.proofs.Ways.{climbs_le, way_bounds}
 use Rattle.station_pair.proofs.Rows.{no_foreign, set_up_at, named_is}
 use Rattle.station_pair.proofs.SelectiveRows.{named_none_or}
 use Rattle.station_pair.proofs.Gaps.{next_not_held, held_others}
-use Rattle.station_pair.proofs.Sound.{IsPolite, AllPolite, Timed, OwnIn, polite_said, own_puts, own_ack, own_again, own_dead}
+use Rattle.station_pair.proofs.Sound.{IsPolite, AllPolite, OwnIn, polite_said, own_puts, own_ack, own_again, own_dead}
 
 -- behind a frame that came at a station in this phase
 abbrev pub Wakes : (calling : Bool) (window : ℕ) → List Frame → Phase → Frame → Station → Type 0

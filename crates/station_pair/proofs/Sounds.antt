@@ -1,30 +1,20 @@
 -- Two stations over an order-keeping line, step by step: what holds of each alone, beside the invariant of both; and while frames are given
 -- alone, no live end is released.
-use Rattle.std.proofs.Common.{if◌then◌else◌, ◌≡◌, ℕ, zero, suc, ◌≤◌, inl, inr, max, Bool, true, false, not, ◌&&◌, ◌||◌, List, [], ◌∷◌, ◌++◌, length, Option, Some, None, refl, sym, ◌∙◌, ap, subst, append-nil, true≢false}
-use Rattle.std.specs.Prelude.{nat_lt, ◌==◌}
-use Rattle.std.proofs.lemmas.Bool.{cond_both}
+use Rattle.std.proofs.Common.{◌≡◌, ℕ, Bool, true, false, List, [], ◌∷◌, ◌++◌, refl, sym, ◌∙◌, ap, subst, append-nil}
 use Rattle.er_base.specs.declared.side.Side.{Side}
 use Rattle.er_base.specs.declared.side.Side.TheVariants.{E, R}
 use Rattle.hdlc_frames.specs.Framing.{Verdict}
-use Rattle.station_model.specs.declared.phase.Phase.{Phase}
 use Rattle.station_model.specs.declared.phase.Phase.TheVariants.{Idle}
-use Rattle.station_model.specs.Frames.{Frame, SetUp}
-use Rattle.station_model.specs.Stations.{Station, is_up, is_down, settled}
-use Rattle.station_model.specs.Calls.{hands, finishes, ticks}
-use Rattle.station_model.specs.Events.{news, quits, is_late}
-use Rattle.station_model.specs.Lines.{altered, next_of}
-use Rattle.station_pair.specs.Links.{Came, Link, station_of, line_of, with_line, did, hears_each, reads, opened}
-use Rattle.station_pair.specs.Steps.{LinkStep, Send, Pass, Lose, Repeat, Alter, Put, UserRelease, Drain, Tick, refusal_at, send_unless, send, pass, lose, repeat, alter, release, tick_at, tick, is_overfull, Draining, pass_next, drained, step, happens, run}
-use Rattle.station_pair.specs.Laws.{Opening, after}
+use Rattle.station_model.specs.Frames.{Frame}
+use Rattle.station_model.specs.Stations.{Station, is_up, settled}
+use Rattle.station_pair.specs.Links.{Came, Link, line_of, did, hears_each, reads}
+use Rattle.station_pair.specs.Steps.{LinkStep, Send, Pass, Lose, Repeat, Alter, Put, UserRelease, Drain, Tick, pass, happens, run}
 use Rattle.station_pair.specs.Invariant.{Pair, Both}
-use Rattle.station_pair.specs.Recovery.{IsPass, ArePasses, AreLive, PassesRelease}
-use Rattle.station_pair.proofs.Events.{finishes_keeps, hands_keeps, ticks_keeps, quits_keeps}
-use Rattle.station_pair.proofs.Lines.{octets_of, Stands, turned, begun, acted, First, first_of_line, answered, one_event, flag_behind, answered_keeps, lost, repeated}
-use Rattle.station_pair.proofs.Opened.{span_of, opened_stands}
-use Rattle.station_pair.proofs.Runs.{Frames, refused_long, passed_kept, drained_kept, sent_kept, lost_kept, repeated_kept, released_kept}
-use Rattle.station_pair.proofs.Telling.{phases_stay, ticks_tell}
-use Rattle.station_pair.proofs.Sound.{IsPolite, AllPolite, Own, OwnIn}
-use Rattle.station_pair.proofs.SoundCalls.{Rested, Leaves, Lives, hands_leaves, ticks_leaves, quits_leaves, answered_lives}
+use Rattle.station_pair.specs.Recovery.{ArePasses, AreLive}
+use Rattle.station_pair.proofs.Lines.{octets_of, Stands, turned, begun, acted, First, first_of_line, answered, one_event, flag_behind, answered_keeps}
+use Rattle.station_pair.proofs.Runs.{Frames}
+use Rattle.station_pair.proofs.Sound.{Own, OwnIn}
+use Rattle.station_pair.proofs.SoundCalls.{Rested, Leaves, answered_lives}
 
 -- what is claimed besides of the kind, the frames that wait and the stations: from e, e, from r, r
 abbrev pub Claim : Type 1
