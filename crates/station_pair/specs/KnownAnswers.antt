@@ -82,3 +82,43 @@ lost_and_repeated_selective = refl
 pub lost_and_repeated_selective_extended : told (opened true true 20 5 1000 0) (Drain 4 ∷ Send E (1 ∷ []) ∷ Send E (2 ∷ []) ∷ Send E (3 ∷ []) ∷ Send E (4 ∷ []) ∷ Send E (5 ∷ []) ∷ Send E (6 ∷ []) ∷ Send E (7 ∷ []) ∷ Send E (8 ∷ []) ∷ Send E (9 ∷ []) ∷ Send E (10 ∷ []) ∷ Send E (11 ∷ []) ∷ Send E (12 ∷ []) ∷ Send E (13 ∷ []) ∷ Send E (14 ∷ []) ∷ Send E (15 ∷ []) ∷ Send E (16 ∷ []) ∷ Send E (17 ∷ []) ∷ Send E (18 ∷ []) ∷ Send E (19 ∷ []) ∷ Send E (20 ∷ []) ∷ Pass E ∷ Pass E ∷ Lose E ∷ Drain 200 ∷ Send E (21 ∷ []) ∷ Repeat E ∷ Drain 200 ∷ []) ≡ (CameUp R ∷ CameUp E ∷ Drained 2 ∷ Accepted R (1 ∷ []) ∷ Accepted R (2 ∷ []) ∷ Accepted R (3 ∷ []) ∷ Accepted R (4 ∷ []) ∷ Accepted R (5 ∷ []) ∷ Accepted R (6 ∷ []) ∷ Accepted R (7 ∷ []) ∷ Accepted R (8 ∷ []) ∷ Accepted R (9 ∷ []) ∷ Accepted R (10 ∷ []) ∷ Accepted R (11 ∷ []) ∷ Accepted R (12 ∷ []) ∷ Accepted R (13 ∷ []) ∷ Accepted R (14 ∷ []) ∷ Accepted R (15 ∷ []) ∷ Accepted R (16 ∷ []) ∷ Accepted R (17 ∷ []) ∷ Accepted R (18 ∷ []) ∷ Accepted R (19 ∷ []) ∷ Accepted R (20 ∷ []) ∷ Drained 22 ∷ Accepted R (21 ∷ []) ∷ Drained 4 ∷ [], (0, 0))
 unfolding frames_of between_flags all_but_last cut verdict_on verdict_on_content checked_part check_number unescaped ends_in_escape spelling escaped escaped_octet content_of control_of fcs_of fcs_bits dividend remainder divided_once add_front sent_bits low_bits low_number
 lost_and_repeated_selective_extended = refl
+
+-- ---- one tick repairs a loss of each kind, with go-back and with selective reject
+
+-- a lossy beginning, then T1 is found expired, and what waits is passed
+abbrev repaired : (selective : Bool) → List LinkStep → List Came × (ℕ × ℕ)
+repaired selective steps = told (opened selective false 4 5 1000 0) (steps ++ Tick 1000 ∷ Drain 20 ∷ [])
+
+abbrev of_both : List LinkStep → List Came × (ℕ × ℕ) → Type 0
+of_both steps told = (repaired false steps ≡ told) × (repaired true steps ≡ told)
+
+-- the set-up frame is lost: it comes again, and is answered
+pub lost_set_up : of_both (Lose E ∷ []) (CameUp R ∷ CameUp E ∷ Drained 2 ∷ [], (0, 0))
+unfolding frames_of between_flags all_but_last cut verdict_on verdict_on_content checked_part check_number unescaped ends_in_escape spelling escaped escaped_octet content_of control_of fcs_of fcs_bits dividend remainder divided_once add_front sent_bits low_bits low_number
+lost_set_up = (refl, refl)
+
+-- its answer is lost: the set-up frame comes again to a station that is up, which answers again and doesn't come up twice
+pub lost_answer : of_both (Pass E ∷ Lose R ∷ []) (CameUp R ∷ CameUp E ∷ Drained 2 ∷ [], (0, 0))
+unfolding frames_of between_flags all_but_last cut verdict_on verdict_on_content checked_part check_number unescaped ends_in_escape spelling escaped escaped_octet content_of control_of fcs_of fcs_bits dividend remainder divided_once add_front sent_bits low_bits low_number
+lost_answer = (refl, refl)
+
+-- an I frame is lost behind which none comes: no gap is seen, so nothing but T1 tells
+pub lost_frame : of_both (Drain 4 ∷ Send E (1 ∷ []) ∷ Lose E ∷ []) (CameUp R ∷ CameUp E ∷ Drained 2 ∷ Accepted R (1 ∷ []) ∷ Drained 2 ∷ [], (0, 0))
+unfolding frames_of between_flags all_but_last cut verdict_on verdict_on_content checked_part check_number unescaped ends_in_escape spelling escaped escaped_octet content_of control_of fcs_of fcs_bits dividend remainder divided_once add_front sent_bits low_bits low_number
+lost_frame = (refl, refl)
+
+-- the RR that answers it is lost: the frame comes again as an old one, and isn't taken twice. Its answer, a REJ with go-back and an RR with selective
+-- reject, shows the next number
+pub lost_ready : of_both (Drain 4 ∷ Send E (1 ∷ []) ∷ Pass E ∷ Lose R ∷ []) (CameUp R ∷ CameUp E ∷ Drained 2 ∷ Accepted R (1 ∷ []) ∷ Drained 2 ∷ [], (0, 0))
+unfolding frames_of between_flags all_but_last cut verdict_on verdict_on_content checked_part check_number unescaped ends_in_escape spelling escaped escaped_octet content_of control_of fcs_of fcs_bits dividend remainder divided_once add_front sent_bits low_bits low_number
+lost_ready = (refl, refl)
+
+-- the first of two I frames is lost, and so is the REJ or SREJ that asks for it: both frames come again, each with its answer
+pub lost_reject : of_both (Drain 4 ∷ Send E (1 ∷ []) ∷ Send E (2 ∷ []) ∷ Lose E ∷ Pass E ∷ Lose R ∷ []) (CameUp R ∷ CameUp E ∷ Drained 2 ∷ Accepted R (1 ∷ []) ∷ Accepted R (2 ∷ []) ∷ Drained 4 ∷ [], (0, 0))
+unfolding frames_of between_flags all_but_last cut verdict_on verdict_on_content checked_part check_number unescaped ends_in_escape spelling escaped escaped_octet content_of control_of fcs_of fcs_bits dividend remainder divided_once add_front sent_bits low_bits low_number
+lost_reject = (refl, refl)
+
+-- a frame of either station is lost: the same tick repairs both directions. The passes are the two frames and an RR for each
+pub lost_both_ways : of_both (Drain 4 ∷ Send E (1 ∷ []) ∷ Drain 4 ∷ Send R (2 ∷ []) ∷ Send E (3 ∷ []) ∷ Lose R ∷ Lose E ∷ []) (CameUp R ∷ CameUp E ∷ Drained 2 ∷ Accepted R (1 ∷ []) ∷ Drained 2 ∷ Accepted R (3 ∷ []) ∷ Accepted E (2 ∷ []) ∷ Drained 4 ∷ [], (0, 0))
+unfolding frames_of between_flags all_but_last cut verdict_on verdict_on_content checked_part check_number unescaped ends_in_escape spelling escaped escaped_octet content_of control_of fcs_of fcs_bits dividend remainder divided_once add_front sent_bits low_bits low_number
+lost_both_ways = (refl, refl)
