@@ -88,9 +88,6 @@ abbrev Ticked : Claim
 Ticked selective fe e fr r = (Fires fe e × Fires fr r) ⊎ Asks fe e fr r
 
 -- the phases of two live stations
-record Phases (e r : Station) : Type 0 where
-  at : ((e.phase ≡ Up) × (r.phase ≡ Up)) ⊎ ((e.phase ≡ Setting) × ((r.phase ≡ Idle) ⊎ (r.phase ≡ Up)))
-
 called_phase : (p : Phase) (calling : Bool) (sent : ℕ) → is_down p ≡ false → calling ≡ false → Early p calling sent → (p ≡ Idle) ⊎ (p ≡ Up)
 called_phase Idle calling sent live called early = inl refl
 called_phase Setting calling sent live called early = absurd (true≢false (sym early.1 ∙ called))

@@ -19,11 +19,10 @@ use Rattle.station_pair.proofs.Rows.{set_up_at}
 use Rattle.station_pair.proofs.Hearing.{row_as}
 use Rattle.station_pair.proofs.Lines.{answered}
 use Rattle.station_pair.proofs.Flows.{heard_live, heard_row}
-use Rattle.station_pair.proofs.Delivers.{quiet, sets_up, agreed_answer}
+use Rattle.station_pair.proofs.Delivers.{quiet, cannot_yet, sets_up, agreed_answer}
 use Rattle.station_pair.proofs.Sounds.{Claim, ToR, ToE}
 use Rattle.station_pair.proofs.Mending.{Comes, Mends, MendsIn, mends_swap, ends_mends}
 use Rattle.station_pair.proofs.MendRows.{go_back_mends, selective_mends}
-use Rattle.station_pair.proofs.Repeats.{cannot_yet}
 
 -- ---- the stages, from the tick on
 
@@ -131,9 +130,6 @@ none_mends selective k lx x y p up none unsent first up_y h =
 
 first_is : (f g : Frame) (fs gs : List Frame) → f ∷ fs ≡ g ∷ gs → (f ≡ g) × (fs ≡ gs)
 first_is f g fs gs e = (cc, cc)
-
-not_setting : (p : Phase) → p ≡ Setting → is_down p ≡ false
-not_setting p e = ap is_down e
 
 pub recovers_to_r : ControlReadsBack → (wd : ℕ) → ToR wd Recovers
 recovers_to_r law wd selective k now fr r f fs e wide quiet_r b own_r own_e rests_r rests_e (inl a) =

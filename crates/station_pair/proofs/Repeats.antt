@@ -1,6 +1,6 @@
 -- A moment that finds T1 expired, where it runs: a station that is up sends again all that is unacknowledged, and the calling one its set-up
 -- frame.
-use Rattle.std.proofs.Common.{if◌then◌else◌, ◌≡◌, ℕ, zero, suc, ◌+◌, ◌-◌, ◌<◌, ◌≤◌, ◌⊎◌, inl, inr, max, Bool, true, false, not, ◌&&◌, ◌||◌, List, [], ◌∷◌, ◌++◌, length, Option, None, refl, sym, ◌∙◌, ap, subst, arith, append-nil, ltb-true, true≢false}
+use Rattle.std.proofs.Common.{if◌then◌else◌, ◌≡◌, ℕ, zero, suc, ◌+◌, ◌-◌, ◌<◌, ◌≤◌, ◌⊎◌, inl, inr, max, Bool, true, false, List, [], ◌∷◌, ◌++◌, length, Option, None, refl, sym, ◌∙◌, ap, subst, arith, append-nil, ltb-true, true≢false}
 use Rattle.std.specs.Prelude.{slice_index_or, nat_lt, ◌==◌}
 use Rattle.std.proofs.lemmas.Bool.{cases_Bool, cond_both}
 use Rattle.er_base.specs.declared.cause.Cause.TheVariants.{SetUpUnanswered, NoProgress}
@@ -16,7 +16,7 @@ use Rattle.station_pair.specs.Flowing.{Consecutive}
 use Rattle.station_pair.specs.Recovery.{MayRepeat}
 use Rattle.station_pair.proofs.Keeps.{more}
 use Rattle.station_pair.proofs.Flows.{consecutive_push}
-use Rattle.station_pair.proofs.Delivers.{quiet, early_cannot}
+use Rattle.station_pair.proofs.Delivers.{quiet, early_cannot, cannot_yet}
 use Rattle.station_pair.proofs.Mending.{AllExchange, exchange_push}
 
 abbrev pub AllAre : ℕ → List ℕ → Type 0
@@ -133,17 +133,6 @@ setting_asks now x setting said owes timed may =
     subst (λ (t : Station). ((finishes (sends_waiting t)).said ≡ SetUp ∷ []) × ((finishes (sends_waiting t)).phase ≡ Setting)) (sym e)
     (subst (λ (t : Station). (t.said ≡ SetUp ∷ []) × (t.phase ≡ Setting)) (sym (quiet v (early_cannot v (ap is_up setting)) owes))
     (ap (λ (l : List Frame). l ++ SetUp ∷ []) said, setting)))
-
-false_behind : (b : Bool) → (b && false) ≡ false
-false_behind true = refl
-false_behind false = refl
-
--- a called station that took nothing
-pub cannot_yet : (x : Station) → x.calling ≡ false → length x.taken ≡ 0 → can_send x ≡ false
-cannot_yet x called none =
-    ap (λ (b : Bool). is_up x.phase && not x.busy && nat_lt (x.sent - x.acked) x.window && b)
-    (ap (λ (c : Bool). c || nat_lt 0 (length x.taken)) called ∙ ap (λ (n : ℕ). nat_lt 0 n) none)
-    ∙ false_behind (is_up x.phase && not x.busy && nat_lt (x.sent - x.acked) x.window)
 
 -- nothing is said
 abbrev Silent : Phase → Station → Type 0

@@ -19,6 +19,9 @@ use Rattle.station_pair.proofs.SelectiveRows.{named_none_or}
 use Rattle.station_pair.proofs.Gaps.{next_not_held, held_others}
 use Rattle.station_pair.proofs.Sound.{IsPolite, AllPolite, OwnIn, polite_said, own_puts, own_ack, own_again, own_dead}
 
+length_more : (ps qs : List (List ℕ)) (q : List ℕ) → length (ps ++ q ∷ qs) ≡ 0 → ⊥
+length_more ps qs q e = let l = length-append ps (q ∷ qs) in omega (arith, e, l)
+
 -- behind a frame that came at a station in this phase
 abbrev pub Wakes : (calling : Bool) (window : ℕ) → List Frame → Phase → Frame → Station → Type 0
 Wakes calling window w p f t =
@@ -38,9 +41,6 @@ module _ (c : Bool) (wd : ℕ) (w : List Frame) where
   dead_wakes p f x said impolite h = (own_dead c wd w x said (w ++ x.said) PeerDisconnected h, λ polite l. absurd (impolite polite), λ e. absurd cc)
 
   -- ---- an I frame with go-back
-
-  length_more : (ps qs : List (List ℕ)) (q : List ℕ) → length (ps ++ q ∷ qs) ≡ 0 → ⊥
-  length_more ps qs q e = let l = length-append ps (q ∷ qs) in omega (arith, e, l)
 
   takes_wakes : (n r : ℕ) (q : List ℕ) (x : Station) → x.held ≡ [] → OwnIn c wd w (record x { phase = Up }) → Wakes c wd w Up (Info n r q) (takes (n % modulo x.extended) q (record x { phase = Up }))
   takes_wakes n r q x none h =
@@ -142,7 +142,7 @@ module _ (c : Bool) (wd : ℕ) (w : List Frame) where
         h.0,
         h.1,
         h.2,
-        λ called t. absurd (length_more c wd w x.taken run q t),
+        λ called t. absurd (length_more x.taken run q t),
         h.4,
         ap (λ (m : ℕ). held_for m (filter (λ g. nat_le now g.0) x.held)) all ∙ next_not_held (n + 1) now x.held (omega (arith, same)),
         h.6,
