@@ -102,10 +102,10 @@ both_phases Up q live begun first (inr up) = inl (refl, up)
 both_phases Down q live begun first called = absurd cc
 
 timed_up : (x : Station) (c : Bool) (wd : ℕ) (l : List Frame) → x.phase ≡ Up → Own c wd l x → x.timer ≡ None → x.acked ≡ x.sent
-timed_up x c wd l up h = subst (λ (p : Phase). Timed p x.timer x.acked x.sent) up h.4
+timed_up x c wd l up h none = ((subst (λ (p : Phase). Timed p x.timer x.expiries x.acked x.sent) up h.4).0 none).0
 
 timed_setting : (x : Station) (c : Bool) (wd : ℕ) (l : List Frame) → x.phase ≡ Setting → Own c wd l x → x.timer ≡ None → ⊥
-timed_setting x c wd l setting h = subst (λ (p : Phase). Timed p x.timer x.acked x.sent) setting h.4
+timed_setting x c wd l setting h = subst (λ (p : Phase). Timed p x.timer x.expiries x.acked x.sent) setting h.4
 
 e_ticks : (wd : ℕ) (l : Link) (now : ℕ) → Sound wd l → AreLive l → IsEmpty l → MayRepeat now l.e → Sounds wd Half_ticked (tick_at E now l)
 e_ticks wd l now g live empty may =
