@@ -37,5 +37,5 @@ mod StackOrdered
 mod OrderUnforged
 mod OneLink
 mod Repairing
-pub mod Recovering
+mod Recovering
 pub mod StackRuns

@@ -10,7 +10,7 @@ use Rattle.drill_model.specs.Outcomes.{Occurrence}
 use Rattle.drill_model.specs.Links.{Link, Tick, link_step}
 use Rattle.drill_model.specs.Worlds.{Plan, link_at, history_on, Drain, drain, world_run}
 use Rattle.drill_model.specs.Recovery.{IsLiveStation, MayRepeatAt, NoneWaits}
-use Rattle.drill_model.specs.Headline.{FitsSettings, HasAllPayloads, RepairsAlways, DrainsAlways, Recovers}
+use Rattle.drill_model.specs.Headline.{FitsSettings, HasAllPayloads, RepairsAlways, DrainsAlways}
 use Rattle.drill_model.specs.Growth.{FactsGrow, HistoryGrows, HistoryOfOwn, HistoryOfOther, RunGrows}
 use Rattle.drill_laws.proofs.Tellings.{StationLaws}
 use Rattle.drill_laws.proofs.Wired.{Either, IsWired}
@@ -74,13 +74,3 @@ module _ (laws : StationLaws) (bounds : AllowedAreBounded) (facts : FactsGrow) (
       (subst (λ (x : Link). MayRepeatAt moment x.e) m_is may_e) (subst (λ (x : Link). MayRepeatAt moment x.r) m_is may_r) (subst NoneWaits k_is none_later) in
       subst (λ (x : Link). HasAllPayloads (history_on n (world_run plan (before ++ does.Drain n first ∷ does.Tick moment ∷ does.Drain n second ∷ [])).1) x) (sym k_is)
       (subst (λ (h : List Occurrence). HasAllPayloads h z.link) (sym all.came) has)
-
--- where the settings fit each link behind any steps, all is claimed of a list of steps
-pub recovers_always : RepairsAlways → DrainsAlways → (plan : Plan)
-    → ((steps : List Step) (n : ℕ) (l : Link) → link_at (world_run plan steps).0 n ≡ Some l → FitsSettings plan.settings l.opening)
-    → (steps : List Step) → Recovers plan steps
-recovers_always repairs drains plan fits steps =
-    record {
-      drains = λ n l is. drains plan steps n l is (fits steps n l is);
-      repairs = λ before n first moment second split. repairs plan before n first moment second (fits before n);
-    }

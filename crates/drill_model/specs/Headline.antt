@@ -239,8 +239,8 @@ DrainsAlways =
     (plan : Plan) (steps : List Step) (n : ℕ) (l : Link) → link_at (world_run plan steps).0 n ≡ Some l → FitsSettings plan.settings l.opening
     → IsRepairable (history_on n (world_run plan steps).1) l → DrainEmpties plan (history_on n (world_run plan steps).1) l
 
--- what is claimed of the world that a list of steps leads to: a drain of each link that is repairable leaves no frame waiting; and where the steps
--- end with a drain of a link, a tick and a drain of that link, they repair it
+-- what is claimed of the world that a list of steps leads to: a drain of each link that is repairable, of as many passes as its bound, leaves no
+-- frame waiting; and where the steps end with a drain of a link, a tick and a drain of that link, they repair it
 pub record Recovers (plan : Plan) (all : List Step) : Type 0 where
   pub drains : (n : ℕ) (l : Link) → link_at (world_run plan all).0 n ≡ Some l
       → IsRepairable (history_on n (world_run plan all).1) l → DrainEmpties plan (history_on n (world_run plan all).1) l
@@ -254,7 +254,7 @@ pub record Recovers (plan : Plan) (all : List Step) : Type 0 where
 -- are authentic, and what was heard is what the line brought; what a user took is a prefix of what its end accepted; where the link keeps its
 -- order, what an end accepted is a prefix of what the other sent, each release has one of the reasons of a line that only loses and repeats, and
 -- where the ends agree nothing is forged; where it is loss-free, all is delivered within its bound; at most 4,096 frames wait in one direction; and
--- a link of two stations that only lost and repeated recovers
+-- a link of two stations recovers, whose line only lost and repeated and of which none was released
 pub record Holds (plan : Plan) (all : List Step) : Type 0 where
   pub opens : (n : ℕ) → option_map (λ l. l.opening) (link_at (world_run plan all).0 n) ≡ opening_of plan n all
   pub steps : Steps plan all

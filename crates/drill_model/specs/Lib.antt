@@ -22,4 +22,5 @@ pub mod KnownPayloads
 pub mod KnownStacks
 pub mod KnownEffects
 pub mod KnownMessages
+pub mod KnownRecovery
 pub mod Growth

@@ -1,5 +1,5 @@
--- What a link of two stations recovers from (ISO/IEC 13239, asynchronous balanced mode), at levels link and link-sr: whatever the line lost and
--- repeated, while no end was released; then all that waits is passed, a moment finds each T1 that runs expired, and all that waits is passed.
+-- What a link of two stations recovers from, at levels link and link-sr (ISO/IEC 13239, asynchronous balanced mode): a line that lost and
+-- repeated frames, while neither station was released; when T1 lets them repeat; and in how many passes a drain leaves nothing waiting.
 use Rattle.std.specs.Prelude.{ℕ, ◌≡◌, ◌≤◌, ◌+◌, false, List, [], length, None}
 use Rattle.er_base.specs.declared.side.Side.TheVariants.{E, R}
 use Rattle.station_model.specs.Stations.{is_down}
