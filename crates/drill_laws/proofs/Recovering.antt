@@ -10,7 +10,7 @@ use Rattle.drill_model.specs.Outcomes.{Occurrence}
 use Rattle.drill_model.specs.Links.{Link, Tick, link_step}
 use Rattle.drill_model.specs.Worlds.{Plan, link_at, history_on, Drain, drain, world_run}
 use Rattle.drill_model.specs.Recovery.{IsLiveStation, MayRepeatAt, NoneWaits}
-use Rattle.drill_model.specs.Headline.{FitsSettings, HasAllPayloads, RepairsAlways, DrainsAlways}
+use Rattle.drill_model.specs.Headline.{HasAllPayloads, RepairsAlways, DrainsAlways}
 use Rattle.drill_model.specs.Growth.{FactsGrow, HistoryGrows, HistoryOfOwn, HistoryOfOther, RunGrows}
 use Rattle.drill_laws.proofs.Tellings.{StationLaws}
 use Rattle.drill_laws.proofs.Wired.{Either, IsWired}
