@@ -12,10 +12,11 @@ use Rattle.station_model.specs.Calls.{finishes, ticks}
 use Rattle.station_model.specs.Events.{is_late}
 use Rattle.station_pair.specs.Links.{Link, opened}
 use Rattle.station_pair.specs.Steps.{LinkStep, Tick, tick_at, tick, happens, run}
-use Rattle.station_pair.specs.Laws.{after, IsEmpty}
+use Rattle.station_pair.specs.Laws.{Opening, after, IsEmpty}
 use Rattle.station_pair.specs.Invariant.{Pair, Early, infos, numbers}
 use Rattle.station_pair.specs.Flowing.{Consecutive, Ends}
 use Rattle.station_pair.specs.Recovery.{ArePasses, AreLive, MayRepeat, IsRecovered, Recovery}
+use Rattle.station_pair.specs.Timers.{IsRenewed, Renewal}
 use Rattle.station_pair.proofs.Ways.{way_bounds}
 use Rattle.station_pair.proofs.Events.{finishes_keeps, ticks_keeps}
 use Rattle.station_pair.proofs.Lines.{none_on_line}
@@ -174,8 +175,14 @@ took_all true next sent held le free h = elim (cases_lt next sent) [
 ]
 took_all false next sent held le free h = h
 
+-- all is acknowledged besides
+record Acknowledged (l : Link) : Type 0 where
+  recovered : IsRecovered l
+  acked_e : l.e.acked ≡ l.e.sent
+  acked_r : l.r.acked ≡ l.r.sent
+
 recovered_at : (selective : Bool) (k wd : ℕ) (l : Link) → 1 ≤ wd → Pair selective k [] l.e [] l.r → Own true wd [] l.e → Own false wd [] l.r → Rested l.e → Rested l.r
-    → Recovers selective [] l.e [] l.r → IsRecovered l
+    → Recovers selective [] l.e [] l.r → Acknowledged l
 recovered_at selective k wd l some p own_e own_r rests_e rests_r (inl a) = absurd (let e : [] ≡ SetUp ∷ [] = a.1 in let u : ⊥ = cc in u)
 recovered_at selective k wd l some p own_e own_r rests_e rests_r (inr (inl a)) = absurd (let e : [] ≡ Ua true ∷ [] = a.2 in let u : ⊥ = cc in u)
 recovered_at selective k wd l some p own_e own_r rests_e rests_r (inr (inr m)) =
@@ -191,17 +198,21 @@ recovered_at selective k wd l some p own_e own_r rests_e rests_r (inr (inr m)) =
     all_sent e true m.0.4 own_e.2 (sym (acked_e ∙ all_e)) (subst (λ (n : ℕ). 1 ≤ n) (sym own_e.1) some) (ap (λ (c : Bool). c || nat_lt 0 (length e.taken)) own_e.0) rests_e.0 in
     let took : r.taken ≡ e.handed = whole r.taken e.handed e.sent p.0.0.prefix all_e sent_e in
     record {
-      e_up = m.0.4;
-      r_up = m.0.5;
-      at_r = took;
-      at_e = λ given.
-          let first : 0 < length r.taken = omega (arith, all_e, sent_e, given) in
-          let may : (r.calling || nat_lt 0 (length r.taken)) ≡ true = ap (λ (c : Bool). c || nat_lt 0 (length r.taken)) own_r.0 ∙ lt-ltb 0 (length r.taken) first in
-          let sent_r : r.sent ≡ length r.handed = all_sent r false m.0.5 own_r.2 (sym (acked_r ∙ all_r)) (subst (λ (n : ℕ). 1 ≤ n) (sym own_r.1) some) may rests_r.0 in
-          whole e.taken r.handed r.sent p.1.0.prefix all_r sent_r;
+      recovered = record {
+        e_up = m.0.4;
+        r_up = m.0.5;
+        at_r = took;
+        at_e = λ given.
+            let first : 0 < length r.taken = omega (arith, all_e, sent_e, given) in
+            let may : (r.calling || nat_lt 0 (length r.taken)) ≡ true = ap (λ (c : Bool). c || nat_lt 0 (length r.taken)) own_r.0 ∙ lt-ltb 0 (length r.taken) first in
+            let sent_r : r.sent ≡ length r.handed = all_sent r false m.0.5 own_r.2 (sym (acked_r ∙ all_r)) (subst (λ (n : ℕ). 1 ≤ n) (sym own_r.1) some) may rests_r.0 in
+            whole e.taken r.handed r.sent p.1.0.prefix all_r sent_r;
+      };
+      acked_e = acked_e ∙ all_e;
+      acked_r = acked_r ∙ all_r;
     }
 
-emptied : (wd : ℕ) (l : Link) → 1 ≤ wd → Sounds wd Recovers l → IsEmpty l → IsRecovered l
+emptied : (wd : ℕ) (l : Link) → 1 ≤ wd → Sounds wd Recovers l → IsEmpty l → Acknowledged l
 emptied wd l some g empty =
     let ne : g.fe ≡ [] = none_on_line l.e g.fe (sym empty.0 ∙ g.stands.lined_x) in
     let nr : g.fr ≡ [] = none_on_line l.r g.fr (sym empty.1 ∙ g.stands.lined_y) in
@@ -210,21 +221,45 @@ emptied wd l some g empty =
     (subst (λ (t : List Frame). Own true wd t l.e) ne g.own_e) (subst (λ (t : List Frame). Own false wd t l.r) nr g.own_r) g.rests_e g.rests_r
     (subst (λ (t : List Frame). Recovers l.selective t l.e [] l.r) ne (subst (λ (t : List Frame). Recovers l.selective g.fe l.e t l.r) nr g.claim))
 
--- ---- the law
+renewed : (wd : ℕ) (l : Link) → Sounds wd Recovers l → Acknowledged l → IsRenewed l
+renewed wd l g h =
+    let te = subst (λ (p : Phase). Timed p l.e.timer l.e.expiries l.e.acked l.e.sent) h.recovered.e_up g.own_e.4 in
+    let tr = subst (λ (p : Phase). Timed p l.r.timer l.r.expiries l.r.acked l.r.sent) h.recovered.r_up g.own_r.4 in
+    record { e_stopped = te.1 h.acked_e; r_stopped = tr.1 h.acked_r; e_none = (te.0 (te.1 h.acked_e)).1; r_none = (tr.0 (tr.1 h.acked_r)).1 }
+
+-- ---- the laws
+
+-- what holds behind the tick and the passes
+record Behind (l : Link) : Type 0 where
+  recovered : IsRecovered l
+  renewed : IsRenewed l
 
 behind : Frames → (wd : ℕ) (l : Link) → 1 ≤ wd → Sound wd l → AreLive l → IsEmpty l → (now : ℕ) → MayRepeat now l.e → MayRepeat now l.r
-    → (second : List LinkStep) → ArePasses second → IsEmpty (run l (Tick now ∷ second)) → IsRecovered (run l (Tick now ∷ second))
+    → (second : List LinkStep) → ArePasses second → IsEmpty (run l (Tick now ∷ second)) → Behind (run l (Tick now ∷ second))
 behind laws wd l some h live empty now may_e may_r second passes end =
     let g = both_ticked wd (record l { came = [] }) now (same wd NoClaim l h l.moment l.passes l.order_kept l.loss_free []) live empty may_e may_r in
-    emptied wd (run l (Tick now ∷ second)) some
-    (passes_keep wd Recovers laws (recovers_to_r laws.back wd) (recovers_to_e laws.back wd) second (happens (Tick now) l) passes g).0 end
+    let r = (passes_keep wd Recovers laws (recovers_to_r laws.back wd) (recovers_to_e laws.back wd) second (happens (Tick now) l) passes g).0 in
+    let e = emptied wd (run l (Tick now ∷ second)) some r end in
+    record { recovered = e.recovered; renewed = renewed wd (run l (Tick now ∷ second)) r e }
 
-pub recovery : Frames → Recovery
-recovery laws s steps kept live first passes empty now may_e may_r second more end =
+all_behind : Frames → (s : Opening) (steps : List LinkStep) → (after s steps).order_kept ≡ true → AreLive (after s steps)
+    → (first : List LinkStep) → ArePasses first → IsEmpty (after s (steps ++ first))
+    → (now : ℕ) → MayRepeat now (after s (steps ++ first)).e → MayRepeat now (after s (steps ++ first)).r
+    → (second : List LinkStep) → ArePasses second → IsEmpty (after s (steps ++ first ++ Tick now ∷ second))
+    → Behind (after s (steps ++ first ++ Tick now ∷ second))
+all_behind laws s steps kept live first passes empty now may_e may_r second more end =
     let o : Link = opened s.selective s.extended s.window s.n2 s.t1 s.moment in
     let l : Link = after s (steps ++ first) in
     let split : run o (steps ++ first) ≡ run (after s steps) first = run_append steps first o in
     let h = passes_sound s.window laws first (after s steps) passes (after_sound laws s steps kept) in
     let join : run o (steps ++ first ++ Tick now ∷ second) ≡ run l (Tick now ∷ second) = run_append (steps ++ first) (Tick now ∷ second) o in
-    subst IsRecovered (sym join)
+    subst Behind (sym join)
     (behind laws s.window l s.some (subst (Sound s.window) (sym split) h.0) (subst AreLive (sym split) (h.1 live)) empty now may_e may_r second more (subst IsEmpty join end))
+
+pub recovery : Frames → Recovery
+recovery laws s steps kept live first passes empty now may_e may_r second more end =
+    (all_behind laws s steps kept live first passes empty now may_e may_r second more end).recovered
+
+pub renewal : Frames → Renewal
+renewal laws s steps kept live first passes empty now may_e may_r second more end =
+    (all_behind laws s steps kept live first passes empty now may_e may_r second more end).renewed

@@ -32,7 +32,7 @@ abbrev pub Timed : Phase → Option ℕ → (expiries acked sent : ℕ) → Type
 Timed Idle timer expiries acked sent = (timer ≡ None) × (expiries ≡ 0)
 Timed Setting timer expiries acked sent = timer ≡ None → ⊥
 Timed Up timer expiries acked sent = (timer ≡ None → (acked ≡ sent) × (expiries ≡ 0)) × (acked ≡ sent → timer ≡ None) × (acked ≤ sent)
-Timed Down timer expiries acked sent = Unit {0}
+Timed Down timer expiries acked sent = timer ≡ None
 
 -- of a station and the frames that wait from it: its role and its window stay, its peer is never busy; the called one sends once it took a
 -- payload; the next frame isn't held; and in Idle it said nothing
@@ -97,4 +97,4 @@ module _ (c : Bool) (wd : ℕ) (w : List Frame) where
 
   -- ---- a released one
   pub own_dead : (x : Station) (said lx : List Frame) (cause : Cause) → Own c wd lx x → OwnIn c wd w (releases cause (record x { said = said }))
-  own_dead x said lx cause h = (h.0, h.1, h.2, h.3, tt, h.5, λ live. absurd cc, λ e. absurd cc)
+  own_dead x said lx cause h = (h.0, h.1, h.2, h.3, refl, h.5, λ live. absurd cc, λ e. absurd cc)

@@ -170,10 +170,10 @@ module _ (c : Bool) (wd : ℕ) (w : List Frame) where
   -- ---- its user releases
 
   closes_own : (p : Phase) (x : Station) → OwnIn c wd w x → OwnIn c wd w (record (closes_at p x) { phase = Down; timer = None })
-  closes_own Idle x h = (h.0, h.1, h.2, h.3, tt, h.5, λ live. absurd cc, λ e. absurd cc)
-  closes_own Setting x h = (h.0, h.1, h.2, h.3, tt, h.5, λ live. absurd cc, λ e. absurd cc)
-  closes_own Up x h = (h.0, h.1, h.2, h.3, tt, h.5, λ live. absurd cc, λ e. absurd cc)
-  closes_own Down x h = (h.0, h.1, h.2, h.3, tt, h.5, λ live. absurd cc, λ e. absurd cc)
+  closes_own Idle x h = (h.0, h.1, h.2, h.3, refl, h.5, λ live. absurd cc, λ e. absurd cc)
+  closes_own Setting x h = (h.0, h.1, h.2, h.3, refl, h.5, λ live. absurd cc, λ e. absurd cc)
+  closes_own Up x h = (h.0, h.1, h.2, h.3, refl, h.5, λ live. absurd cc, λ e. absurd cc)
+  closes_own Down x h = (h.0, h.1, h.2, h.3, refl, h.5, λ live. absurd cc, λ e. absurd cc)
 
   pub quits_leaves : (sub : ℕ) (x : Station) → is_down x.phase ≡ false → OwnIn c wd w x → Leaves c wd w x.phase (quits sub x)
   quits_leaves sub x live h =

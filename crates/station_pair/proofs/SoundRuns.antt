@@ -4,7 +4,8 @@ use Rattle.std.specs.Prelude.{nat_lt, ◌==◌}
 use Rattle.std.proofs.lemmas.Bool.{cond_both}
 use Rattle.er_base.specs.declared.side.Side.{Side}
 use Rattle.er_base.specs.declared.side.Side.TheVariants.{E, R}
-use Rattle.station_model.specs.declared.phase.Phase.TheVariants.{Down}
+use Rattle.station_model.specs.declared.phase.Phase.{Phase}
+use Rattle.station_model.specs.declared.phase.Phase.TheVariants.{Idle, Setting, Up, Down}
 use Rattle.station_model.specs.Frames.{SetUp}
 use Rattle.station_model.specs.Stations.{Station, is_up, is_down, settled}
 use Rattle.station_model.specs.Calls.{hands, finishes, ticks, closes_at}
@@ -13,13 +14,14 @@ use Rattle.station_model.specs.Lines.{altered, next_of}
 use Rattle.station_pair.specs.Links.{Came, Link, station_of, line_of, with_line, did, opened}
 use Rattle.station_pair.specs.Steps.{LinkStep, Send, Pass, Lose, Repeat, Alter, Put, UserRelease, Drain, Tick, refusal_at, send_unless, lose, repeat, alter, release, tick_at, tick, is_overfull, Draining, pass_next, drained, step, happens, run}
 use Rattle.station_pair.specs.Laws.{Opening, after}
+use Rattle.station_pair.specs.Timers.{TimedAt, TimersRun}
 use Rattle.station_pair.specs.Recovery.{ArePasses, AreLive, PassesRelease}
 use Rattle.station_pair.proofs.Events.{finishes_keeps, hands_keeps, ticks_keeps, quits_keeps}
 use Rattle.station_pair.proofs.Lines.{turned, first_of_line, lost, repeated}
 use Rattle.station_pair.proofs.Opened.{span_of, opened_stands}
 use Rattle.station_pair.proofs.Runs.{Frames, refused_long, passed_kept, drained_kept, sent_kept, lost_kept, repeated_kept, released_kept}
 use Rattle.station_pair.proofs.Telling.{phases_stay, ticks_tell}
-use Rattle.station_pair.proofs.Sound.{Own}
+use Rattle.station_pair.proofs.Sound.{Timed, Own}
 use Rattle.station_pair.proofs.SoundCalls.{hands_leaves, ticks_leaves, quits_leaves}
 use Rattle.station_pair.proofs.Sounds.{Claim, Sounds, own_gone, own_twice, e_does, r_does, e_ready, r_ready, e_own, r_own, same, ToR, ToE, passed, passes_keep}
 
@@ -253,3 +255,17 @@ pub passes_release : Frames → PassesRelease
 passes_release laws s steps kept live passes p =
     subst AreLive (sym (run_append steps passes (opened s.selective s.extended s.window s.n2 s.t1 s.moment)))
     ((passes_sound s.window laws passes (after s steps) p (after_sound laws s steps kept)).1 live)
+
+-- ---- T1
+
+timed_at : (p : Phase) (x : Station) → Timed p x.timer x.expiries x.acked x.sent → TimedAt p x
+timed_at Idle x h = h
+timed_at Setting x h = h
+timed_at Up x h = (h.0, h.1)
+timed_at Down x h = h
+
+pub timers_run : Frames → TimersRun
+timers_run laws s steps kept =
+    let h = after_sound laws s steps kept in
+    let l : Link = after s steps in
+    (timed_at l.e.phase l.e h.own_e.4, timed_at l.r.phase l.r h.own_r.4)
