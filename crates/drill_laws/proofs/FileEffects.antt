@@ -14,11 +14,11 @@ use Rattle.safe_pair.specs.Facts.{Fact, Sent, Sealed, Verified, Connected, Accep
 use Rattle.safe_pair.specs.Deliveries as pair
 use Rattle.drill_model.specs.Outcomes.{Outcome, OfSafety, Handed, Arrived, Up, Took, NothingToTake, Refused, Released, Frame, Expired, UserReleased, Passed, Lost, Repeated, Altered, Inserted, NothingWaits, IsShort, Occurrence}
 use Rattle.drill_model.specs.Links.{Link, waiting_of, Pass, link_step}
-use Rattle.drill_model.specs.Worlds.{Plan, World, Came, is_link, link_at, history_on, world_step, world_run}
+use Rattle.drill_model.specs.Worlds.{Plan, World, Came, link_at, history_on, world_step, world_run}
 use Rattle.drill_model.specs.Kinds.{sent_in, sent_by, is_disorder, is_disturbance}
 use Rattle.drill_model.specs.Growth.{FactsGrow, HistoryGrows, HistoryOfOwn, HistoryOfOther, RunGrows}
 use Rattle.drill_model.specs.Effects.{Effect, Sends, IsRefused, Passes, Loses, Repeats, Alters, Inserts, Releases, Expires, effect_of, effect_in, Effects, effects_in, HasRunOut, At, of_first, of_alter, of_copy, OfTick, TickEffects, of_passes, HasEffects, StepsHaveEffects, IsPartOf, Nothing, LeavesOut, TakesIn, text_of, SendsAreSteps, disorders, disturbs, NoneRunsOut, QuietKeepsOrder, QuietIsLossFree, Steps}
-use Rattle.drill_laws.proofs.Openings.{opens_always, never_of, unopened}
+use Rattle.drill_laws.proofs.Openings.{numbered}
 use Rattle.drill_laws.proofs.StepEffects.{effects_append}
 use Rattle.drill_laws.proofs.WorldEffects.{brought, step_effects, step_closed}
 
@@ -385,22 +385,13 @@ module _ (side : Side) where
 
 -- ---- a list of steps
 
--- a link that is open has the number of a link
 module _ (only : StepsOnly) (facts : FactsGrow) (grow : HistoryGrows) (own : HistoryOfOwn) (other : HistoryOfOther) (runs : RunGrows) where
   abbrev world : Plan → List Step → World
   world plan steps = (world_run plan steps).0
 
-  numbered : (plan : Plan) (steps : List Step) (n : ℕ) (l : Link) → link_at (world plan steps) n ≡ Some l → is_link n ≡ true
-  numbered plan steps n l is =
-      elim (cases_Bool (is_link n)) [
-        | inl link ↦ link
-        | inr not_link ↦
-            absurd (unopened facts (link_at (world plan steps) n) l is (opens_always facts plan steps n ∙ never_of facts plan n steps not_link))
-      ]
-
   pub steps_have_effects : (plan : Plan) (steps : List Step) → StepsHaveEffects plan steps
   steps_have_effects plan steps before after s n l split is =
-      step_effects only grow own other plan (world plan before) n l is (numbered plan before n l is) s
+      step_effects only grow own other plan (world plan before) n l is (numbered facts plan before n l is) s
 
   -- what a step behind others brings about at link n, whether it is open or not
   step_brings : (P : Effects → Type 0) (plan : Plan) (before : List Step) (s : Step) (n : ℕ) → P []
@@ -412,7 +403,7 @@ module _ (only : StepsOnly) (facts : FactsGrow) (grow : HistoryGrows) (own : His
       by_place None is = subst P (sym (step_closed only grow own other plan (world plan before) n is s)) none
       by_place (Some l) is =
           some l is (brought only grow own other plan (world plan before) n s)
-          (step_effects only grow own other plan (world plan before) n l is (numbered plan before n l is) s)
+          (step_effects only grow own other plan (world plan before) n l is (numbered facts plan before n l is) s)
 
   -- all effects behind one step more
   more_effects : (plan : Plan) (before : List Step) (s : Step) (n : ℕ)

@@ -35,4 +35,7 @@ mod StackEnding
 mod Keyed
 mod StackOrdered
 mod OrderUnforged
+mod OneLink
+mod Repairing
+mod Recovering
 pub mod StackRuns

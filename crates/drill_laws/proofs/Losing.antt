@@ -61,12 +61,12 @@ not_false false e = absurd (cc)
 
 -- ---- one link
 
-kept_of : (settings : Settings) (selective : Bool) (l : Link) (history : List Occurrence) (w : IsWired settings selective l history) → IsOrderKeeping l.opening history
+pub kept_of : (settings : Settings) (selective : Bool) (l : Link) (history : List Occurrence) (w : IsWired settings selective l history) → IsOrderKeeping l.opening history
     → (run (wired settings selective w.moment) w.steps).order_kept ≡ true
 kept_of settings selective l history w keeping = not_false (run (wired settings selective w.moment) w.steps).order_kept (sym w.sees.order ∙ keeping.ordered)
 
 -- how the pair of such a link was opened
-abbrev opening_at : AllowedAreBounded → (settings : Settings) (selective : Bool) (l : Link) (history : List Occurrence) → IsWired settings selective l history
+abbrev pub opening_at : AllowedAreBounded → (settings : Settings) (selective : Bool) (l : Link) (history : List Occurrence) → IsWired settings selective l history
     → FitsSettings settings l.opening → (moment : ℕ) → Opening
 opening_at bounds settings selective l history w fit moment =
     let kind : l.opening ≡ OfStations selective = kind_of settings selective l history w in

@@ -196,7 +196,7 @@ module _ (grow : FactsGrow) where
   never_opened plan n (does.Wire m) not_link = never_by n m (wire_opening plan.level) not_link
   never_opened plan n s not_link = refl
 
-  pub never_of : (plan : Plan) (n : ℕ) (steps : List Step) → is_link n ≡ false → opening_of plan n steps ≡ None
+  never_of : (plan : Plan) (n : ℕ) (steps : List Step) → is_link n ≡ false → opening_of plan n steps ≡ None
   never_of plan n [] not_link = refl
   never_of plan n (s ∷ steps) not_link = ap₂ or_opening (never_opened plan n s not_link) (never_of plan n steps not_link)
 
@@ -226,9 +226,17 @@ module _ (grow : FactsGrow) where
   no_side n None none = refl
   no_side n (Some side) none = absurd (cc)
 
-  pub unopened : (place : Option Link) (l : Link) → place ≡ Some l → option_map (λ (x : Link). x.opening) place ≡ None → ⊥
+  unopened : (place : Option Link) (l : Link) → place ≡ Some l → option_map (λ (x : Link). x.opening) place ≡ None → ⊥
   unopened None l is none = cc
   unopened (Some k) l is none = cc
+
+  -- a link that is open has the number of a link
+  pub numbered : (plan : Plan) (steps : List Step) (n : ℕ) (l : Link) → link_at (world_run plan steps).0 n ≡ Some l → is_link n ≡ true
+  numbered plan steps n l is =
+      elim (cases_Bool (is_link n)) [
+        | inl link ↦ link
+        | inr not_link ↦ absurd (unopened (link_at (world_run plan steps).0 n) l is (opens_always plan steps n ∙ never_of plan n steps not_link))
+      ]
 
   within : (v : World) (n : ℕ) (l : Link) → link_at v n ≡ Some l → overfull_at n (link_at v n) ≡ None → overfull_side l ≡ None
   within v n l is none = no_side n (overfull_side l) (subst (λ (p : Option Link). overfull_at n p ≡ None) is none)
@@ -239,15 +247,8 @@ module _ (grow : FactsGrow) where
       let v : World = (world_step plan w s).0 in
       let here : link_at v n ≡ Some l = ap (λ (a : World × List Came). link_at a.0 n) (sym (run_grows plan before s)) ∙ is in
       let roomy : overfull_of v ≡ None = (later_none (refusal w s) (overfull_of v) none).1 in
-      elim (cases_Bool (is_link n)) [
-        | inl link ↦
-            let parts : (nat_lt 0 n ≡ true) × (nat_lt n 65 ≡ true) = and_parts (nat_lt 0 n) (nat_lt n 65) link in
-            let least : 0 < n = ltb-true 0 n parts.0 in
-            let most : n < 65 = ltb-true n 65 parts.1 in
-            within v n l here (room_from v 1 64 roomy n (omega arith) (omega arith))
-        | inr not_link ↦
-            absurd (
-            unopened (link_at (world_run plan (before ++ s ∷ [])).0 n) l is
-            (opens_always plan (before ++ s ∷ []) n ∙ never_of plan n (before ++ s ∷ []) not_link)
-            )
-      ]
+      let link : is_link n ≡ true = numbered plan (before ++ s ∷ []) n l is in
+      let parts : (nat_lt 0 n ≡ true) × (nat_lt n 65 ≡ true) = and_parts (nat_lt 0 n) (nat_lt n 65) link in
+      let least : 0 < n = ltb-true 0 n parts.0 in
+      let most : n < 65 = ltb-true n 65 parts.1 in
+      within v n l here (room_from v 1 64 roomy n (omega arith) (omega arith))

@@ -90,7 +90,7 @@ pub record Goes (l : Link) (history : List Occurrence) (p : Pair) (more : ℕ) :
   pub sees : Sees l history (run p steps)
   pub count : laws_of_pair.deliveries p steps ≡ more
 
-abbrev cleared : Pair → Pair
+abbrev pub cleared : Pair → Pair
 cleared p = record p { came = [] }
 
 one_goes : (l : Link) (history : List Occurrence) (p : Pair) (s : on_pair.LinkStep) (more : ℕ) → Sees l history (happens s p)
@@ -100,6 +100,14 @@ one_goes l history p s more v is = record { steps = s ∷ []; sees = v; count = 
 
 abbrev GoesAt : List Occurrence → Pair → Link × List Occurrence → Type 0
 GoesAt history p a = Goes a.0 (history ++ a.1) p (deliveries a.1)
+
+-- and the pair by this one step
+pub record GoesBy (s : on_pair.LinkStep) (history : List Occurrence) (p : Pair) (a : Link × List Occurrence) : Type 0 where
+  pub sees : Sees a.0 (history ++ a.1) (happens s p)
+  pub count : laws_of_pair.deliveries_of s (cleared p) ≡ deliveries a.1
+
+goes_by : (s : on_pair.LinkStep) (history : List Occurrence) (p : Pair) (a : Link × List Occurrence) → GoesBy s history p a → GoesAt history p a
+goes_by s history p a g = one_goes a.0 (history ++ a.1) p s (deliveries a.1) g.sees g.count
 
 -- ---- a link from its opening on
 
@@ -270,8 +278,8 @@ module _ (laws : StationLaws) where
   waits_nothing : Says (NothingWaits ∷ []) [] [] [] false false 0
   waits_nothing = says_more NothingWaits [] [] [] [] false false 0 (λ side. refl) says_nothing
 
-  pass_goes : (l : Link) (history : List Occurrence) (p : Pair) (side : Side) (frames : List (List ℕ)) → waiting_of l side ≡ frames → Sees l history p
-      → GoesAt history p (pass l side frames)
+  pub pass_goes : (l : Link) (history : List Occurrence) (p : Pair) (side : Side) (frames : List (List ℕ)) → waiting_of l side ≡ frames → Sees l history p
+      → GoesBy (on_pair.Pass side) history p (pass l side frames)
   pass_goes l history p side [] is v =
       let q : Pair = cleared p in
       let line : line_of q side ≡ [] = line_at l history q side (came_sees l history p [] v) ∙ is in
@@ -279,9 +287,10 @@ module _ (laws : StationLaws) where
       told_sees l history q side (NothingWaits ∷ []) false q.loss_free 0 (came_sees l history p [] v) waits_nothing (and_true q.loss_free) in
       let there : Sees l (history ++ at_end side NothingWaits ∷ []) (on_pair.nothing_waits side q) =
       came_sees l (history ++ at_end side NothingWaits ∷ []) q (on_pair.nothing_waits side q).came u in
-      one_goes l (history ++ at_end side NothingWaits ∷ []) p (on_pair.Pass side) 0
-      (subst (λ (fs : List (List ℕ)). Sees l (history ++ at_end side NothingWaits ∷ []) (on_pair.pass side fs q)) (sym line) there)
-      (ap laws_of_pair.passed_of line)
+      record {
+        sees = subst (λ (fs : List (List ℕ)). Sees l (history ++ at_end side NothingWaits ∷ []) (on_pair.pass side fs q)) (sym line) there;
+        count = ap laws_of_pair.passed_of line;
+      }
   pass_goes l history p side (frame ∷ frames) is v =
       let q : Pair = cleared p in
       let line : line_of q side ≡ frame ∷ frames = line_at l history q side (came_sees l history p [] v) ∙ is in
@@ -299,9 +308,10 @@ module _ (laws : StationLaws) where
       (reads_like to frame r) in
       let there : Sees x.0 (history ++ (first ++ x.1)) (reads to frame r) = subst (λ (h : List Occurrence). Sees x.0 h (reads to frame r)) (append_assoc history first x.1) done.sees in
       let Q : List (List ℕ) → Type 0 = λ fs. Sees x.0 (history ++ (first ++ x.1)) (on_pair.pass side fs q) in
-      one_goes x.0 (history ++ (first ++ x.1)) p (on_pair.Pass side) (deliveries (first ++ x.1))
-      (subst Q (sym line) (subst (λ (t : Pair). Sees x.0 (history ++ (first ++ x.1)) (reads to frame t)) (sym (with_line_is q side frames)) there))
-      (ap laws_of_pair.passed_of line ∙ sym (deliveries_grow first x.1 ∙ ap (λ (n : ℕ). 1 + n) done.none))
+      record {
+        sees = subst Q (sym line) (subst (λ (t : Pair). Sees x.0 (history ++ (first ++ x.1)) (reads to frame t)) (sym (with_line_is q side frames)) there);
+        count = ap laws_of_pair.passed_of line ∙ sym (deliveries_grow first x.1 ∙ ap (λ (n : ℕ). 1 + n) done.none);
+      }
 
   -- ---- what the line does
 
@@ -428,7 +438,8 @@ module _ (laws : StationLaws) where
         releases = v.releases;
       }
 
-  tick_goes : (l : Link) (history : List Occurrence) (p : Pair) (moment : ℕ) → Sees l history p → GoesAt history p (link_step l (Tick moment))
+  pub tick_goes : (l : Link) (history : List Occurrence) (p : Pair) (moment : ℕ) → Sees l history p
+      → GoesBy (on_pair.Tick (max p.moment moment)) history p (link_step l (Tick moment))
   tick_goes l history p moment v =
       let c : Pair = cleared p in
       let now : ℕ = max c.moment moment in
@@ -461,22 +472,23 @@ module _ (laws : StationLaws) where
       (sym (not_or q.loss_free late_e late_r)) in
       let there : Sees y.0 (history ++ (x.1 ++ y.1)) done =
       like_sees y.0 (history ++ (x.1 ++ y.1)) done q3 (d.came, ◌∙◌ {c = record q3 { came = d.came }} is like) (subst (λ (h : List Occurrence). Sees y.0 h q3) (append_assoc history x.1 y.1) second.sees) in
-      one_goes y.0 (history ++ (x.1 ++ y.1)) p (on_pair.Tick now) (deliveries (x.1 ++ y.1)) there
-      (sym (deliveries_grow x.1 y.1 ∙ ap₂ (λ (i j : ℕ). i + j) first.none second.none))
+      record { sees = there; count = sym (deliveries_grow x.1 y.1 ∙ ap₂ (λ (i j : ℕ). i + j) first.none second.none) }
 
   -- ---- any step
 
   step_goes : (l : Link) (history : List Occurrence) (p : Pair) (s : LinkStep) → Sees l history p → GoesAt history p (link_step l s)
   step_goes l history p (Send side octets) v = send_goes l history p side octets v
-  step_goes l history p (Pass side) v = pass_goes l history p side (waiting_of l side) refl v
+  step_goes l history p (Pass side) v =
+      goes_by (on_pair.Pass side) history p (link_step l (Pass side)) (pass_goes l history p side (waiting_of l side) refl v)
   step_goes l history p (Change side change) v = changes_goes l history p side change (waiting_of l side) v (line_cleared p side ∙ line_at l history p side v)
   step_goes l history p (Take side) v = take_goes l history p side v
   step_goes l history p (ReleaseStep side sub) v = release_goes l history p side sub v
-  step_goes l history p (Tick moment) v = tick_goes l history p moment v
+  step_goes l history p (Tick moment) v =
+      goes_by (on_pair.Tick (max p.moment moment)) history p (link_step l (Tick moment)) (tick_goes l history p moment v)
 
   -- ---- from its opening on
 
-  run_append : (p : Pair) (xs ys : List on_pair.LinkStep) → run p (xs ++ ys) ≡ run (run p xs) ys
+  pub run_append : (p : Pair) (xs ys : List on_pair.LinkStep) → run p (xs ++ ys) ≡ run (run p xs) ys
   run_append p [] ys = refl
   run_append p (s ∷ xs) ys = run_append (happens s p) xs ys
 

@@ -1,7 +1,7 @@
 -- What each step of a file brings about at a link, from any world on.
-use Rattle.std.proofs.Common.{◌≡◌, ◌⊎◌, inl, inr, ℕ, zero, suc, ◌+◌, ◌≤◌, ◌<◌, ◌==◌, nat_lt, max, true, false, List, [], ◌∷◌, ◌++◌, length, map, refl, sym, ap, ap₂, subst, ◌∙◌, append-nil, arith}
+use Rattle.std.proofs.Common.{◌≡◌, ◌⊎◌, inl, inr, ℕ, zero, suc, ◌+◌, ◌≤◌, ◌<◌, ◌==◌, nat_lt, max, true, List, [], ◌∷◌, ◌++◌, length, map, refl, sym, ap, ap₂, subst, ◌∙◌, append-nil, arith}
 use Rattle.std.specs.Prelude.{Option, Some, None}
-use Rattle.std.proofs.lemmas.Bool.{cases_eq, cases_lt, cases_Bool, ne_eqb, and_parts, ltb-true}
+use Rattle.std.proofs.lemmas.Bool.{cases_eq, cases_Bool, and_parts, ltb-true}
 use Rattle.er_base.specs.declared.side.Side.{Side}
 use Rattle.er_scenario.specs.declared.step.Step.{Step}
 use Rattle.er_scenario.specs.declared.step.Step.TheVariants as does
@@ -12,6 +12,7 @@ use Rattle.drill_model.specs.Links.{Link, LinkOpening, opened, waiting_of, LinkS
 use Rattle.drill_model.specs.Worlds.{Plan, World, Came, On, Drained, is_link, link_at, history_on, went_on, fixed_opening, link_opening, wire_opening, open_link, at_link, next_side, overfull_side, Drain, drain, drain_on, drain_link, copy_frame, copy_between, ticks, ticked, world_step}
 use Rattle.drill_model.specs.Growth.{HistoryGrows, HistoryOfOwn, HistoryOfOther}
 use Rattle.drill_model.specs.Effects.{Sends, IsRefused, Passes, Loses, Repeats, Inserts, Releases, Effects, effects_in, At, of_first, of_alter, of_copy, OfTick, TickEffects, DrainEffects, HasEffects}
+use Rattle.drill_laws.proofs.OneLink.{drain_leads, other_rests, ticks_lead}
 use Rattle.drill_laws.proofs.StepEffects.{effects_append, opened_effects, send_effects, pass_effects, take_effects, release_effects, tick_effects, lose_effects, repeat_effects, alter_effects, put_effects}
 
 module _ (only : StepsOnly) (grow : HistoryGrows) (own : HistoryOfOwn) (other : HistoryOfOther) where
@@ -145,11 +146,6 @@ module _ (only : StepsOnly) (grow : HistoryGrows) (own : HistoryOfOwn) (other : 
   drain_effects zero l = record { sides = []; few = omega arith; are = refl }
   drain_effects (suc most) l = drains_on most (drain most) (drain_effects most) l (next_side l) (overfull_side l)
 
-  drained_here : (w : World) (n most : ℕ) (l : Link) → history_on n (drain_link w n most (Some l)).1 ≡ (drain most l).came
-  drained_here w n most l =
-      let d : Drain = drain most l in
-      grow n (map (On n) d.came) (Drained n d.passes ∷ []) ∙ append-nil (history_on n (map (On n) d.came)) ∙ own n d.came
-
   drained_elsewhere : (w : World) (n m most : ℕ) (place : Option Link) → (m ≡ n → ⊥) → history_on n (drain_link w m most place).1 ≡ []
   drained_elsewhere w n m most None apart = refl
   drained_elsewhere w n m most (Some l) apart =
@@ -163,8 +159,7 @@ module _ (only : StepsOnly) (grow : HistoryGrows) (own : HistoryOfOwn) (other : 
   drain_open w n m most l is = (
     λ e.
         let came : history_on n (drain_link w m most (link_at w m)).1 ≡ (drain most l).came =
-        ap (λ (i : ℕ). history_on n (drain_link w i most (link_at w i)).1) e ∙ ap (λ (place : Option Link). history_on n (drain_link w n most place).1) is
-        ∙ drained_here w n most l in
+        ap (λ (i : ℕ). history_on n (drain_link w i most (link_at w i)).1) e ∙ (drain_leads grow own other w n most l is).came in
         subst (λ (effects : Effects). DrainEffects most l effects) (sym (ap effects_in came)) (drain_effects most l),
     λ apart. ap effects_in (drained_elsewhere w n m most (link_at w m) apart),
   )
@@ -179,49 +174,6 @@ module _ (only : StepsOnly) (grow : HistoryGrows) (own : HistoryOfOwn) (other : 
 
   -- ---- ticks
 
-  stays_at : (w : World) (n m : ℕ) (place : Option Link) (s : LinkStep) → (n ≡ m → ⊥) → link_at (at_link w m place s).0 n ≡ link_at w n
-  stays_at w n m None s apart = refl
-  stays_at w n m (Some l) s apart = let differs : (n == m) ≡ false = ne_eqb n m apart in rw differs refl
-
-  -- a link that is ticked later, or not
-  unticked : (moment : ℕ) (w : World) (n i count : ℕ) → n < i → history_on n (ticks moment w i count).1 ≡ []
-  unfolding ticks
-  unticked moment w n i zero below = refl
-  unticked moment w n i (suc count) below =
-      let a : World × List Came = at_link w i (link_at w i) (Tick moment) in
-      let b : World × List Came = ticks moment a.0 (i + 1) count in
-      grow n a.1 b.1
-      ∙ ap₂ (λ (xs ys : List Occurrence). xs ++ ys) (elsewhere w n i (link_at w i) (Tick moment) (above n i below)) (unticked moment a.0 n (i + 1) count (omega arith))
-    where
-      above : (n i : ℕ) → n < i → i ≡ n → ⊥
-      above n i below e = omega arith
-
-  ticked_at : (moment : ℕ) (w : World) (n i count : ℕ) → i ≤ n → n < i + count → history_on n (ticks moment w i count).1 ≡ came_at (link_at w n) (Tick moment)
-  unfolding ticks
-  ticked_at moment w n i zero from below = absurd (omega arith)
-  ticked_at moment w n i (suc count) from below =
-      let a : World × List Came = at_link w i (link_at w i) (Tick moment) in
-      let b : World × List Came = ticks moment a.0 (i + 1) count in
-      grow n a.1 b.1
-      ∙ elim (cases_eq n i) [
-        | inl e ↦
-            ap₂ (λ (xs ys : List Occurrence). xs ++ ys)
-            (ap (λ (j : ℕ). history_on n (at_link w j (link_at w j) (Tick moment)).1) (sym e) ∙ here w n (link_at w n) (Tick moment))
-            (unticked moment a.0 n (i + 1) count (omega arith))
-            ∙ append-nil (came_at (link_at w n) (Tick moment))
-        | inr apart ↦
-            ap₂ (λ (xs ys : List Occurrence). xs ++ ys) (elsewhere w n i (link_at w i) (Tick moment) (λ e. apart (sym e)))
-            (ticked_at moment a.0 n (i + 1) count (further i n from apart) (omega arith))
-            ∙ ap (λ (place : Option Link). came_at place (Tick moment)) (stays_at w n i (link_at w i) (Tick moment) apart)
-      ]
-    where
-      further : (i n : ℕ) → i ≤ n → (n ≡ i → ⊥) → i + 1 ≤ n
-      further i n from apart =
-          elim (cases_lt i n) [
-            | inl below ↦ omega arith
-            | inr above ↦ absurd (apart (omega arith))
-          ]
-
   tick_open : (w : World) (n moment : ℕ) (l : Link) → link_at w n ≡ Some l → is_link n ≡ true → OfTick (nat_lt moment w.moment) moment l (effects_in (history_on n (ticked w moment).1))
   tick_open w n moment l is link =
       let parts : (nat_lt 0 n ≡ true) × (nat_lt n 65 ≡ true) = and_parts (nat_lt 0 n) (nat_lt n 65) link in
@@ -229,7 +181,7 @@ module _ (only : StepsOnly) (grow : HistoryGrows) (own : HistoryOfOwn) (other : 
       let most : n < 65 = ltb-true n 65 parts.1 in
       let v : World = record w { moment = moment } in
       let came : history_on n (ticks moment v 1 64).1 ≡ (link_step l (Tick moment)).1 =
-      ticked_at moment v n 1 64 (omega arith) (omega arith) ∙ ap (λ (place : Option Link). came_at place (Tick moment)) is in
+      (ticks_lead grow own other moment v n 1 64 l is (omega arith) (omega arith)).came in
       elim (cases_Bool (nat_lt moment w.moment)) [
         | inl back ↦ rw back refl
         | inr on ↦ rw on (subst (λ (effects : Effects). TickEffects (max l.moment moment) l effects) (sym (ap effects_in came)) (tick_effects only l moment))
@@ -248,7 +200,9 @@ module _ (only : StepsOnly) (grow : HistoryGrows) (own : HistoryOfOwn) (other : 
               ap (λ (place : Option Link). history_on n (at_link w i place (Tick moment)).1) closed,
               ap (λ (place : Option Link). link_at (at_link w i place (Tick moment)).0 n) closed ∙ none,
             )
-        | inr apart ↦ (elsewhere w n i (link_at w i) (Tick moment) (λ e. apart (sym e)), stays_at w n i (link_at w i) (Tick moment) apart ∙ none)
+        | inr apart ↦
+            let rests = other_rests grow own other w n i (link_at w i) (Tick moment) apart in
+            (rests.came, rests.link ∙ none)
       ] in
       grow n a.1 b.1 ∙ ap₂ (λ (xs ys : List Occurrence). xs ++ ys) first.0 (unticked_closed moment a.0 n (i + 1) count first.1)
 

@@ -14,7 +14,7 @@ ghost use Rattle.drill_model.specs.Worlds.{Plan};
 ghost use Rattle.drill_model.specs.Hearing.{HeardIsBrought};
 ghost use Rattle.drill_model.specs.StackReports.{OpensOrderly, CallsReport};
 ghost use Rattle.drill_model.specs.Effects.{Steps};
-ghost use Rattle.drill_model.specs.Headline.{LawfulAlways, OpensAlways, RoomAlways, InOrderAlways, LosingLineReasonsAlways, OrderIsUnforged, DeliversAlways, TakesInOrder};
+ghost use Rattle.drill_model.specs.Headline.{LawfulAlways, OpensAlways, RoomAlways, InOrderAlways, LosingLineReasonsAlways, OrderIsUnforged, DeliversAlways, TakesInOrder, RepairsAlways, DrainsAlways};
 ghost use Rattle.drill_model.specs.Printing.{PrintedAsMarked, LinesInOrder};
 ghost use Rattle.drill_laws.specs.Stacks.{StacksRun};
 
@@ -168,6 +168,20 @@ pub fn order_is_unforged()
     stack_laws();
     station_laws();
     drill_model::laws::histories();
+}
+
+/// On a link of level link or link-sr that keeps its order and whose stations weren't released: how many passes a drain takes at most; and a
+/// drain, a tick at which each T1 that runs is found expired, and a drain leave nothing lost.
+pub fn recovery()
+    ensures repairs { RepairsAlways }
+    ensures drains { DrainsAlways }
+{
+    station_pair::laws::recovery();
+    station_pair::laws::passes_are_bounded();
+    er_settings::laws::allowed_are_bounded();
+    station_laws();
+    drill_model::laws::histories();
+    drill_model::laws::runs_grow();
 }
 
 /// A link of level full is two ends over two lines behind steps of their own, and the stream of each end is what was passed to it.

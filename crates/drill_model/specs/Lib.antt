@@ -14,6 +14,7 @@ pub mod Effects
 pub mod Hearing
 pub mod Totals
 pub mod Texts
+pub mod Recovery
 pub mod Headline
 pub mod Printing
 pub mod KnownAnswers
@@ -21,4 +22,5 @@ pub mod KnownPayloads
 pub mod KnownStacks
 pub mod KnownEffects
 pub mod KnownMessages
+pub mod KnownRecovery
 pub mod Growth

@@ -35,12 +35,12 @@ not_not false false h = absurd cc
 pub swap : (selective : Bool) (k : ℕ) (lx : List Frame) (x : Station) (ly : List Frame) (y : Station) → Pair selective k lx x ly y → Pair selective k ly y lx x
 swap selective k lx x ly y h = (h.1, h.0, not_not x.calling y.calling h.2, sym h.3, subst (λ (e : Bool). IsSpan selective e k) h.3 h.4)
 
-row_keeps : (selective : Bool) (k : ℕ) (w : List Frame) (x : Station) (f : Frame) (fs : List Frame) (y : Station)
+pub row_keeps : (selective : Bool) (k : ℕ) (w : List Frame) (x : Station) (f : Frame) (fs : List Frame) (y : Station)
     → Both selective k w x (f ∷ fs) y → Both selective k w (row_as selective x.phase x (shown x.extended f) (information f)) fs y
 row_keeps true k w x f fs y b = selective_row_keeps k w x.phase x f fs y b
 row_keeps false k w x f fs y b = go_back_row_keeps k w x.phase x f fs y b
 
-heard_keeps : ControlReadsBack → (selective : Bool) (k : ℕ) (w : List Frame) (x : Station) (f : Frame) (fs : List Frame) (y : Station)
+pub heard_keeps : ControlReadsBack → (selective : Bool) (k : ℕ) (w : List Frame) (x : Station) (f : Frame) (fs : List Frame) (y : Station)
     → Both selective k w x (f ∷ fs) y → Both selective k w (hears_as selective (Frame_found (sent_address (not x.calling) f) (sent_body x.extended f)) x) fs y
 heard_keeps law selective k w x f fs y b =
     subst (λ (t : Station). Both selective k w t fs y) (sym (frame_heard law selective x f (may_come selective k (w ++ x.said) x f fs y b))) (row_keeps selective k w x f fs y b)

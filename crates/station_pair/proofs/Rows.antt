@@ -15,7 +15,7 @@ use Rattle.station_pair.proofs.Hearing.{MayCome}
 
 -- ---- N(R)
 
-found : (e : Bool) (n a r : ℕ) → a ≤ r → r ≤ a + n → n < modulo e → named e a n (r % modulo e) ≡ Some r
+pub found : (e : Bool) (n a r : ℕ) → a ≤ r → r ≤ a + n → n < modulo e → named e a n (r % modulo e) ≡ Some r
 found true zero a r low high small =
     let same : a ≡ r = omega arith in
     rw (eq-eqb (a % 128) (r % 128) (ap (λ t. t % 128) same), same) refl
@@ -64,7 +64,7 @@ named_is selective k r i m ns x y span h =
     let below : k < modulo x.extended = span_below selective x.extended k span in
     found x.extended (x.sent - x.acked) x.acked r w.climb.0 (omega (arith, b.0, b.1)) (omega (arith, w.window, below))
 
-half_ack : (selective : Bool) (k r : ℕ) (i : List (ℕ × List ℕ)) (m ns : List ℕ) (x y : Station) → Half selective k i m (r ∷ ns) x y → Half selective k i m (r ∷ ns) (acknowledges r x) y
+pub half_ack : (selective : Bool) (k r : ℕ) (i : List (ℕ × List ℕ)) (m ns : List ℕ) (x y : Station) → Half selective k i m (r ∷ ns) x y → Half selective k i m (r ∷ ns) (acknowledges r x) y
 half_ack selective k r i m ns x y h = (way_ack k x.handed x.acked x.sent y.taken i ns r h.0.climb.0 h.0, h.1, h.2, h.3, h.4, h.5, h.6)
 
 pub half_shown : (selective : Bool) (k r : ℕ) (i : List (ℕ × List ℕ)) (m ns : List ℕ) (x y : Station) → Half selective k i m (r ∷ ns) x y → Half selective k i m ns x y

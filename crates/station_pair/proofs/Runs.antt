@@ -222,7 +222,7 @@ heard_kept side [] l = refl
 heard_kept E (v ∷ vs) l = heard_kept E vs (did E (finishes (receives_as l.selective l.moment v l.e)) l)
 heard_kept R (v ∷ vs) l = heard_kept R vs (did R (finishes (receives_as l.selective l.moment v l.r)) l)
 
-passed_kept : (side : Side) (line : List (List ℕ)) (l : Link) → (pass side line l).order_kept ≡ l.order_kept
+pub passed_kept : (side : Side) (line : List (List ℕ)) (l : Link) → (pass side line l).order_kept ≡ l.order_kept
 passed_kept E [] l = refl
 passed_kept R [] l = refl
 passed_kept E (octets ∷ rest) l = heard_kept R (news l.read_r octets) _
@@ -233,28 +233,28 @@ next_kept None overfull d = refl
 next_kept (Some side) true d = refl
 next_kept (Some side) false d = passed_kept side (line_of d.link side) d.link
 
-drained_kept : (most : ℕ) (d : Draining) → (drained most d).link.order_kept ≡ d.link.order_kept
+pub drained_kept : (most : ℕ) (d : Draining) → (drained most d).link.order_kept ≡ d.link.order_kept
 drained_kept zero d = refl
 drained_kept (suc most) d =
     drained_kept most (pass_next (next_of d.link.from_e d.link.from_r) (is_overfull d.link) d) ∙ next_kept (next_of d.link.from_e d.link.from_r) (is_overfull d.link) d
 
-sent_kept : (side : Side) (p : List ℕ) (l : Link) (o : Option Came) → (send_unless o side p l).order_kept ≡ l.order_kept
+pub sent_kept : (side : Side) (p : List ℕ) (l : Link) (o : Option Came) → (send_unless o side p l).order_kept ≡ l.order_kept
 sent_kept E p l None = refl
 sent_kept R p l None = refl
 sent_kept E p l (Some refused) = refl
 sent_kept R p l (Some refused) = refl
 
-lost_kept : (side : Side) (line : List (List ℕ)) (l : Link) → (lose side line l).order_kept ≡ l.order_kept
+pub lost_kept : (side : Side) (line : List (List ℕ)) (l : Link) → (lose side line l).order_kept ≡ l.order_kept
 lost_kept side [] l = refl
 lost_kept E (octets ∷ rest) l = refl
 lost_kept R (octets ∷ rest) l = refl
 
-repeated_kept : (side : Side) (line : List (List ℕ)) (l : Link) → (repeat side line l).order_kept ≡ l.order_kept
+pub repeated_kept : (side : Side) (line : List (List ℕ)) (l : Link) → (repeat side line l).order_kept ≡ l.order_kept
 repeated_kept side [] l = refl
 repeated_kept E (octets ∷ rest) l = refl
 repeated_kept R (octets ∷ rest) l = refl
 
-released_kept : (side : Side) (sub : ℕ) (l : Link) → (release side sub l).order_kept ≡ l.order_kept
+pub released_kept : (side : Side) (sub : ℕ) (l : Link) → (release side sub l).order_kept ≡ l.order_kept
 released_kept E sub l =
     cond_both (is_down l.e.phase) (record l { loss_free = false }) (did E (quits sub l.e) (record l { loss_free = false })) (λ t. t.order_kept ≡ l.order_kept) (λ e. refl) (λ e. refl)
 released_kept R sub l =

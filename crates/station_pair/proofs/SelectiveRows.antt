@@ -1,5 +1,5 @@
 -- One station with selective reject acts: what it does at the first frame that waits keeps the invariant.
-use Rattle.std.proofs.Common.{if◌then◌else◌, ◌≡◌, ℕ, zero, suc, ◌+◌, ◌-◌, ◌*◌, ◌%◌, ◌<◌, ◌≤◌, max, Bool, true, false, List, [], ◌∷◌, ◌++◌, length, take, map, Option, Some, None, refl, sym, ◌∙◌, ap, subst, arith, append_assoc, append-nil, length-append, eq-eqb, eqb-true, ltb-true, true≢false}
+use Rattle.std.proofs.Common.{if◌then◌else◌, ◌≡◌, ℕ, zero, suc, ◌+◌, ◌-◌, ◌*◌, ◌%◌, ◌<◌, ◌≤◌, ◌⊎◌, inl, inr, max, Bool, true, false, List, [], ◌∷◌, ◌++◌, length, take, map, Option, Some, None, refl, sym, ◌∙◌, ap, subst, arith, append_assoc, append-nil, length-append, eq-eqb, eqb-true, ltb-true, true≢false}
 use Rattle.std.specs.Prelude.{nat_lt, nat_le, ◌==◌}
 use Rattle.std.specs.List.{filter}
 use Rattle.std.proofs.lemmas.Bool.{cond_both}
@@ -19,7 +19,7 @@ use Rattle.station_pair.proofs.Rows.{no_foreign, half_shown, first_gone, set_up_
 -- ---- equality modulo the modulo is equality
 
 -- a number that is named lies where it is looked for, and shows what is shown
-record Named (e : Bool) (a count r n : ℕ) : Type 0 where
+pub record Named (e : Bool) (a count r n : ℕ) : Type 0 where
   pub low : a ≤ n
   pub high : n ≤ a + count
   pub shows : n % modulo e ≡ r
@@ -29,7 +29,7 @@ first_named e a count r n is same =
     let g : n ≡ a = cc in
     record { low = omega arith; high = omega arith; shows = ap (λ (m : ℕ). m % modulo e) g ∙ eqb-true (a % modulo e) r is }
 
-named_at : (e : Bool) (a count r n : ℕ) → named e a count r ≡ Some n → Named e a count r n
+pub named_at : (e : Bool) (a count r n : ℕ) → named e a count r ≡ Some n → Named e a count r n
 named_at e a zero r n = cond_both (a % modulo e == r) (Some a) None (λ o. o ≡ Some n → Named e a zero r n) (λ is same. first_named e a zero r n is same) (λ isnt same. absurd cc)
 named_at e a (suc count) r n =
     cond_both (a % modulo e == r) (Some a) (named e (a + 1) count r) (λ o. o ≡ Some n → Named e a (suc count) r n) (λ is same. first_named e a (suc count) r n is same)
@@ -122,25 +122,32 @@ number_keeps k w x n r p fs y b =
     (λ e. cond_both (is_found (held_for n x.held)) (says_next x) (holds n p x) (λ t. Both true k w t fs y)
     (λ held. next_keeps k w x n r p fs y b) (λ free. hold_keeps k w x n r p fs y b))
 
-found_keeps : (k : ℕ) (w : List Frame) (x : Station) (n r : ℕ) (p : List ℕ) (fs : List Frame) (y : Station)
-    → (o : Option ℕ) → named x.extended (length x.taken) (x.window - 1) (n % modulo x.extended) ≡ o
-    → Both true k w x (Info n r p ∷ fs) y → Both true k w (files_at o p x) fs y
-found_keeps k w x n r p fs y None e b = next_keeps k w x n r p fs y b
-found_keeps k w x n r p fs y (Some m) e b =
+-- the number that is named is that of the frame
+pub named_none_or : (k : ℕ) (lx : List Frame) (x : Station) (n r : ℕ) (p : List ℕ) (fs : List Frame) (y : Station) → Pair true k lx x (Info n r p ∷ fs) y
+    → (o : Option ℕ) → named x.extended (length x.taken) (x.window - 1) (n % modulo x.extended) ≡ o → (o ≡ None) ⊎ (o ≡ Some n)
+named_none_or k lx x n r p fs y b None e = inl refl
+named_none_or k lx x n r p fs y b (Some m) e =
     let v = b.1.0 in
     let waits : List (ℕ × List ℕ) = infos fs in
-    let shows : List ℕ = numbers (w ++ x.said) in
+    let shows : List ℕ = numbers lx in
     let at = named_at x.extended (length x.taken) (x.window - 1) (n % modulo x.extended) m e in
     let some = way_some k y.handed y.acked y.sent x.taken waits shows (n, p) v in
     let bounds = way_bounds k y.handed y.acked y.sent x.taken ((n, p) ∷ waits) shows v in
     let le = forward_le k (max (length x.taken) (n + 1)) y.sent y.handed waits v.chain.2 in
     let same : m ≡ n =
     half_tells x.extended k (length x.taken) m n b.4 at.low (omega (arith, at.high, b.0.3, some)) (omega (arith, v.chain.0)) (omega (arith, le, v.window, bounds.0)) at.shows in
-    subst (λ (j : ℕ). Both true k w (files_at (Some j) p x) fs y) (sym same) (number_keeps k w x n r p fs y b)
+    inr (ap Some same)
+
+found_keeps : (k : ℕ) (w : List Frame) (x : Station) (n r : ℕ) (p : List ℕ) (fs : List Frame) (y : Station) (o : Option ℕ) → (o ≡ None) ⊎ (o ≡ Some n)
+    → Both true k w x (Info n r p ∷ fs) y → Both true k w (files_at o p x) fs y
+found_keeps k w x n r p fs y o (inl e) b = subst (λ (o : Option ℕ). Both true k w (files_at o p x) fs y) (sym e) (next_keeps k w x n r p fs y b)
+found_keeps k w x n r p fs y o (inr e) b = subst (λ (o : Option ℕ). Both true k w (files_at o p x) fs y) (sym e) (number_keeps k w x n r p fs y b)
 
 file_keeps : (k : ℕ) (w : List Frame) (x : Station) (n r : ℕ) (p : List ℕ) (fs : List Frame) (y : Station)
     → Both true k w x (Info n r p ∷ fs) y → Both true k w (files (n % modulo x.extended) p x) fs y
-file_keeps k w x n r p fs y b = found_keeps k w x n r p fs y (named x.extended (length x.taken) (x.window - 1) (n % modulo x.extended)) refl b
+file_keeps k w x n r p fs y b =
+    let o : Option ℕ = named x.extended (length x.taken) (x.window - 1) (n % modulo x.extended) in
+    found_keeps k w x n r p fs y o (named_none_or k (w ++ x.said) x n r p fs y b o refl) b
 
 -- ---- SREJ
 

@@ -1,5 +1,6 @@
 -- Known answers, worked out by hand: what comes of short lists of steps.
 use Rattle.std.specs.Prelude.{◌≡◌, ℕ, Bool, true, false, List, [], ◌∷◌, ◌++◌, length, filter, refl}
+use Rattle.std.proofs.Common.{arith}
 use Rattle.bit_lists.specs.LowestFirst.{low_bits, low_number}
 use Rattle.hdlc_fcs.specs.FrameCheck.{fcs_of, fcs_bits, dividend, remainder, divided_once, add_front, sent_bits}
 use Rattle.hdlc_fcs.specs.Contents.{content_of, checked_part, check_number}
@@ -8,7 +9,9 @@ use Rattle.hdlc_frames.specs.Spelling.{escaped_octet, escaped, spelling}
 use Rattle.hdlc_frames.specs.ControlOctets.{control_of}
 use Rattle.er_base.specs.declared.side.Side.TheVariants.{E, R}
 use Rattle.station_pair.specs.Links.{Came, CameUp, Accepted, WasReleased, Sent, RefusedReleased, RefusedLength, RefusedFull, NothingWaits, IsShort, Drained, Link, opened}
-use Rattle.station_pair.specs.Steps.{LinkStep, Send, Pass, Lose, Repeat, Put, Drain, Tick, happens, run}
+use Rattle.station_pair.specs.Steps.{LinkStep, Send, Pass, Lose, Repeat, Put, Drain, Tick, Draining, drained, happens, run}
+use Rattle.station_pair.specs.Laws.{Opening, after}
+use Rattle.station_pair.specs.Recovery.{bound_of}
 
 -- all that came of a list of steps
 abbrev all_came : Link → List LinkStep → List Came
@@ -82,3 +85,73 @@ lost_and_repeated_selective = refl
 pub lost_and_repeated_selective_extended : told (opened true true 20 5 1000 0) (Drain 4 ∷ Send E (1 ∷ []) ∷ Send E (2 ∷ []) ∷ Send E (3 ∷ []) ∷ Send E (4 ∷ []) ∷ Send E (5 ∷ []) ∷ Send E (6 ∷ []) ∷ Send E (7 ∷ []) ∷ Send E (8 ∷ []) ∷ Send E (9 ∷ []) ∷ Send E (10 ∷ []) ∷ Send E (11 ∷ []) ∷ Send E (12 ∷ []) ∷ Send E (13 ∷ []) ∷ Send E (14 ∷ []) ∷ Send E (15 ∷ []) ∷ Send E (16 ∷ []) ∷ Send E (17 ∷ []) ∷ Send E (18 ∷ []) ∷ Send E (19 ∷ []) ∷ Send E (20 ∷ []) ∷ Pass E ∷ Pass E ∷ Lose E ∷ Drain 200 ∷ Send E (21 ∷ []) ∷ Repeat E ∷ Drain 200 ∷ []) ≡ (CameUp R ∷ CameUp E ∷ Drained 2 ∷ Accepted R (1 ∷ []) ∷ Accepted R (2 ∷ []) ∷ Accepted R (3 ∷ []) ∷ Accepted R (4 ∷ []) ∷ Accepted R (5 ∷ []) ∷ Accepted R (6 ∷ []) ∷ Accepted R (7 ∷ []) ∷ Accepted R (8 ∷ []) ∷ Accepted R (9 ∷ []) ∷ Accepted R (10 ∷ []) ∷ Accepted R (11 ∷ []) ∷ Accepted R (12 ∷ []) ∷ Accepted R (13 ∷ []) ∷ Accepted R (14 ∷ []) ∷ Accepted R (15 ∷ []) ∷ Accepted R (16 ∷ []) ∷ Accepted R (17 ∷ []) ∷ Accepted R (18 ∷ []) ∷ Accepted R (19 ∷ []) ∷ Accepted R (20 ∷ []) ∷ Drained 22 ∷ Accepted R (21 ∷ []) ∷ Drained 4 ∷ [], (0, 0))
 unfolding frames_of between_flags all_but_last cut verdict_on verdict_on_content checked_part check_number unescaped ends_in_escape spelling escaped escaped_octet content_of control_of fcs_of fcs_bits dividend remainder divided_once add_front sent_bits low_bits low_number
 lost_and_repeated_selective_extended = refl
+
+-- a drain behind losses: of a window of seven frames the first is lost, and the REJ at the second stands three times. The passes are the five frames
+-- behind and, for each REJ, it and the seven frames that are sent again for it; the first seven are taken. Then come the answers: five RR,
+-- seven, another REJ with six RR, and seven RR. In all 5 + 3 * 8 + 26 passes; before them 5 + 3 frames wait, and 7 payloads were handed down, so
+-- there may be 15 * (8 + 7 + 2) + 2 * 7
+abbrev rejected_often : Opening × List LinkStep
+rejected_often = (
+  record { selective = false; extended = false; window = 7; n2 = 5; t1 = 1000; moment = 0; some = omega arith; narrow = omega arith },
+  Drain 4 ∷ Send E (1 ∷ []) ∷ Send E (2 ∷ []) ∷ Send E (3 ∷ []) ∷ Send E (4 ∷ []) ∷ Send E (5 ∷ []) ∷ Send E (6 ∷ []) ∷ Send E (7 ∷ []) ∷ Lose E ∷ Pass E ∷ Repeat R ∷ Repeat R ∷ [],
+)
+
+abbrev drain_of : Opening × List LinkStep → (passes : ℕ) → Draining
+drain_of o most = drained most (record { link = after o.0 o.1; passes = 0 })
+
+pub many_passes : (drain_of rejected_often 500).passes ≡ 55
+unfolding frames_of between_flags all_but_last cut verdict_on verdict_on_content checked_part check_number unescaped ends_in_escape spelling escaped escaped_octet content_of control_of fcs_of fcs_bits dividend remainder divided_once add_front sent_bits low_bits low_number
+many_passes = refl
+
+pub its_bound : bound_of rejected_often.0 (after rejected_often.0 rejected_often.1) ≡ 269
+unfolding frames_of between_flags all_but_last cut verdict_on verdict_on_content checked_part check_number unescaped ends_in_escape spelling escaped escaped_octet content_of control_of fcs_of fcs_bits dividend remainder divided_once add_front sent_bits low_bits low_number
+its_bound = refl
+
+-- and each frame was given, and each payload was taken
+pub none_left : told (drain_of rejected_often 500).link [] ≡ ([], (0, 0))
+unfolding frames_of between_flags all_but_last cut verdict_on verdict_on_content checked_part check_number unescaped ends_in_escape spelling escaped escaped_octet content_of control_of fcs_of fcs_bits dividend remainder divided_once add_front sent_bits low_bits low_number
+none_left = refl
+
+pub all_taken : (drain_of rejected_often 500).link.r.taken ≡ (1 ∷ []) ∷ (2 ∷ []) ∷ (3 ∷ []) ∷ (4 ∷ []) ∷ (5 ∷ []) ∷ (6 ∷ []) ∷ (7 ∷ []) ∷ []
+unfolding frames_of between_flags all_but_last cut verdict_on verdict_on_content checked_part check_number unescaped ends_in_escape spelling escaped escaped_octet content_of control_of fcs_of fcs_bits dividend remainder divided_once add_front sent_bits low_bits low_number
+all_taken = refl
+
+-- ---- one tick repairs a loss of each kind, with go-back and with selective reject
+
+-- a lossy beginning, then T1 is found expired, and what waits is passed
+abbrev repaired : (selective : Bool) → List LinkStep → List Came × (ℕ × ℕ)
+repaired selective steps = told (opened selective false 4 5 1000 0) (steps ++ Tick 1000 ∷ Drain 20 ∷ [])
+
+abbrev of_both : List LinkStep → List Came × (ℕ × ℕ) → Type 0
+of_both steps told = (repaired false steps ≡ told) × (repaired true steps ≡ told)
+
+-- the set-up frame is lost: it comes again, and is answered
+pub lost_set_up : of_both (Lose E ∷ []) (CameUp R ∷ CameUp E ∷ Drained 2 ∷ [], (0, 0))
+unfolding frames_of between_flags all_but_last cut verdict_on verdict_on_content checked_part check_number unescaped ends_in_escape spelling escaped escaped_octet content_of control_of fcs_of fcs_bits dividend remainder divided_once add_front sent_bits low_bits low_number
+lost_set_up = (refl, refl)
+
+-- its answer is lost: the set-up frame comes again to a station that is up, which answers again and doesn't come up twice
+pub lost_answer : of_both (Pass E ∷ Lose R ∷ []) (CameUp R ∷ CameUp E ∷ Drained 2 ∷ [], (0, 0))
+unfolding frames_of between_flags all_but_last cut verdict_on verdict_on_content checked_part check_number unescaped ends_in_escape spelling escaped escaped_octet content_of control_of fcs_of fcs_bits dividend remainder divided_once add_front sent_bits low_bits low_number
+lost_answer = (refl, refl)
+
+-- an I frame is lost behind which none comes: no gap is seen, so nothing but T1 tells
+pub lost_frame : of_both (Drain 4 ∷ Send E (1 ∷ []) ∷ Lose E ∷ []) (CameUp R ∷ CameUp E ∷ Drained 2 ∷ Accepted R (1 ∷ []) ∷ Drained 2 ∷ [], (0, 0))
+unfolding frames_of between_flags all_but_last cut verdict_on verdict_on_content checked_part check_number unescaped ends_in_escape spelling escaped escaped_octet content_of control_of fcs_of fcs_bits dividend remainder divided_once add_front sent_bits low_bits low_number
+lost_frame = (refl, refl)
+
+-- the RR that answers it is lost: the frame comes again as an old one, and isn't taken twice. Its answer, a REJ with go-back and an RR with selective
+-- reject, shows the next number
+pub lost_ready : of_both (Drain 4 ∷ Send E (1 ∷ []) ∷ Pass E ∷ Lose R ∷ []) (CameUp R ∷ CameUp E ∷ Drained 2 ∷ Accepted R (1 ∷ []) ∷ Drained 2 ∷ [], (0, 0))
+unfolding frames_of between_flags all_but_last cut verdict_on verdict_on_content checked_part check_number unescaped ends_in_escape spelling escaped escaped_octet content_of control_of fcs_of fcs_bits dividend remainder divided_once add_front sent_bits low_bits low_number
+lost_ready = (refl, refl)
+
+-- the first of two I frames is lost, and so is the REJ or SREJ that asks for it: both frames come again, each with its answer
+pub lost_reject : of_both (Drain 4 ∷ Send E (1 ∷ []) ∷ Send E (2 ∷ []) ∷ Lose E ∷ Pass E ∷ Lose R ∷ []) (CameUp R ∷ CameUp E ∷ Drained 2 ∷ Accepted R (1 ∷ []) ∷ Accepted R (2 ∷ []) ∷ Drained 4 ∷ [], (0, 0))
+unfolding frames_of between_flags all_but_last cut verdict_on verdict_on_content checked_part check_number unescaped ends_in_escape spelling escaped escaped_octet content_of control_of fcs_of fcs_bits dividend remainder divided_once add_front sent_bits low_bits low_number
+lost_reject = (refl, refl)
+
+-- a frame of either station is lost: the same tick repairs both directions. The passes are the two frames and an RR for each
+pub lost_both_ways : of_both (Drain 4 ∷ Send E (1 ∷ []) ∷ Drain 4 ∷ Send R (2 ∷ []) ∷ Send E (3 ∷ []) ∷ Lose R ∷ Lose E ∷ []) (CameUp R ∷ CameUp E ∷ Drained 2 ∷ Accepted R (1 ∷ []) ∷ Drained 2 ∷ Accepted R (3 ∷ []) ∷ Accepted E (2 ∷ []) ∷ Drained 4 ∷ [], (0, 0))
+unfolding frames_of between_flags all_but_last cut verdict_on verdict_on_content checked_part check_number unescaped ends_in_escape spelling escaped escaped_octet content_of control_of fcs_of fcs_bits dividend remainder divided_once add_front sent_bits low_bits low_number
+lost_both_ways = (refl, refl)

@@ -5,4 +5,6 @@ pub mod Invariant
 pub mod Flowing
 pub mod Keeping
 pub mod LossFree
+pub mod Recovery
+pub mod Timers
 pub mod KnownAnswers

@@ -2,6 +2,8 @@
 
 ghost use Rattle.station_pair.specs.Keeping.{CallsKeep, FramesGive, PhasesStay, ReceivesTell, TicksTell};
 ghost use Rattle.station_pair.specs.LossFree.{FlowBounds, FlowKeeps};
+ghost use Rattle.station_pair.specs.Recovery.{DrainEmptiesLive, PassesBound, PassesRelease, Recovery};
+ghost use Rattle.station_pair.specs.Timers.{Renewal, TimersRun};
 ghost use Rattle.station_pair.specs.Laws.{Prefix, LosingLineReasons, Delivery, DeliveryBound, DrainEmpties, DeliveriesBound, FewWait};
 
 use hdlc_frames::laws::{control_reads_back, flag_parts, frame_alone};
@@ -85,4 +87,36 @@ pub fn loss_free_keeps()
     ensures bounds { FlowBounds }
 {
     control_reads_back();
+}
+
+/// Whatever a line lost and repeated, while no end was released: all that waits is given; a moment finds each T1 that runs expired; all that
+/// waits is given. Then each end took all that the other was handed: the calling one where it was handed a payload itself.
+pub fn recovery()
+    ensures recovered { Recovery }
+    ensures live { PassesRelease }
+{
+    control_reads_back();
+    flag_parts();
+    frame_alone();
+}
+
+/// T1 of each station runs exactly while an I frame is unacknowledged, or while the set-up is unanswered. Behind a recovery it runs at neither
+/// station and no expiry is counted, so that all N2 expiries are left for the next loss.
+pub fn timers_run()
+    ensures exactly { TimersRun }
+    ensures renewed { Renewal }
+{
+    control_reads_back();
+    flag_parts();
+    frame_alone();
+}
+
+/// How many passes that takes at most, from any moment on.
+pub fn passes_are_bounded()
+    ensures passes { PassesBound }
+    ensures drain { DrainEmptiesLive }
+{
+    control_reads_back();
+    flag_parts();
+    frame_alone();
 }

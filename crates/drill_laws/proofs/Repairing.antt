@@ -1,0 +1,207 @@
+-- A link of two stations recovers: a drain of it is passes of its pair, and a tick is a tick of the pair.
+use Rattle.std.proofs.Common.{◌≡◌, inl, inr, ℕ, zero, suc, ◌+◌, ◌≤◌, max, true, List, [], ◌∷◌, ◌++◌, length, refl, sym, ap, ap₂, subst, ◌∙◌, append-nil, append_assoc, arith}
+use Rattle.std.specs.Prelude.{Option, Some, None}
+use Rattle.std.proofs.lemmas.Bool.{leb-true, le-leb}
+use Rattle.er_base.specs.declared.side.Side.{Side}
+use Rattle.er_base.specs.declared.side.Side.TheVariants.{E, R}
+use Rattle.station_model.specs.Lines.{next_of}
+use Rattle.station_model.specs.Sending.{is_due}
+use Rattle.station_model.specs.Stations.{Station}
+use Rattle.station_pair.specs.Links.{Link as Pair, opened}
+use Rattle.station_pair.specs.Steps.{happens, run}
+use Rattle.station_pair.specs.Steps as on_pair
+use Rattle.station_pair.specs.Laws.{Opening, after}
+use Rattle.station_pair.specs.Laws as of_pair
+use Rattle.station_pair.specs.Recovery.{ArePasses, AreLive, MayRepeat, IsRecovered, Recovery, PassesBound, passes_bound, bound_of}
+use Rattle.drill_model.specs.Outcomes.{Occurrence}
+use Rattle.drill_model.specs.Links.{Link, waiting_of, Pass, Tick, link_step}
+use Rattle.drill_model.specs.Worlds.{Plan, next_side, overfull_side, Drain, drain, drain_on}
+use Rattle.drill_model.specs.Kinds.{sent_by}
+use Rattle.drill_model.specs.Recovery.{IsLiveStation, MayRepeatAt, NoneWaits, IsRepairable, drain_bound, DrainEmpties}
+use Rattle.drill_model.specs.Headline.{IsConnectedEnd, HasAllPayloads}
+use Rattle.drill_laws.proofs.Tellings.{StationLaws}
+use Rattle.drill_laws.proofs.Wiring.{Sees}
+use Rattle.drill_laws.proofs.Wired.{cleared, pass_goes, tick_goes, run_append}
+
+-- ---- a later moment finds as much expired
+
+due_later : (timer : Option ℕ) (now later : ℕ) → now ≤ later → is_due timer now ≡ true → is_due timer later ≡ true
+due_later None now later on due = due
+due_later (Some expiry) now later on due = let past : expiry ≤ now = leb-true expiry now due in le-leb expiry later (omega arith)
+
+may_later : (s : Station) (moment now : ℕ) → MayRepeat now s → MayRepeat (max moment now) s
+may_later s moment now may =
+    elim may [
+      | inl rests ↦ inl rests
+      | inr late ↦ inr (due_later s.timer (max s.moment now) (max s.moment (max moment now)) (omega arith) late.0, late.1)
+    ]
+
+-- ---- a link that is seen as a pair
+
+live_pair : (l : Link) (history : List Occurrence) (p : Pair) → Sees l history p → IsRepairable history l → AreLive p
+live_pair l history p v repairable = (subst IsLiveStation v.e_is repairable.e_live, subst IsLiveStation v.r_is repairable.r_live)
+
+empty_pair : (l : Link) (history : List Occurrence) (p : Pair) → Sees l history p → NoneWaits l → of_pair.IsEmpty p
+empty_pair l history p v none = (sym v.from_e_is ∙ none.0, sym v.from_r_is ∙ none.1)
+
+recovered : (l : Link) (history : List Occurrence) (p : Pair) → Sees l history p → IsRecovered p → HasAllPayloads history l
+recovered l history p v r =
+    record {
+      e_up = subst IsConnectedEnd (sym v.e_is) r.e_up;
+      r_up = subst IsConnectedEnd (sym v.r_is) r.r_up;
+      at_r = v.accepted_r ∙ r.at_r ∙ sym v.sent_e;
+      at_e = λ some. v.accepted_e ∙ r.at_e (subst (λ (xs : List (List ℕ)). 1 ≤ length xs) v.sent_e some) ∙ sym v.sent_r;
+    }
+
+-- passes of the pair lead to this
+pub record Passed (l : Link) (history : List Occurrence) (p : Pair) : Type 0 where
+  pub steps : List on_pair.LinkStep
+  pub passes : ArePasses steps
+  pub sees : Sees l history (run p steps)
+
+abbrev PassedBy : (Link → Drain) → Type 0
+PassedBy drained = (l : Link) (history : List Occurrence) (p : Pair) → Sees l history p → Passed (drained l).link (history ++ (drained l).came) p
+
+at_most : (a b c : ℕ) → a ≤ b → b ≤ c → a ≤ c
+at_most a b c x y = omega arith
+
+run_then : (p : Pair) (xs zs : List on_pair.LinkStep) (s : on_pair.LinkStep) → run p (xs ++ s ∷ zs) ≡ run (happens s (run p xs)) zs
+run_then p [] zs s = refl
+run_then p (x ∷ xs) zs s = run_then (happens x p) xs zs s
+
+run_through : (p : Pair) (xs ys zs : List on_pair.LinkStep) (s : on_pair.LinkStep) → run p (xs ++ ys ++ s ∷ zs) ≡ run (happens s (run (run p xs) ys)) zs
+run_through p [] ys zs s = run_then p ys zs s
+run_through p (x ∷ xs) ys zs s = run_through (happens x p) xs ys zs s
+
+module _ (laws : StationLaws) where
+  -- what the law of two stations says of the pair step by step
+  pair_recovers : Recovery → (s : Opening) (steps : List on_pair.LinkStep) → (after s steps).order_kept ≡ true → AreLive (after s steps)
+      → (first : List on_pair.LinkStep) → ArePasses first → of_pair.IsEmpty (run (after s steps) first)
+      → (now : ℕ) → MayRepeat now (run (after s steps) first).e → MayRepeat now (run (after s steps) first).r
+      → (second : List on_pair.LinkStep) → ArePasses second → of_pair.IsEmpty (run (happens (on_pair.Tick now) (run (after s steps) first)) second)
+      → IsRecovered (run (happens (on_pair.Tick now) (run (after s steps) first)) second)
+  pair_recovers law s steps kept live first are none now may_e may_r second are_later none_later =
+      let begun : Pair = opened s.selective s.extended s.window s.n2 s.t1 s.moment in
+      let one : after s (steps ++ first) ≡ run (after s steps) first = run_append laws begun steps first in
+      let all : after s (steps ++ first ++ on_pair.Tick now ∷ second) ≡ run (happens (on_pair.Tick now) (run (after s steps) first)) second =
+      run_through begun steps first second (on_pair.Tick now) in
+      subst IsRecovered all
+      (law s steps kept live first are (subst of_pair.IsEmpty (sym one) none) now (subst (λ (p : Pair). MayRepeat now p.e) (sym one) may_e)
+      (subst (λ (p : Pair). MayRepeat now p.r) (sym one) may_r) second are_later (subst of_pair.IsEmpty (sym all) none_later))
+
+  -- ---- drains
+
+  drain_on_passes : (others : Link → Drain) → PassedBy others → (l : Link) (history : List Occurrence) (p : Pair) (next overfull : Option Side) → Sees l history p
+      → Passed (drain_on others l next overfull).link (history ++ (drain_on others l next overfull).came) p
+  drain_on_passes others each l history p None overfull v = record { steps = []; passes = tt; sees = rw (append-nil history) v }
+  drain_on_passes others each l history p (Some side) (Some full) v = record { steps = []; passes = tt; sees = rw (append-nil history) v }
+  drain_on_passes others each l history p (Some side) None v =
+      let a : Link × List Occurrence = link_step l (Pass side) in
+      let g = pass_goes laws l history p side (waiting_of l side) refl v in
+      let rest = each a.0 (history ++ a.1) (happens (on_pair.Pass side) p) g.sees in
+      record {
+        steps = on_pair.Pass side ∷ rest.steps;
+        passes = (tt, rest.passes);
+        sees = subst (λ (h : List Occurrence). Sees (others a.0).link h (run p (on_pair.Pass side ∷ rest.steps))) (append_assoc history a.1 (others a.0).came) rest.sees;
+      }
+
+  drain_passes : (most : ℕ) → PassedBy (drain most)
+  unfolding drain
+  drain_passes zero l history p v = record { steps = []; passes = tt; sees = rw (append-nil history) v }
+  drain_passes (suc most) l history p v = drain_on_passes (drain most) (drain_passes most) l history p (next_side l) (overfull_side l) v
+
+  -- so many passes leave none waiting, where no more are ever made
+  abbrev Bounded : Pair → ℕ → Type 0
+  Bounded p most = (passes : List on_pair.LinkStep) → ArePasses passes → of_pair.deliveries p passes ≤ most
+
+  abbrev Empties : ℕ → (Link → Drain) → Type 0
+  Empties most drained =
+      (l : Link) (history : List Occurrence) (p : Pair) → Sees l history p → Bounded p most → overfull_side (drained l).link ≡ None → NoneWaits (drained l).link
+
+  -- a pass of a frame that waits counts
+  counts : (l : Link) (history : List Occurrence) (p : Pair) → Sees l history p → (side : Side) (frame : List ℕ) (frames : List (List ℕ)) → waiting_of l side ≡ frame ∷ frames
+      → of_pair.deliveries_of (on_pair.Pass side) (cleared p) ≡ 1
+  counts l history p v E frame frames is = ap of_pair.passed_of (sym v.from_e_is ∙ is)
+  counts l history p v R frame frames is = ap of_pair.passed_of (sym v.from_r_is ∙ is)
+
+  none_left : (l : Link) (history : List Occurrence) (p : Pair) → Sees l history p → Bounded p 0 → (side : Side) (frames : List (List ℕ)) → waiting_of l side ≡ frames
+      → waiting_of l side ≡ []
+  none_left l history p v bounded side [] is = is
+  none_left l history p v bounded side (frame ∷ frames) is =
+      let one : of_pair.deliveries_of (on_pair.Pass side) (cleared p) ≡ 1 = counts l history p v side frame frames is in
+      let most : of_pair.deliveries_of (on_pair.Pass side) (cleared p) + 0 ≤ 0 = bounded (on_pair.Pass side ∷ []) (tt, tt) in
+      absurd (omega arith)
+
+  bounded_on : (p : Pair) (side : Side) (most : ℕ) → of_pair.deliveries_of (on_pair.Pass side) (cleared p) ≡ 1 → Bounded p (suc most)
+      → Bounded (happens (on_pair.Pass side) p) most
+  bounded_on p side most one bounded passes are =
+      let all : of_pair.deliveries_of (on_pair.Pass side) (cleared p) + of_pair.deliveries (happens (on_pair.Pass side) p) passes ≤ suc most =
+      bounded (on_pair.Pass side ∷ passes) (tt, are) in
+      omega arith
+
+  pass_empties : (most : ℕ) (others : Link → Drain) → Empties most others → (l : Link) (history : List Occurrence) (p : Pair) → Sees l history p → Bounded p (suc most)
+      → (side : Side) (frame : List ℕ) (frames : List (List ℕ)) → waiting_of l side ≡ frame ∷ frames → (overfull : Option Side) → overfull_side l ≡ overfull
+      → overfull_side (drain_on others l (Some side) overfull).link ≡ None → NoneWaits (drain_on others l (Some side) overfull).link
+  pass_empties most others each l history p v bounded side frame frames is (Some full) over roomy = absurd (full_and_not full (sym over ∙ roomy))
+    where
+      full_and_not : (side : Side) → Some side ≡ None → ⊥
+      full_and_not side e = cc
+  pass_empties most others each l history p v bounded side frame frames is None over roomy =
+      let a : Link × List Occurrence = link_step l (Pass side) in
+      let g = pass_goes laws l history p side (waiting_of l side) refl v in
+      each a.0 (history ++ a.1) (happens (on_pair.Pass side) p) g.sees (bounded_on p side most (counts l history p v side frame frames is) bounded) roomy
+
+  drain_on_empties : (most : ℕ) (others : Link → Drain) → Empties most others → (l : Link) (history : List Occurrence) (p : Pair) → Sees l history p → Bounded p (suc most)
+      → (xs ys : List (List ℕ)) → l.from_e ≡ xs → l.from_r ≡ ys → overfull_side (drain_on others l (next_of xs ys) (overfull_side l)).link ≡ None
+      → NoneWaits (drain_on others l (next_of xs ys) (overfull_side l)).link
+  drain_on_empties most others each l history p v bounded [] [] e r roomy = (e, r)
+  drain_on_empties most others each l history p v bounded [] (frame ∷ frames) e r roomy =
+      pass_empties most others each l history p v bounded R frame frames r (overfull_side l) refl roomy
+  drain_on_empties most others each l history p v bounded (frame ∷ frames) ys e r roomy =
+      pass_empties most others each l history p v bounded E frame frames e (overfull_side l) refl roomy
+
+  drain_empties : (most : ℕ) → Empties most (drain most)
+  unfolding drain
+  drain_empties zero l history p v bounded roomy = (none_left l history p v bounded E l.from_e refl, none_left l history p v bounded R l.from_r refl)
+  drain_empties (suc most) l history p v bounded roomy =
+      drain_on_empties most (drain most) (drain_empties most) l history p v bounded l.from_e l.from_r refl refl roomy
+
+  -- ---- one link, seen as the pair behind these steps
+
+  module _ (l : Link) (history : List Occurrence) (s : Opening) (steps : List on_pair.LinkStep) (v : Sees l history (after s steps))
+      (kept : (after s steps).order_kept ≡ true) (repairable : IsRepairable history l) where
+    pub pair_drains : PassesBound → (plan : Plan) → s.window ≡ plan.settings.window → DrainEmpties plan history l
+    pair_drains law plan window most enough roomy =
+        let p : Pair = after s steps in
+        let same : drain_bound plan history l ≡ bound_of s p =
+        ap (λ (n : ℕ). passes_bound n (length l.from_e + length l.from_r) (length (sent_by E history) + length (sent_by R history))) (sym window)
+        ∙ ap₂ (λ (i j : ℕ). passes_bound s.window i j) (ap₂ (λ (xs ys : List (List ℕ)). length xs + length ys) v.from_e_is v.from_r_is)
+        (ap₂ (λ (xs ys : List (List ℕ)). length xs + length ys) v.sent_e v.sent_r) in
+        drain_empties most l history p v
+        (λ passes are.
+        at_most (of_pair.deliveries p passes) (bound_of s p) most (law s steps kept (live_pair l history p v repairable) passes are)
+        (subst (λ (n : ℕ). n ≤ most) same enough))
+        roomy
+
+    -- drained, ticked and drained
+    pub pair_repairs : Recovery → (first moment second : ℕ)
+        → let d = drain first l in
+        let t = link_step d.link (Tick moment) in
+        let z = drain second t.0 in
+        NoneWaits d.link → MayRepeatAt moment d.link.e → MayRepeatAt moment d.link.r → NoneWaits z.link
+        → HasAllPayloads (((history ++ d.came) ++ t.1) ++ z.came) z.link
+    pair_repairs law first moment second none may_e may_r none_later =
+        let p : Pair = after s steps in
+        let d : Drain = drain first l in
+        let a : Passed d.link (history ++ d.came) p = drain_passes first l history p v in
+        let q : Pair = run p a.steps in
+        let now : ℕ = max q.moment moment in
+        let t : Link × List Occurrence = link_step d.link (Tick moment) in
+        let before : List Occurrence = (history ++ d.came) ++ t.1 in
+        let b = tick_goes laws d.link (history ++ d.came) q moment a.sees in
+        let z : Drain = drain second t.0 in
+        let c : Passed z.link (before ++ z.came) (happens (on_pair.Tick now) q) = drain_passes second t.0 before (happens (on_pair.Tick now) q) b.sees in
+        recovered z.link (before ++ z.came) (run (happens (on_pair.Tick now) q) c.steps) c.sees
+        (pair_recovers law s steps kept (live_pair l history p v repairable) a.steps a.passes (empty_pair d.link (history ++ d.came) q a.sees none) now
+        (may_later q.e q.moment moment (subst (MayRepeatAt moment) a.sees.e_is may_e)) (may_later q.r q.moment moment (subst (MayRepeatAt moment) a.sees.r_is may_r))
+        c.steps c.passes (empty_pair z.link (before ++ z.came) (run (happens (on_pair.Tick now) q) c.steps) c.sees none_later))

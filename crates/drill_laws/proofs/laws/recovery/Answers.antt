@@ -1,0 +1,21 @@
+use Rattle.drill_laws.proofs.Tellings.{StationLaws}
+use Rattle.drill_laws.proofs.Recovering.{repairs_always, drains_always}
+use Rattle.drill_laws.proofs.laws.recovery.Goals as goal
+
+pub returns : goal.returns
+returns c =
+    let stations : StationLaws = record {
+      frames_give = c.station_laws.ensures.frames;
+      ticks_give = c.station_laws.ensures.ticks;
+      hands_keep = c.station_laws.ensures.hands;
+      others_keep = c.station_laws.ensures.others;
+      releases = c.station_laws.ensures.releases;
+      finish = c.station_laws.ensures.finish;
+      inert = c.station_laws.ensures.inert;
+    } in
+    record {
+      repairs = repairs_always stations c.allowed_are_bounded.ensures c.histories.ensures.facts c.histories.ensures.grow c.histories.ensures.own c.histories.ensures.other
+          c.runs_grow.ensures.run c.recovery.ensures.recovered;
+      drains = drains_always stations c.allowed_are_bounded.ensures c.histories.ensures.facts c.histories.ensures.grow c.histories.ensures.own c.histories.ensures.other
+          c.passes_are_bounded.ensures.passes;
+    }

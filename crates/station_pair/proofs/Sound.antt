@@ -1,0 +1,100 @@
+-- One station, whatever its line loses and repeats: what holds of it alone at any moment, and that no frame of a station that isn't released
+-- releases the other one. Everywhere x acts and y doesn't, and w waited from x before the call.
+use Rattle.std.proofs.Common.{if◌then◌else◌, ◌≡◌, ℕ, zero, suc, ◌+◌, ◌-◌, ◌≤◌, Bool, true, false, List, [], ◌∷◌, ◌++◌, length, Option, Some, None, refl, sym, subst, arith, ltb-true, append_assoc, append-nil}
+use Rattle.std.specs.Prelude.{nat_lt}
+use Rattle.std.proofs.lemmas.Bool.{ltb-false}
+use Rattle.er_base.specs.declared.cause.Cause.{Cause}
+use Rattle.station_model.specs.declared.phase.Phase.{Phase}
+use Rattle.station_model.specs.declared.phase.Phase.TheVariants.{Idle, Setting, Up, Down}
+use Rattle.station_model.specs.Frames.{Frame, Info, Rr, Rej, Srej, SetUp, Disc, Dm, Ua}
+use Rattle.station_model.specs.Stations.{Station, is_down, puts}
+use Rattle.station_model.specs.Sending.{info_at, frames_again, sends_again, starts_timer, releases}
+use Rattle.station_model.specs.Receiving.{acknowledges}
+use Rattle.station_model.specs.Selective.{held_for}
+
+-- a frame that a station sends before it is released
+abbrev pub IsPolite : Frame → Type 0
+IsPolite (Info ns nr payload) = Unit {0}
+IsPolite (Rr nr) = Unit {0}
+IsPolite (Rej nr) = Unit {0}
+IsPolite (Srej nr) = Unit {0}
+IsPolite SetUp = Unit {0}
+IsPolite Disc = ⊥
+IsPolite Dm = ⊥
+IsPolite (Ua final) = Unit {0}
+
+abbrev pub AllPolite : List Frame → Type 0
+AllPolite [] = Unit {0}
+AllPolite (f ∷ fs) = IsPolite f × AllPolite fs
+
+-- T1 runs exactly while frames are unacknowledged, or while the set-up is unanswered; where it doesn't run no expiry is counted
+abbrev pub Timed : Phase → Option ℕ → (expiries acked sent : ℕ) → Type 0
+Timed Idle timer expiries acked sent = (timer ≡ None) × (expiries ≡ 0)
+Timed Setting timer expiries acked sent = timer ≡ None → ⊥
+Timed Up timer expiries acked sent = (timer ≡ None → (acked ≡ sent) × (expiries ≡ 0)) × (acked ≡ sent → timer ≡ None) × (acked ≤ sent)
+Timed Down timer expiries acked sent = timer ≡ None
+
+-- of a station and the frames that wait from it: its role and its window stay, its peer is never busy; the called one sends once it took a
+-- payload; the next frame isn't held; and in Idle it said nothing
+abbrev pub Own : (calling : Bool) (window : ℕ) → List Frame → Station → Type 0
+Own calling window lx x =
+    (x.calling ≡ calling)
+    × (x.window ≡ window)
+    × (x.busy ≡ false)
+    × (calling ≡ false → length x.taken ≡ 0 → x.sent ≡ 0)
+    × Timed x.phase x.timer x.expiries x.acked x.sent
+    × (held_for (length x.taken) x.held ≡ None)
+    × (is_down x.phase ≡ false → AllPolite lx)
+    × (x.phase ≡ Idle → (lx ≡ []) × (x.owed ≡ false))
+
+-- within a call
+abbrev pub OwnIn : (calling : Bool) (window : ℕ) → List Frame → Station → Type 0
+OwnIn calling window w x = Own calling window (w ++ x.said) x
+
+-- ---- one frame more
+
+pub polite_push : (l : List Frame) (f : Frame) → AllPolite l → IsPolite f → AllPolite (l ++ f ∷ [])
+polite_push [] f h p = (p, tt)
+polite_push (g ∷ gs) f h p = (h.0, polite_push gs f h.1 p)
+
+pub polite_said : (w said : List Frame) (f : Frame) → AllPolite (w ++ said) → IsPolite f → AllPolite (w ++ (said ++ f ∷ []))
+polite_said w said f h p = subst AllPolite (append_assoc w said (f ∷ [])) (polite_push (w ++ said) f h p)
+
+polite_again : (w : List Frame) (x : Station) (n : ℕ) → AllPolite (w ++ x.said) → AllPolite (w ++ (x.said ++ frames_again n x))
+polite_again w x zero h = subst (λ t. AllPolite (w ++ t)) (sym (append-nil x.said)) h
+polite_again w x (suc n) h =
+    subst (λ t. AllPolite (w ++ t)) (append_assoc x.said (frames_again n x) (info_at x (x.acked + n) ∷ []))
+    (polite_said w (x.said ++ frames_again n x) (info_at x (x.acked + n)) (polite_again w x n h) tt)
+
+-- ---- a station that is up
+
+module _ (c : Bool) (wd : ℕ) (w : List Frame) where
+  pub own_puts : (x : Station) (f : Frame) → IsPolite f → OwnIn c wd w (record x { phase = Up }) → OwnIn c wd w (puts f (record x { phase = Up }))
+  own_puts x f p h = (h.0, h.1, h.2, h.3, h.4, h.5, λ live. polite_said w x.said f (h.6 live) p, λ e. absurd cc)
+
+  -- V(A) becomes r
+  timed_ack : (x : Station) (r : ℕ) → x.acked ≤ r → r ≤ x.sent → Timed Up x.timer x.expiries x.acked x.sent
+      → Timed Up (acknowledges r x).timer (acknowledges r x).expiries r x.sent
+  timed_ack x r low high h = at (nat_lt x.acked r) refl
+    where
+      rises : (b : Bool) → nat_lt r x.sent ≡ b → Timed Up (if b then Some (x.moment + x.t1) else None) 0 r x.sent
+      rises true e = (λ none. absurd cc, λ same. absurd (let lt = ltb-true r x.sent e in let u : ⊥ = omega (arith, lt, same) in u), high)
+      rises false e = (λ none. (omega (arith, high, ltb-false r x.sent e), refl), λ same. refl, high)
+
+      at : (b : Bool) → nat_lt x.acked r ≡ b → Timed Up (if b then (if nat_lt r x.sent then Some (x.moment + x.t1) else None) else x.timer) (if b then 0 else x.expiries) r x.sent
+      at true e = rises (nat_lt r x.sent) refl
+      at false e =
+          let same : x.acked ≡ r = omega (arith, low, ltb-false x.acked r e) in
+          subst (λ (n : ℕ). Timed Up x.timer x.expiries n x.sent) same h
+
+  pub own_ack : (x : Station) (r : ℕ) → x.acked ≤ r → r ≤ x.sent → OwnIn c wd w (record x { phase = Up }) → OwnIn c wd w (acknowledges r (record x { phase = Up }))
+  own_ack x r low high h = (h.0, h.1, h.2, h.3, timed_ack (record x { phase = Up }) r low high h.4, h.5, h.6, λ e. absurd cc)
+
+  -- frames are sent again, and T1 starts anew
+  pub own_again : (x : Station) → (x.acked ≡ x.sent → ⊥) → OwnIn c wd w (record x { phase = Up }) → OwnIn c wd w (starts_timer (sends_again (record x { phase = Up })))
+  own_again x some h =
+      (h.0, h.1, h.2, h.3, (λ none. absurd cc, λ same. absurd (some same), h.4.2), h.5, λ live. polite_again w (record x { phase = Up }) (x.sent - x.acked) (h.6 live), λ e. absurd cc)
+
+  -- ---- a released one
+  pub own_dead : (x : Station) (said lx : List Frame) (cause : Cause) → Own c wd lx x → OwnIn c wd w (releases cause (record x { said = said }))
+  own_dead x said lx cause h = (h.0, h.1, h.2, h.3, refl, h.5, λ live. absurd cc, λ e. absurd cc)
