@@ -17,7 +17,7 @@ use Rattle.er_settings.specs.Ranges.{AllAllowed}
 use Rattle.drill_model.specs.Links.{LinkOpening, OfPair, OfStations, OfStacks, Link}
 use Rattle.drill_model.specs.Steps.{HasOctets, FitsFields, AllFit}
 use Rattle.drill_model.specs.Worlds.{Plan, plan_of, link_at, overfull_side, world_run}
-use Rattle.drill_model.specs.Headline.{LawfulAlways, OpensAlways, RoomAlways, FitsSteps, TakesInOrder, Holds, InOrderAlways, LosingLineReasonsAlways, OrderIsUnforged, DeliversAlways}
+use Rattle.drill_model.specs.Headline.{LawfulAlways, OpensAlways, RoomAlways, FitsSteps, TakesInOrder, Holds, InOrderAlways, LosingLineReasonsAlways, OrderIsUnforged, DeliversAlways, RepairsAlways, DrainsAlways}
 use Rattle.drill_model.specs.Effects.{Steps}
 use Rattle.drill_model.specs.Hearing.{HeardIsBrought}
 use Rattle.er_program.specs.Answers.{AreDone, first_steps}
@@ -109,9 +109,11 @@ pub record Laws : Type 0 where
   pub reasons : LosingLineReasonsAlways
   pub unforged : UnforgedAlways
   pub delivers : DeliversAlways
+  pub repairs : RepairsAlways
+  pub drains : DrainsAlways
 
-pub laws_of : OpensAlways → RoomAlways → StepsAlways → LawfulAlways → HeardAlways → TakesAlways → InOrderAlways → LosingLineReasonsAlways → UnforgedAlways → DeliversAlways → Laws
-laws_of opens room steps lawful heard takes in_order reasons unforged delivers = record {
+pub laws_of : OpensAlways → RoomAlways → StepsAlways → LawfulAlways → HeardAlways → TakesAlways → InOrderAlways → LosingLineReasonsAlways → UnforgedAlways → DeliversAlways → RepairsAlways → DrainsAlways → Laws
+laws_of opens room steps lawful heard takes in_order reasons unforged delivers repairs drains = record {
   opens = opens;
   room = room;
   steps = steps;
@@ -122,6 +124,8 @@ laws_of opens room steps lawful heard takes in_order reasons unforged delivers =
   reasons = reasons;
   unforged = unforged;
   delivers = delivers;
+  repairs = repairs;
+  drains = drains;
 }
 
 -- what is claimed of a world behind steps, where no link is overfull
@@ -138,6 +142,10 @@ holds_behind laws plan steps allowed narrow all room = record {
   unforged = laws.unforged plan steps all allowed;
   delivers = λ n l at. laws.delivers plan steps all n l at (settings_fit laws.opens plan steps allowed narrow n l at);
   room = room;
+  recovers = record {
+    drains = λ n l at. laws.drains plan steps n l at (settings_fit laws.opens plan steps allowed narrow n l at);
+    repairs = λ before n first moment second split. laws.repairs plan before n first moment second (settings_fit laws.opens plan before allowed narrow n);
+  };
 }
 
 pub holds_always : Laws → AlwaysHolds

@@ -126,6 +126,7 @@ fn ran<F: Cabinet, K: Sink>(
     drill_laws::laws::losing_line_reasons();
     drill_laws::laws::order_is_unforged();
     drill_laws::laws::delivery();
+    drill_laws::laws::recovery();
     match answered(alloc, command, cabinet, sink) {
         Ok(status) => status,
         Err(Stop::Sink) => Status(5),
