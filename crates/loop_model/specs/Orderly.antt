@@ -5,7 +5,7 @@ use Rattle.rand_core.specs.Stream.{next_u64}
 use Rattle.er_trace.specs.declared.event.Event.{Event}
 use Rattle.er_trace.specs.declared.event.Event.TheVariants as event
 use Rattle.er_users.specs.Users.{Mind}
-use Rattle.link_trait.specs.Wires.{Reading, Gave, NotNow, End, Failed, Listens, Dials, Turns, Reads, Writes, Closes}
+use Rattle.link_trait.specs.Wires.{Reading, Gave, NotNow, End, Failed, Dials, Turns, Reads, Writes, Closes}
 use Rattle.link_trait.specs.declared.wires.Happening.{Happening}
 use Rattle.link_trait.specs.declared.wires.Happening.TheVariants as happening
 use Rattle.link_trait.specs.declared.wires.WriteAnswer.{WriteAnswer}
@@ -15,13 +15,13 @@ use Rattle.loop_model.specs.Outs.{Out, HasOrder, still, next, changed, prints, m
 use Rattle.loop_model.specs.Signs.{order_still, order_next, order_changed, order_prints, order_makes}
 use Rattle.loop_model.specs.Sessions.{Rules, Session, is_released, Given, Begins, Ticks, Says, nothing_said, handled}
 use Rattle.loop_model.specs.Visits.{most_read, Flow, Going, PutOff, Failing, after_write, writes_if, writes_once, writes, Wrote, closed, stays, Visit, Tick, Read, Write, Expire, Met, nothing_met, is_due, fault_unless, flowed, written_unless, written, settled, rests, came, read_once, rests_behind, served, visited}
-use Rattle.loop_model.specs.Loops.{Plan, rules_of, Loop, most_live, plain_event, turned_away, visit_at, numbers, swept, Sweeps, next_user, begun, one_less, with_sessions, Caller, Halt, Course, asks, halts, OnFailed, Turn, nothing_comes, Dialled, before, until, answered_by, accepted, calling, called_by, called, visited_at, happened, readied, turn, follows, turned_unless, went_unless, went, run, serves, opens, dials_to, dials}
+use Rattle.loop_model.specs.Loops.{Plan, rules_of, Loop, most_live, plain_event, turned_away, visit_at, numbers, swept, Sweeps, next_user, begun, one_less, with_sessions, Caller, Halt, Course, asks, halts, OnFailed, Turn, nothing_comes, Dialled, before, until, answered_by, accepted, calling, called_by, called, visited_at, happened, readied, turn, follows, turned_unless, went_unless, went, run, opens, dials_to, dials}
 
 order_if : {S : Type 0} (b : Bool) (x y : Out S) → HasOrder x → HasOrder y → HasOrder (if b then x else y)
 order_if true x y p q = p
 order_if false x y p q = q
 
-pub order_acts : {S A : Type 0} (f : S → A → Out S) → ((s : S) (a : A) → HasOrder (f s a)) → (s : S) (answers : List A) → HasOrder (acts f s answers)
+order_acts : {S A : Type 0} (f : S → A → Out S) → ((s : S) (a : A) → HasOrder (f s a)) → (s : S) (answers : List A) → HasOrder (acts f s answers)
 unfolding acts
 order_acts f p s [] = order_still s
 order_acts f p s (a ∷ answers) = order_next (f s a) (λ t. acts f t answers) (p s a) (order_acts f p (f s a).state answers)
@@ -33,7 +33,7 @@ order_writes_if Going s answer =
 order_writes_if PutOff s answer = order_still (s, PutOff)
 order_writes_if Failing s answer = order_still (s, Failing)
 
-pub order_writes : {E : Type 0} (s : Session E) (answers : List WriteAnswer) → HasOrder (writes s answers)
+order_writes : {E : Type 0} (s : Session E) (answers : List WriteAnswer) → HasOrder (writes s answers)
 unfolding writes writes_once
 order_writes s answers = order_acts writes_once (λ x answer. order_writes_if x.1 x.0 answer) (s, Going) (exactly (length s.output) write.NotNow answers)
 
@@ -66,7 +66,7 @@ module _ {E : Type 0} (o : EndOps E) where
   order_unless true r m s a = order_still s
   order_unless false r m s a = order_next (writes s a.answers) (λ x. flowed o r m x a.says) (order_writes s a.answers) (order_flowed r m (writes s a.answers).state a.says)
 
-  pub order_written : (r : Rules) (m : ℕ) (s : Session E) (a : Wrote) → HasOrder (written o r m s a)
+  order_written : (r : Rules) (m : ℕ) (s : Session E) (a : Wrote) → HasOrder (written o r m s a)
   unfolding written
   order_written r m s a = order_unless s.broken r m s a
 
@@ -153,14 +153,14 @@ module _ {E : Type 0} (o : EndOps E) where
   order_happened plan l happening.Ended a = order_still l
   order_happened plan l happening.Failed a = order_still l
 
-  pub order_readied : (plan : Plan) (c : Course E) (a : Turn) → HasOrder (readied o plan c a)
+  order_readied : (plan : Plan) (c : Course E) (a : Turn) → HasOrder (readied o plan c a)
   unfolding readied
   order_readied plan c a = let d = asks a.first c in let p = order_before (rules_of plan) d.loop.moment d.loop.sessions a.sweeps in record { entries = p.entries; calls = p.calls }
 
-  pub order_turn : (c : Course E) (a : Turn) → HasOrder (turn o c a)
+  order_turn : (c : Course E) (a : Turn) → HasOrder (turn o c a)
   order_turn c a = order_makes (Turns (until o c.loop.sessions) a.happening) (turn o c a).state
 
-  pub order_follows : (plan : Plan) (c : Course E) (a : Turn) → HasOrder (follows o plan c a)
+  order_follows : (plan : Plan) (c : Course E) (a : Turn) → HasOrder (follows o plan c a)
   order_follows plan c a = let p = order_happened plan c.loop a.happening a.met in record { entries = p.entries; calls = p.calls }
 
   order_turned : (halt : Option Halt) (plan : Plan) (c : Course E) (a : Turn) → HasOrder (turned_unless o halt plan c a)
@@ -172,7 +172,7 @@ module _ {E : Type 0} (o : EndOps E) where
   order_went_unless None plan c a =
       let d = readied o plan c a in order_next d (λ e. turned_unless o e.halt plan e a) (order_readied plan c a) (order_turned d.state.halt plan d.state a)
 
-  pub order_went : (plan : Plan) (c : Course E) (a : Turn) → HasOrder (went o plan c a)
+  order_went : (plan : Plan) (c : Course E) (a : Turn) → HasOrder (went o plan c a)
   unfolding went
   order_went plan c a = order_went_unless c.halt plan c a
 
@@ -181,11 +181,6 @@ module _ {E : Type 0} (o : EndOps E) where
   order_run plan c turns = order_acts (went o plan) (order_went plan) c (exactly plan.turns nothing_comes turns)
 
   -- ---- the two calls
-
-  pub order_serves : (plan : Plan) (c : Course E) (address : List ℕ) (listens : Bool) (turns : List Turn) → HasOrder (serves o plan c address listens turns)
-  unfolding serves
-  order_serves plan c address true turns = order_next (makes (Listens address true) c) (λ d. run o plan d turns) (order_makes (Listens address true) c) (order_run plan c turns)
-  order_serves plan c address false turns = order_makes (Listens address false) (halts OnFailed c)
 
   order_dials_to : (at : Option ℕ) (plan : Plan) (caller : Caller) (c : Course E) (address : List ℕ) (a : Dialled) → HasOrder (dials_to o at plan caller c address a)
   order_dials_to None plan caller c address a = order_makes (Dials address None) (halts OnFailed c)

@@ -6,8 +6,8 @@ use Rattle.std.specs.Prelude.{◌==◌}
 use Rattle.std.proofs.lemmas.Bool.{cases_Bool}
 use Rattle.link_trait.specs.Wires.{Dials, Closes, given_of}
 use Rattle.loop_model.specs.Ends.{EndOps, ModelEnd}
-use Rattle.loop_model.specs.Journals.{entry_text}
-use Rattle.loop_model.specs.Deeds.{Deed, Printing, Calling, entries_in, calls_in, Sign, Octet, OnWires, octet_signs, signs}
+use Rattle.loop_model.specs.Journals.{Entry, entry_text, text}
+use Rattle.loop_model.specs.Deeds.{Deed, Printing, Calling, entries_in, calls_in, printings, Sign, Octet, OnWires, octet_signs, signs}
 use Rattle.loop_model.specs.Outs.{Out, acts}
 use Rattle.loop_model.specs.Loops.{Plan, Halt, Course, Turn, readied, turn, follows, turned_unless, went_unless, went}
 use Rattle.loop_model.specs.Parts.{of, is_at, calls_at, opened_in, opened_by, Rises}
@@ -42,46 +42,61 @@ seam [] ys zs ws p = Within zs refl
 seam (x ∷ xs) ys [] ws p = Beyond (x ∷ xs) refl p
 seam (x ∷ xs) ys (z ∷ zs) ws p = let s = same_first x z (xs ++ ys) (zs ++ ws) p in seam_more x z xs ys zs ws s.0 (seam xs ys zs ws s.1)
 
-octets_within : (os : List ℕ) (cut m : List Sign) → cut ++ m ≡ octet_signs os → (begun : List ℕ) × (cut ≡ octet_signs begun)
-octets_within os [] m p = ([], refl)
+octets_within : (os : List ℕ) (cut m : List Sign) → cut ++ m ≡ octet_signs os → (begun : List ℕ) × (unbegun : List ℕ) × (cut ≡ octet_signs begun) × (begun ++ unbegun ≡ os)
+octets_within os [] m p = ([], os, refl, refl)
 octets_within [] (c ∷ cut) m p = absurd (let q : c ∷ (cut ++ m) ≡ [] = p in cc q)
 octets_within (o ∷ os) (c ∷ cut) m p =
     let s = same_first c (Octet o) (cut ++ m) (octet_signs os) p in
     let rest = octets_within os cut m s.1 in
-    (o ∷ rest.0, ap (λ k. k ∷ cut) s.0 ∙ ap (λ k. Octet o ∷ k) rest.1)
+    (o ∷ rest.0, rest.1, ap (λ k. k ∷ cut) s.0 ∙ ap (λ k. Octet o ∷ k) rest.2, ap (λ k. o ∷ k) rest.3)
 
 record Place (ds : List Deed) (cut : Cut) : Type 0 where
   done : List Deed
+  under_way : List Entry
   more : List Deed
   begun : List ℕ
+  unbegun : List ℕ
+  begins : begun ++ unbegun ≡ text under_way
   is : cut ≡ signs done ++ octet_signs begun
-  all : done ++ more ≡ ds
+  all : done ++ (printings under_way ++ more) ≡ ds
+
+place_first : (ds : List Deed) → Place ds []
+unfolding signs
+place_first ds = record { done = []; under_way = []; more = ds; begun = []; unbegun = []; begins = refl; is = refl; all = refl }
 
 place : (ds : List Deed) (cut rest : List Sign) → cut ++ rest ≡ signs ds → Place ds cut
 unfolding signs
-place [] [] rest p = record { done = []; more = []; begun = []; is = refl; all = refl }
+place [] [] rest p = place_first []
 place [] (c ∷ cut) rest p = absurd (let q : c ∷ (cut ++ rest) ≡ [] = p in cc q)
-place (Calling call ∷ ds) [] rest p = record { done = []; more = Calling call ∷ ds; begun = []; is = refl; all = refl }
+place (Calling call ∷ ds) [] rest p = place_first (Calling call ∷ ds)
 place (Calling call ∷ ds) (c ∷ cut) rest p =
     let s = same_first c (OnWires call) (cut ++ rest) (signs ds) p in
     let q = place ds cut rest s.1 in
     record {
       done = Calling call ∷ q.done;
+      under_way = q.under_way;
       more = q.more;
       begun = q.begun;
+      unbegun = q.unbegun;
+      begins = q.begins;
       is = ap (λ k. k ∷ cut) s.0 ∙ ap (λ k. OnWires call ∷ k) q.is;
       all = ap (λ k. Calling call ∷ k) q.all;
     }
 place (Printing x ∷ ds) cut rest p = at (seam cut rest (octet_signs (entry_text x)) (signs ds) p) (λ m q. place ds m rest q)
   where
     at : Seam cut rest (octet_signs (entry_text x)) (signs ds) → ((m : List Sign) → m ++ rest ≡ signs ds → Place ds m) → Place (Printing x ∷ ds) cut
-    at (Within m q) further = let w = octets_within (entry_text x) cut m q in record { done = []; more = Printing x ∷ ds; begun = w.0; is = w.1; all = refl }
+    at (Within m q) further =
+        let w = octets_within (entry_text x) cut m q in
+        record { done = []; under_way = x ∷ []; more = ds; begun = w.0; unbegun = w.1; begins = w.3 ∙ sym (append-nil (entry_text x)); is = w.2; all = refl }
     at (Beyond m q r) further =
         let f = further m r in
         record {
           done = Printing x ∷ f.done;
+          under_way = f.under_way;
           more = f.more;
           begun = f.begun;
+          unbegun = f.unbegun;
+          begins = f.begins;
           is = q ∙ ap (λ k. octet_signs (entry_text x) ++ k) f.is ∙ sym (append_assoc (octet_signs (entry_text x)) (signs f.done) (octet_signs f.begun));
           all = ap (λ k. Printing x ∷ k) f.all;
         }
@@ -100,18 +115,27 @@ silent_front n (Calling call ∷ ds) es p =
       | inr e ↦ let q = silent_front n ds es (p.0, rw e at p.1) in rw e q
     ]
 
+-- what follows a close, up to a beginning of lines
+silent_up_to : (n : ℕ) (before rest more all done : List Deed) (xs : List Entry) → ((far : List Deed) → before ++ Calling (Closes n) ∷ far ≡ all → IsSilent n far)
+    → before ++ Calling (Closes n) ∷ rest ≡ done → done ++ (printings xs ++ more) ≡ all → IsSilent n (rest ++ printings xs)
+silent_up_to n before rest more all done xs h e is =
+    silent_front n (rest ++ printings xs) more
+    (subst (λ z. IsSilent n z) (sym (append_assoc rest (printings xs) more))
+    (h (rest ++ (printings xs ++ more)) (sym (append_assoc before (Calling (Closes n) ∷ rest) (printings xs ++ more)) ∙ ap (λ z. z ++ (printings xs ++ more)) e ∙ is)))
+
 -- a cut in a loop that is in order
 pub told_first : (plan : Plan) (o : Out (Course ModelEnd)) (cut : Cut) → IsSequenced plan o → LiesIn o cut → IsToldFirst cut
 told_first plan o cut h l =
     let q = place o.order cut l.rest l.is in
     record {
       done = q.done;
+      under_way = q.under_way;
       begun = q.begun;
+      unbegun = q.unbegun;
+      begins = q.begins;
       is = q.is;
-      told = λ conn. h.told conn q.done q.more q.all;
-      last = λ conn before rest e.
-          silent_front conn rest q.more
-          (h.last conn before (rest ++ q.more) (sym (append_assoc before (Calling (Closes conn) ∷ rest) q.more) ∙ ap (λ z. z ++ q.more) e ∙ q.all));
+      told = λ conn. h.told conn q.done (printings q.under_way ++ q.more) q.all;
+      last = λ conn before rest e. silent_up_to conn before rest q.more o.order q.done q.under_way (λ far same. h.last conn before far same) e q.all;
     }
 
 -- the same, without the dial that comes first
@@ -121,15 +145,15 @@ unfolding given_of entries_in calls_in
 told_dialled plan o address conn ds cut rest h same p =
     let q = place ds cut rest p in
     let d : Deed = Calling (Dials address (Some conn)) in
-    let all : d ∷ (q.done ++ q.more) ≡ o.order = ap (λ z. d ∷ z) q.all ∙ sym same in
     record {
       done = q.done;
+      under_way = q.under_way;
       begun = q.begun;
+      unbegun = q.unbegun;
+      begins = q.begins;
       is = q.is;
-      told = λ n. h.told n (d ∷ q.done) q.more all;
-      last = λ n before rest e.
-          silent_front n rest q.more
-          (h.last n (d ∷ before) (rest ++ q.more) (ap (λ z. d ∷ z) (sym (append_assoc before (Calling (Closes n) ∷ rest) q.more) ∙ ap (λ z. z ++ q.more) e) ∙ all));
+      told = λ n. h.told n (d ∷ q.done) (printings q.under_way ++ q.more) (ap (λ z. d ∷ z) q.all ∙ sym same);
+      last = λ n before rest e. silent_up_to n before rest q.more ds q.done q.under_way (λ far is. h.last n (d ∷ before) far (ap (λ z. d ∷ z) is ∙ sym same)) e q.all;
     }
 
 -- ---- the turns up to a cut

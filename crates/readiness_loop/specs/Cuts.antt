@@ -3,7 +3,8 @@
 use Rattle.std.specs.Prelude.{◌≡◌, ℕ, ◌<◌, List, ◌∷◌, ◌++◌, length, None}
 use Rattle.link_trait.specs.Wires.{Closes}
 use Rattle.loop_model.specs.Ends.{EndOps}
-use Rattle.loop_model.specs.Deeds.{Deed, Calling, Sign, octet_signs, signs}
+use Rattle.loop_model.specs.Journals.{Entry, text}
+use Rattle.loop_model.specs.Deeds.{Deed, Calling, printings, Sign, octet_signs, signs}
 use Rattle.loop_model.specs.Outs.{Out}
 use Rattle.loop_model.specs.Loops.{Plan, Course, Turn, went, run}
 use Rattle.loop_model.specs.Orderings.{GivesTold, IsSilent}
@@ -21,14 +22,19 @@ pub record LiesIn {S : Type 0} (part : Out S) (cut : Cut) : Type 0 where
 abbrev pub behind : {S : Type 0} → Out S → Cut → Cut
 behind part cut = signs part.order ++ cut
 
--- what is done before a cut is done in order: all but a beginning of the lines of one event is whole; what was given to each connection was told of it
--- in whole lines; and behind a close nothing comes of its connection
+-- what came out before a cut came in order
 pub record IsToldFirst (cut : Cut) : Type 0 where
+  -- what was done whole; and the event of which a beginning of the lines was printed, where there is one
   pub done : List Deed
+  pub under_way : List Entry
   pub begun : List ℕ
+  pub unbegun : List ℕ
+  pub begins : begun ++ unbegun ≡ text under_way
   pub is : cut ≡ signs done ++ octet_signs begun
+  -- what was given to each connection was told of it, in lines that stand there whole
   pub told : (conn : ℕ) → GivesTold conn done
-  pub last : (conn : ℕ) (before rest : List Deed) → before ++ Calling (Closes conn) ∷ rest ≡ done → IsSilent conn rest
+  -- behind a close nothing comes of its connection
+  pub last : (conn : ℕ) (before rest : List Deed) → before ++ Calling (Closes conn) ∷ rest ≡ done → IsSilent conn (rest ++ printings under_way)
 
 -- the same plan, but for the number of turns
 abbrev pub with_turns : Plan → ℕ → Plan
