@@ -570,7 +570,7 @@ local function fault_of_frame(frame, sender)
     local hint = is_set_up and ", the set-up frame of the other modulo: see the preference" or ""
     return fault("1.3", "unknown control %02x%s", first, hint)
   elseif frame.kind == "SREJ" then
-    return fault("1.3", "SREJ isn't of this profile")
+    return fault("1.3", "SREJ at a station with go-back")
   elseif not MAY_INFORM[frame.kind] and #frame.information > 0 then
     return fault("1.3", "%s of information in %s", counted(#frame.information), frame.kind)
   elseif (frame.kind == "SABM" or frame.kind == "SABME") and not sender.is_calling then
