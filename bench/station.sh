@@ -1,13 +1,14 @@
 #!/bin/sh
 # Two stations of the library wired to each other in one process: payloads and MiB a second of processor time, of 1,024 octets and
 # of 20, with windows of 7 (modulo 8) and 31 (modulo 128), with no loss and with one frame in a hundred lost, and the most memory
-# that the program took. Beside it the bare speed of a plain C deframer on octets that two such stations send, and the memory of an idle
+# that the program took. Then stations with go-back and with selective reject side by side, over a line that loses 1, 5 and 10 frames of a
+# hundred, the same ones for both. Beside it the bare speed of a plain C deframer on octets that two such stations send, and the memory of an idle
 # end of a drill, station, deframer and room. Nothing is asserted. Needs `rt` and python3, for the last parts the built program and a C
 # compiler; writes nothing outside the crates' out/.
 set -eu
 cd "$(dirname "$0")/.."
 program=$PWD/crates/station_bench/out/station_bench
-[ -x "$program" ] || (cd crates/station_bench && rt run -- 20 8 7 0 1 >/dev/null 2>&1)
+[ -x "$program" ] || (cd crates/station_bench && rt run -- go-back 20 8 7 0 1 1 >/dev/null 2>&1)
 [ -x "$program" ] || { echo "the program was not built"; exit 1; }
 command -v python3 >/dev/null || { echo "python3 is wanted, to measure; nothing is measured"; exit 0; }
 python3 - "$program" << 'PY'
@@ -17,13 +18,29 @@ def run(words):
     text = subprocess.run([sys.argv[1]] + [str(w) for w in words], stdout=subprocess.PIPE).stdout.decode().split()
     after = resource.getrusage(resource.RUSAGE_CHILDREN)
     seconds = (after.ru_utime + after.ru_stime) - (before.ru_utime + before.ru_stime)
-    return int(text[1]), int(text[5]), max(seconds, 0.001), after.ru_maxrss / 1024
-for length, rounds in ((1024, 200000), (20, 2000000)):
+    return dict(zip(text[::2], map(int, text[1::2]))), max(seconds, 0.001), after.ru_maxrss / 1024
+for length, payloads in ((1024, 200000), (20, 2000000)):
     for modulo, window in ((8, 7), (128, 31)):
-        for every in (0, 100):
-            taken, lost, seconds, memory = run((length, modulo, window, every, rounds))
-            print(f"{length:5} octets, window {window:2}, {lost:6} frames lost: {taken / seconds:10.0f} payloads/s "
-                  f"{taken * length / seconds / 1048576:7.1f} MiB/s, {memory:4.0f} MiB")
+        for of_hundred in (0, 1):
+            told, seconds, memory = run(("go-back", length, modulo, window, of_hundred, 1, payloads))
+            print(f"{length:5} octets, window {window:2}, {told['lost']:6} frames lost: {told['taken'] / seconds:10.0f} payloads/s "
+                  f"{told['taken'] * length / seconds / 1048576:7.1f} MiB/s, {memory:4.0f} MiB")
+
+# Each end hears the other once a window. The least time of three runs in turns; all else is the same in each run.
+kinds = ("go-back", "selective")
+print("the frames that the sender and the receiver sent a payload, how often T1 went by in 1,000 payloads, and payloads/s:")
+print(f"{'':36}" + "".join(f"| {kind:^36} " for kind in kinds))
+for length, payloads in ((114, 500000), (1024, 200000)):
+    for modulo, window in ((8, 4), (128, 31)):
+        for of_hundred in (1, 5, 10):
+            line = f"{length:5} octets, window {window:2}, {of_hundred:2} % lost "
+            runs = [[run((kind, length, modulo, window, of_hundred, 1, payloads))[:2] for kind in kinds] for _ in range(3)]
+            for place in range(len(kinds)):
+                told, seconds = runs[0][place][0], min(each[place][1] for each in runs)
+                taken = max(told["taken"], 1)
+                line += (f"| {told['forth'] / taken:6.3f} {told['back'] / taken:6.3f} {1000 * told['waits'] / taken:7.2f} {taken / seconds:10.0f} "
+                         f"{'' if taken >= payloads else 'not all taken'} ")
+            print(line.rstrip())
 PY
 
 drill=$PWD/crates/euroradio/out/euroradio

@@ -1,20 +1,23 @@
-//! Which frames are lost.
+//! Which frames of a line are lost.
 
-/// Loses one frame in so many.
+use rand_core::Rng;
+use rand_pcg::Lcg64Xsh32;
+
+/// One direction of a line that loses frames at random, so many of a hundred.
 #[derive(Drop)]
 pub struct Loss {
-    every: u64,
-    left: u64,
+    words: Lcg64Xsh32,
+    of_hundred: u64,
     seen: u64,
     lost: u64,
 }
 
 impl Loss {
-    /// One frame in `every` is lost, none where it is 0.
-    pub fn new(every: u64) -> Loss {
+    /// The direction of this number of the line of this seed.
+    pub fn new(seed: u64, direction: u64, of_hundred: u64) -> Loss {
         Loss {
-            every,
-            left: every,
+            words: Lcg64Xsh32::new(seed, direction),
+            of_hundred,
             seen: 0,
             lost: 0,
         }
@@ -23,19 +26,14 @@ impl Loss {
     /// Whether the next frame is lost.
     pub fn loses(&mut self) -> bool {
         self.seen = self.seen.saturating_add(1);
-        if self.left > 1 {
-            self.left -= 1;
+        if self.words.next_u32() as u64 % 100 >= self.of_hundred {
             return false;
         }
-        if self.left == 0 {
-            return false;
-        }
-        self.left = self.every;
         self.lost = self.lost.saturating_add(1);
         true
     }
 
-    /// The frames that were read.
+    /// The frames that were sent.
     pub fn seen(&self) -> u64 {
         self.seen
     }

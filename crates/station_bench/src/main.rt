@@ -1,52 +1,118 @@
 //! Two stations wired to each other in one process: the calling one hands payloads down as fast as the window lets it, and
-//! the called one takes them. Prints how many were taken and how many frames were read and lost.
+//! the called one takes them. Prints how many were taken, how many frames each of the two sent, how many of these were lost, and how
+//! often T1 had to go by.
 //!
-//! Its arguments: the octets of a payload (1 to 1,026), the modulo (8 or 128), the window, after how many frames one is lost
-//! (0 for none), and the number of rounds, each of one payload.
+//! Its arguments: the kind of both stations (go-back or selective), the octets of a payload (1 to 1,026), the modulo (8 or 128), the
+//! window, how many frames of a hundred the line loses, its seed, and the number of payloads. The n-th frame of a direction is lost or
+//! not by the seed alone, with either kind.
 #![tactic(auto)]
 
 mod end;
+mod fitting;
+mod go_back;
+mod kind;
 mod loss;
+mod selective;
 mod wire;
 
-use crate::loss::Loss;
-use crate::wire::Wire;
+ghost use Rattle.std.specs.Prelude.{◌*◌, ◌≤◌};
+ghost use Rattle.er_settings.specs.Ranges.{AllAllowed};
+
+use crate::go_back::GoBack;
+use crate::kind::Kind;
+use crate::selective::Selective;
+use crate::wire::{T1, Totals, Wire};
+use er_base::NoMemory;
 use er_settings::Settings;
+use std::alloc::Global;
 use std::{env, io};
 
+/// What is to be run.
+#[derive(Drop)]
+struct Plan {
+    length: u64,
+    of_hundred: u64,
+    seed: u64,
+    payloads: u64,
+}
+
+impl Plan {
+    // Runs it over a wire. Four rounds a payload are more than it takes where the line loses up to ten frames of a hundred: fewer
+    // payloads are taken then only where the link was released.
+    fn run<S: Kind>(&self, alloc: Global, calling: S, called: S) -> Result<Totals, NoMemory> {
+        let mut wire = Wire::new(alloc, calling, called, self.seed, self.of_hundred)?;
+        let payload = [0x55; 1026];
+        let length = self.length.min(1026) as usize;
+        let rounds = self.payloads.saturating_mul(4).saturating_add(100);
+        Ok(wire.run(&payload[..length], self.payloads, rounds))
+    }
+
+    // Runs it with stations with go-back.
+    fn go_back(&self, alloc: Global, settings: &Settings) -> Result<Totals, NoMemory>
+        requires { AllAllowed settings.now }
+    {
+        let calling = GoBack::calling(alloc, settings)?;
+        let called = GoBack::called(alloc, settings)?;
+        self.run(alloc, calling, called)
+    }
+
+    // Runs it with stations with selective reject.
+    fn selective(&self, alloc: Global, settings: &Settings) -> Result<Totals, NoMemory>
+        requires allowed { AllAllowed settings.now }
+        requires half { 2 * settings.now.window ≤ settings.now.modulo }
+    {
+        let calling = Selective::calling(alloc, settings)?;
+        let called = Selective::called(alloc, settings)?;
+        self.run(alloc, calling, called)
+    }
+}
+
+// What is printed where the arguments aren't those that are wanted.
+fn usage(rt: HostRuntime) -> io::Result<()> {
+    eprintln!(rt; "usage: station_bench KIND LENGTH MODULO WINDOW LOST SEED PAYLOADS")?;
+    Err(io::Error::from(io::ErrorKind::InvalidInput))
+}
+
 fn main(rt: HostRuntime) -> io::Result<()> {
-    let mut numbers = [0; 5];
+    let mut numbers = [0; 6];
     let mut words = env::args(&rt)?;
     let _program = words.next();
+    let Some(kind) = words.next() else {
+        return usage(rt);
+    };
     for number in numbers.iter_mut() {
         *number = words
             .next()
             .and_then(|word| word.parse::<u64>().ok())
             .unwrap_or(0);
     }
-    let [length, modulo, window, every, rounds] = numbers;
+    let [length, modulo, window, of_hundred, seed, payloads] = numbers;
     let settings = if modulo == 128 {
-        Settings::extended(window, 15, 128, 1_000, 5, 40_000)
+        Settings::extended(window, 15, 128, T1, 10, 40_000)
     } else {
-        Settings::new(window, 15, 128, 1_000, 5, 40_000)
+        Settings::new(window, 15, 128, T1, 10, 40_000)
     };
     let Ok(settings) = settings else {
-        eprintln!(rt; "usage: station_bench LENGTH MODULO WINDOW EVERY ROUNDS")?;
-        return Err(io::Error::from(io::ErrorKind::InvalidInput));
+        return usage(rt);
     };
-    let Ok(mut wire) = Wire::new(rt.alloc(), &settings) else {
+    let plan = Plan {
+        length,
+        of_hundred,
+        seed,
+        payloads,
+    };
+    let totals = if kind.as_str() == "go-back" {
+        plan.go_back(rt.alloc(), &settings)
+    } else if kind.as_str() == "selective" && settings.window <= settings.modulo / 2 {
+        plan.selective(rt.alloc(), &settings)
+    } else {
+        return usage(rt);
+    };
+    let Ok(totals) = totals else {
         return Err(io::Error::from(io::ErrorKind::OutOfMemory));
     };
-    let payload = [0x55; 1026];
-    let length = length.min(1026) as usize;
-    let mut loss = Loss::new(every);
-    for round in 0..rounds.min(1_000_000_000) {
-        wire.round(round, &payload[..length], &mut loss);
-    }
     println!(rt;
-        "taken {} frames {} lost {}",
-        wire.taken(),
-        loss.seen(),
-        loss.lost()
+        "taken {} forth {} back {} lost {} waits {}",
+        totals.taken, totals.forth, totals.back, totals.lost, totals.waits
     )
 }
