@@ -266,7 +266,7 @@ delivery_bound laws s steps e = let g = after_flows laws s steps e in omega (ari
 -- ---- an empty line
 
 -- a station that is up, has nothing unacknowledged and may begin has sent all
-all_sent : (x : Station) (c : Bool) → x.phase ≡ Up → x.busy ≡ false → x.sent ≡ x.acked → 1 ≤ x.window → (x.calling || nat_lt 0 (length x.taken)) ≡ true → Rests x → x.sent ≡ length x.handed
+pub all_sent : (x : Station) (c : Bool) → x.phase ≡ Up → x.busy ≡ false → x.sent ≡ x.acked → 1 ≤ x.window → (x.calling || nat_lt 0 (length x.taken)) ≡ true → Rests x → x.sent ≡ length x.handed
 all_sent x c up ready same some may (inr all) = all
 all_sent x c up ready same some may (inl cannot) =
     let room : nat_lt (x.sent - x.acked) x.window ≡ true = lt-ltb (x.sent - x.acked) x.window (omega arith) in
@@ -276,7 +276,7 @@ all_sent x c up ready same some may (inl cannot) =
     ∙ ap (λ (b : Bool). b && (x.calling || nat_lt 0 (length x.taken))) room ∙ may in
     absurd (true≢false (sym can ∙ cannot))
 
-whole : (taken handed : List (List ℕ)) (s : ℕ) → taken ≡ take (length taken) handed → length taken ≡ s → s ≡ length handed → taken ≡ handed
+pub whole : (taken handed : List (List ℕ)) (s : ℕ) → taken ≡ take (length taken) handed → length taken ≡ s → s ≡ length handed → taken ≡ handed
 whole taken handed s prefix same all = prefix ∙ take_all (length taken) handed (omega arith)
 
 -- no frame waits

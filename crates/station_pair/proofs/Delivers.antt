@@ -57,10 +57,13 @@ false_behind true = refl
 false_behind false = refl
 
 -- the called station before the first I frame
-pub called_cannot : (x : Station) → Fresh false x → can_send x ≡ false
-called_cannot x h =
-    ap (λ (b : Bool). is_up x.phase && not x.busy && nat_lt (x.sent - x.acked) x.window && b) (ap (λ (c : Bool). c || nat_lt 0 (length x.taken)) h.5 ∙ ap (λ (n : ℕ). nat_lt 0 n) h.2)
+pub cannot_yet : (x : Station) → x.calling ≡ false → length x.taken ≡ 0 → can_send x ≡ false
+cannot_yet x called none =
+    ap (λ (b : Bool). is_up x.phase && not x.busy && nat_lt (x.sent - x.acked) x.window && b) (ap (λ (c : Bool). c || nat_lt 0 (length x.taken)) called ∙ ap (λ (n : ℕ). nat_lt 0 n) none)
     ∙ false_behind (is_up x.phase && not x.busy && nat_lt (x.sent - x.acked) x.window)
+
+pub called_cannot : (x : Station) → Fresh false x → can_send x ≡ false
+called_cannot x h = cannot_yet x h.5 h.2
 
 quiet_hands : (now : ℕ) (p : List ℕ) (x : Station) → is_down x.phase ≡ false → can_send x ≡ false → x.owed ≡ false
     → finishes (hands now p x) ≡ record (sees now x) { handed = x.handed ++ p ∷ [] }
@@ -199,7 +202,7 @@ pub agreed_row : (selective : Bool) (x : Station) → row_as selective Setting x
 agreed_row true x = refl
 agreed_row false x = refl
 
-agreed_answer : ControlReadsBack → (selective : Bool) (k : ℕ) (now : ℕ) (lx : List Frame) (x : Station) (fs : List Frame) (y : Station) → x.phase ≡ Setting
+pub agreed_answer : ControlReadsBack → (selective : Bool) (k : ℕ) (now : ℕ) (lx : List Frame) (x : Station) (fs : List Frame) (y : Station) → x.phase ≡ Setting
     → Pair selective k lx x (Ua true ∷ fs) y → answered selective now y (Ua true) x ≡ finishes (sends_waiting (comes_up (record (sees now x) { timer = None; expiries = 0 })))
 agreed_answer law selective k now lx x fs y setting h =
     ap finishes (heard_live selective now (found y (Ua true)) x (ap is_down setting))

@@ -31,11 +31,11 @@ still_back n lx x ly y h = (h.1, h.0, h.3, h.2, omega (arith, h.4), record { own
 
 -- ---- one frame more
 
-consecutive_push : (low high : ℕ) (p : List ℕ) (fs : List (ℕ × List ℕ)) → Consecutive low fs high → Consecutive low (fs ++ (high, p) ∷ []) (high + 1)
+pub consecutive_push : (low high : ℕ) (p : List ℕ) (fs : List (ℕ × List ℕ)) → Consecutive low fs high → Consecutive low (fs ++ (high, p) ∷ []) (high + 1)
 consecutive_push low high p [] h = (sym h, ap (λ t. t + 1) h)
 consecutive_push low high p (f ∷ fs) h = (h.0, consecutive_push (low + 1) high p fs h.1)
 
-ends_push : (low high : ℕ) (xs : List ℕ) → Ends low (xs ++ high ∷ []) high
+pub ends_push : (low high : ℕ) (xs : List ℕ) → Ends low (xs ++ high ∷ []) high
 ends_push low high [] = refl
 ends_push low high (x ∷ xs) = ends_push x high xs
 

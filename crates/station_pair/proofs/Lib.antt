@@ -32,3 +32,8 @@ pub mod Gaps
 pub mod SoundCalls
 pub mod Sounds
 pub mod SoundRuns
+pub mod Mending
+pub mod MendRows
+pub mod Repeats
+pub mod Recovers
+pub mod Recovered

@@ -15,7 +15,7 @@ use Rattle.station_pair.proofs.Hearing.{MayCome}
 
 -- ---- N(R)
 
-found : (e : Bool) (n a r : ℕ) → a ≤ r → r ≤ a + n → n < modulo e → named e a n (r % modulo e) ≡ Some r
+pub found : (e : Bool) (n a r : ℕ) → a ≤ r → r ≤ a + n → n < modulo e → named e a n (r % modulo e) ≡ Some r
 found true zero a r low high small =
     let same : a ≡ r = omega arith in
     rw (eq-eqb (a % 128) (r % 128) (ap (λ t. t % 128) same), same) refl

@@ -1,17 +1,16 @@
 -- One station, whatever its line loses and repeats: what holds of it alone at any moment, and that no frame of a station that isn't released
 -- releases the other one. Everywhere x acts and y doesn't, and w waited from x before the call.
-use Rattle.std.proofs.Common.{if◌then◌else◌, ◌≡◌, ℕ, zero, suc, ◌+◌, ◌-◌, ◌<◌, ◌≤◌, inl, inr, Bool, true, false, List, [], ◌∷◌, ◌++◌, length, Option, Some, None, refl, sym, ◌∙◌, ap, subst, arith, append_assoc, append-nil, length-append, ltb-true}
+use Rattle.std.proofs.Common.{if◌then◌else◌, ◌≡◌, ℕ, zero, suc, ◌+◌, ◌-◌, ◌≤◌, Bool, true, false, List, [], ◌∷◌, ◌++◌, length, Option, Some, None, refl, sym, subst, arith, ltb-true, append_assoc, append-nil}
 use Rattle.std.specs.Prelude.{nat_lt}
-use Rattle.std.proofs.lemmas.Bool.{cond_both, ltb-false}
+use Rattle.std.proofs.lemmas.Bool.{ltb-false}
 use Rattle.er_base.specs.declared.cause.Cause.{Cause}
 use Rattle.station_model.specs.declared.phase.Phase.{Phase}
 use Rattle.station_model.specs.declared.phase.Phase.TheVariants.{Idle, Setting, Up, Down}
 use Rattle.station_model.specs.Frames.{Frame, Info, Rr, Rej, Srej, SetUp, Disc, Dm, Ua}
 use Rattle.station_model.specs.Stations.{Station, is_down, puts}
-use Rattle.station_model.specs.Sending.{info_at, can_send, waiting, frames_again, sends_next, sends_up_to, sends_waiting, sends_again, starts_timer, settles, releases, started}
+use Rattle.station_model.specs.Sending.{info_at, frames_again, sends_again, starts_timer, releases}
 use Rattle.station_model.specs.Receiving.{acknowledges}
 use Rattle.station_model.specs.Selective.{held_for}
-use Rattle.station_model.specs.Calls.{finishes}
 
 -- a frame that a station sends before it is released
 abbrev pub IsPolite : Frame → Type 0
@@ -28,12 +27,12 @@ abbrev pub AllPolite : List Frame → Type 0
 AllPolite [] = Unit {0}
 AllPolite (f ∷ fs) = IsPolite f × AllPolite fs
 
--- T1 runs while frames are unacknowledged, and while the set-up is unanswered
-abbrev pub Timed : Phase → Option ℕ → (acked sent : ℕ) → Type 0
-Timed Idle timer acked sent = Unit {0}
-Timed Setting timer acked sent = timer ≡ None → ⊥
-Timed Up timer acked sent = timer ≡ None → acked ≡ sent
-Timed Down timer acked sent = Unit {0}
+-- T1 runs exactly while frames are unacknowledged, or while the set-up is unanswered; where it doesn't run no expiry is counted
+abbrev pub Timed : Phase → Option ℕ → (expiries acked sent : ℕ) → Type 0
+Timed Idle timer expiries acked sent = (timer ≡ None) × (expiries ≡ 0)
+Timed Setting timer expiries acked sent = timer ≡ None → ⊥
+Timed Up timer expiries acked sent = (timer ≡ None → (acked ≡ sent) × (expiries ≡ 0)) × (acked ≡ sent → timer ≡ None) × (acked ≤ sent)
+Timed Down timer expiries acked sent = timer ≡ None
 
 -- of a station and the frames that wait from it: its role and its window stay, its peer is never busy; the called one sends once it took a
 -- payload; the next frame isn't held; and in Idle it said nothing
@@ -43,7 +42,7 @@ Own calling window lx x =
     × (x.window ≡ window)
     × (x.busy ≡ false)
     × (calling ≡ false → length x.taken ≡ 0 → x.sent ≡ 0)
-    × Timed x.phase x.timer x.acked x.sent
+    × Timed x.phase x.timer x.expiries x.acked x.sent
     × (held_for (length x.taken) x.held ≡ None)
     × (is_down x.phase ≡ false → AllPolite lx)
     × (x.phase ≡ Idle → (lx ≡ []) × (x.owed ≡ false))
@@ -73,19 +72,29 @@ module _ (c : Bool) (wd : ℕ) (w : List Frame) where
   pub own_puts : (x : Station) (f : Frame) → IsPolite f → OwnIn c wd w (record x { phase = Up }) → OwnIn c wd w (puts f (record x { phase = Up }))
   own_puts x f p h = (h.0, h.1, h.2, h.3, h.4, h.5, λ live. polite_said w x.said f (h.6 live) p, λ e. absurd cc)
 
-  -- V(A) rises to r
-  timed_ack : (x : Station) (r : ℕ) → x.acked ≤ r → r ≤ x.sent → Timed Up x.timer x.acked x.sent → Timed Up (acknowledges r x).timer r x.sent
-  timed_ack x r low high h =
-      cond_both (nat_lt x.acked r) (if nat_lt r x.sent then Some (x.moment + x.t1) else None) x.timer (λ t. t ≡ None → r ≡ x.sent)
-      (λ rises. cond_both (nat_lt r x.sent) (Some (x.moment + x.t1)) None (λ t. t ≡ None → r ≡ x.sent) (λ some none. absurd cc) (λ all none. omega (arith, high, ltb-false r x.sent all)))
-      (λ stays none. let e : x.acked ≡ x.sent = h none in omega (arith, low, ltb-false x.acked r stays, e))
+  -- V(A) becomes r
+  timed_ack : (x : Station) (r : ℕ) → x.acked ≤ r → r ≤ x.sent → Timed Up x.timer x.expiries x.acked x.sent
+      → Timed Up (acknowledges r x).timer (acknowledges r x).expiries r x.sent
+  timed_ack x r low high h = at (nat_lt x.acked r) refl
+    where
+      rises : (b : Bool) → nat_lt r x.sent ≡ b → Timed Up (if b then Some (x.moment + x.t1) else None) 0 r x.sent
+      rises true e = (λ none. absurd cc, λ same. absurd (let lt = ltb-true r x.sent e in let u : ⊥ = omega (arith, lt, same) in u), high)
+      rises false e = (λ none. (omega (arith, high, ltb-false r x.sent e), refl), λ same. refl, high)
+
+      at : (b : Bool) → nat_lt x.acked r ≡ b → Timed Up (if b then (if nat_lt r x.sent then Some (x.moment + x.t1) else None) else x.timer) (if b then 0 else x.expiries) r x.sent
+      at true e = rises (nat_lt r x.sent) refl
+      at false e =
+          let same : x.acked ≡ r = omega (arith, low, ltb-false x.acked r e) in
+          subst (λ (n : ℕ). Timed Up x.timer x.expiries n x.sent) same h
 
   pub own_ack : (x : Station) (r : ℕ) → x.acked ≤ r → r ≤ x.sent → OwnIn c wd w (record x { phase = Up }) → OwnIn c wd w (acknowledges r (record x { phase = Up }))
   own_ack x r low high h = (h.0, h.1, h.2, h.3, timed_ack (record x { phase = Up }) r low high h.4, h.5, h.6, λ e. absurd cc)
 
-  pub own_again : (x : Station) → OwnIn c wd w (record x { phase = Up }) → OwnIn c wd w (starts_timer (sends_again (record x { phase = Up })))
-  own_again x h = (h.0, h.1, h.2, h.3, λ none. absurd cc, h.5, λ live. polite_again w (record x { phase = Up }) (x.sent - x.acked) (h.6 live), λ e. absurd cc)
+  -- frames are sent again, and T1 starts anew
+  pub own_again : (x : Station) → (x.acked ≡ x.sent → ⊥) → OwnIn c wd w (record x { phase = Up }) → OwnIn c wd w (starts_timer (sends_again (record x { phase = Up })))
+  own_again x some h =
+      (h.0, h.1, h.2, h.3, (λ none. absurd cc, λ same. absurd (some same), h.4.2), h.5, λ live. polite_again w (record x { phase = Up }) (x.sent - x.acked) (h.6 live), λ e. absurd cc)
 
   -- ---- a released one
   pub own_dead : (x : Station) (said lx : List Frame) (cause : Cause) → Own c wd lx x → OwnIn c wd w (releases cause (record x { said = said }))
-  own_dead x said lx cause h = (h.0, h.1, h.2, h.3, tt, h.5, λ live. absurd cc, λ e. absurd cc)
+  own_dead x said lx cause h = (h.0, h.1, h.2, h.3, refl, h.5, λ live. absurd cc, λ e. absurd cc)

@@ -1,22 +1,20 @@
 -- Each call keeps what holds of a station alone, and leaves nothing unsent that may be sent, and no answer owed. Everywhere x acts and y
 -- doesn't, w waited from x before the call.
-use Rattle.std.proofs.Common.{if◌then◌else◌, ◌≡◌, ℕ, zero, suc, ◌+◌, ◌-◌, ◌<◌, ◌≤◌, ◌⊎◌, inl, inr, Bool, true, false, not, ◌&&◌, ◌||◌, ltb, List, [], ◌∷◌, ◌++◌, length, Option, Some, None, refl, sym, ◌∙◌, ap, subst, arith, length-append, ltb-true, true≢false}
+use Rattle.std.proofs.Common.{◌≡◌, ℕ, zero, suc, ◌+◌, ◌-◌, ◌≤◌, inl, inr, Bool, true, false, not, ◌&&◌, ◌||◌, ltb, List, [], ◌∷◌, ◌++◌, length, Option, Some, None, refl, sym, ◌∙◌, ap, subst, arith, length-append, ltb-true, true≢false}
 use Rattle.std.specs.Prelude.{nat_lt}
 use Rattle.std.proofs.lemmas.Bool.{cases_Bool, cond_both, and_parts}
 use Rattle.er_base.specs.declared.release.Release.{Release}
 use Rattle.er_base.specs.declared.cause.Cause.TheVariants.{SetUpUnanswered, NoProgress, User}
 use Rattle.er_base.specs.Causes.{release_of}
-use Rattle.hdlc_frames.specs.Framing.{Frame as Frame_found}
 use Rattle.hdlc_frames.specs.Laws.{ControlReadsBack}
 use Rattle.station_model.specs.declared.phase.Phase.{Phase}
 use Rattle.station_model.specs.declared.phase.Phase.TheVariants.{Idle, Setting, Up, Down}
-use Rattle.station_model.specs.Frames.{Frame, Rr, SetUp, Disc, shown, information, sent_address, sent_body}
+use Rattle.station_model.specs.Frames.{Frame, Rr, SetUp, Disc, shown, information}
 use Rattle.station_model.specs.Stations.{Station, is_up, is_down, sees, puts}
 use Rattle.station_model.specs.Sending.{info_at, can_send, waiting, sends_next, sends_up_to, sends_waiting, sends_again, starts_timer, settles, gives_up, counts_expiry, expires_at, expires, expires_if_due, is_due, started}
-use Rattle.station_model.specs.Selective.{receives_as}
-use Rattle.station_model.specs.Calls.{hands, finishes, ticks, closes_at, closes}
+use Rattle.station_model.specs.Calls.{hands, finishes, ticks, closes_at}
 use Rattle.station_model.specs.Events.{quits}
-use Rattle.station_pair.specs.Invariant.{Pair, Both}
+use Rattle.station_pair.specs.Invariant.{Both}
 use Rattle.station_pair.specs.Keeping.{found}
 use Rattle.station_pair.specs.Flowing.{Rests}
 use Rattle.station_pair.proofs.Hearing.{row_as, hears_as, received}
@@ -25,7 +23,7 @@ use Rattle.station_pair.proofs.Events.{row_keeps}
 use Rattle.station_pair.proofs.Flows.{heard_row, up_to_rests}
 use Rattle.station_pair.proofs.Lines.{answered}
 use Rattle.station_pair.proofs.Delivers.{early_cannot}
-use Rattle.station_pair.proofs.Sound.{IsPolite, AllPolite, Timed, OwnIn, polite_said, own_again, own_dead}
+use Rattle.station_pair.proofs.Sound.{IsPolite, Timed, OwnIn, polite_said, own_again, own_dead}
 use Rattle.station_pair.proofs.SoundRows.{Wakes, go_back_wakes, selective_wakes}
 
 -- behind a call
@@ -48,8 +46,16 @@ never_none : (timer : Option ℕ) (moment : ℕ) → started timer moment ≡ No
 never_none None moment e = absurd cc
 never_none (Some running) moment e = absurd cc
 
-timed_started : (p : Phase) (timer : Option ℕ) (moment acked sent : ℕ) → p ≡ Up → Timed p (started timer moment) acked sent
-timed_started p timer moment acked sent up = subst (λ (q : Phase). Timed q (started timer moment) acked sent) (sym up) (λ none. absurd (never_none timer moment none))
+timed_started : (p : Phase) (timer : Option ℕ) (moment expiries acked sent : ℕ) → p ≡ Up → Timed p timer expiries acked sent → Timed p (started timer moment) expiries acked (sent + 1)
+timed_started Up timer moment expiries acked sent up h =
+    (λ none. absurd (never_none timer moment none), λ same. absurd (let u : ⊥ = omega (arith, same, h.2) in u), omega (arith, h.2))
+timed_started Idle timer moment expiries acked sent up h = absurd cc
+timed_started Setting timer moment expiries acked sent up h = absurd cc
+timed_started Down timer moment expiries acked sent up h = absurd cc
+
+due_runs : (timer : Option ℕ) (moment : ℕ) → is_due timer moment ≡ true → timer ≡ None → ⊥
+due_runs None moment due none = absurd cc
+due_runs (Some expiry) moment due none = absurd cc
 
 -- who may send: it is up, and calls or took a payload
 record CanSend (x : Station) : Type 0 where
@@ -75,7 +81,7 @@ module _ (c : Bool) (wd : ℕ) (w : List Frame) where
         h.1,
         h.2,
         λ called none. absurd (first_taken x.calling (length x.taken) s.may (h.0 ∙ called) none),
-        timed_started x.phase x.timer _ x.acked (x.sent + 1) s.up,
+        timed_started x.phase x.timer _ x.expiries x.acked x.sent s.up h.4,
         h.5,
         λ live. polite_said w x.said (info_at x x.sent) (h.6 live) tt,
         λ idle. absurd (let e : Up ≡ Idle = sym s.up ∙ idle in let u : ⊥ = cc in u),
@@ -130,19 +136,19 @@ module _ (c : Bool) (wd : ℕ) (w : List Frame) where
       (λ down. down_leaves x.phase x down refl h)
       (λ live. ends_leaves x.phase (record (sees now x) { handed = x.handed ++ q ∷ [] }) (let l = length-append x.handed (q ∷ []) in omega (arith, given, l)) (λ idle. idle) h)
 
-  expires_own : (p : Phase) (x : Station) → OwnIn c wd w (record x { phase = p }) → OwnIn c wd w (expires_at p (record x { phase = p })) × ((expires_at p (record x { phase = p })).phase ≡ Idle → p ≡ Idle)
-  expires_own Idle x h = (h, λ e. e)
-  expires_own Setting x h =
+  expires_own : (p : Phase) (x : Station) → (x.timer ≡ None → ⊥) → OwnIn c wd w (record x { phase = p }) → OwnIn c wd w (expires_at p (record x { phase = p })) × ((expires_at p (record x { phase = p })).phase ≡ Idle → p ≡ Idle)
+  expires_own Idle x runs h = (h, λ e. e)
+  expires_own Setting x runs h =
       let u : Station = record x { phase = Setting } in
       cond_both (nat_lt x.n2 (x.expiries + 1)) (gives_up SetUpUnanswered u) (starts_timer (puts SetUp (counts_expiry u))) (λ t. OwnIn c wd w t × (t.phase ≡ Idle → Setting ≡ Idle))
       (λ e. (own_dead c wd w u (x.said ++ Disc ∷ []) (w ++ x.said) SetUpUnanswered h, λ e. absurd cc))
       (λ e. ((h.0, h.1, h.2, h.3, λ none. absurd cc, h.5, λ live. polite_said w x.said SetUp (h.6 live) tt, λ e. absurd cc), λ e. absurd cc))
-  expires_own Up x h =
+  expires_own Up x runs h =
       let u : Station = record x { phase = Up } in
       cond_both (nat_lt x.n2 (x.expiries + 1)) (gives_up NoProgress u) (starts_timer (sends_again (counts_expiry u))) (λ t. OwnIn c wd w t × (t.phase ≡ Idle → Up ≡ Idle))
       (λ e. (own_dead c wd w u (x.said ++ Disc ∷ []) (w ++ x.said) NoProgress h, λ e. absurd cc))
-      (λ e. (own_again c wd w (record x { expiries = x.expiries + 1 }) h, λ e. absurd cc))
-  expires_own Down x h = (h, λ e. e)
+      (λ e. (own_again c wd w (record x { expiries = x.expiries + 1 }) (λ same. runs (h.4.1 same)) (h.0, h.1, h.2, h.3, (λ none. absurd (runs none), h.4.1, h.4.2), h.5, h.6, h.7), λ e. absurd cc))
+  expires_own Down x runs h = (h, λ e. e)
 
   expires_handed : (p : Phase) (x : Station) → ((expires_at p x).sent ≡ x.sent) × ((expires_at p x).handed ≡ x.handed)
   expires_handed Idle x = (refl, refl)
@@ -157,17 +163,17 @@ module _ (c : Bool) (wd : ℕ) (w : List Frame) where
       cond_both (is_down x.phase) x (sends_waiting (expires_if_due (sees now x))) (λ t. Leaves c wd w x.phase (finishes t))
       (λ down. down_leaves x.phase x down refl h)
       (λ live. cond_both (is_due (sees now x).timer (sees now x).moment) (expires (sees now x)) (sees now x) (λ t. Leaves c wd w x.phase (finishes (sends_waiting t)))
-      (λ due. let o = expires_own x.phase (sees now x) h in let g = expires_handed x.phase (sees now x) in
+      (λ due. let o = expires_own x.phase (sees now x) (due_runs x.timer (sees now x).moment due) h in let g = expires_handed x.phase (sees now x) in
       ends_leaves x.phase (expires (sees now x)) (subst (λ (n : ℕ). n ≤ length (expires (sees now x)).handed) (sym g.0) (subst (λ (hs : List (List ℕ)). x.sent ≤ length hs) (sym g.1) given)) o.1 o.0)
       (λ early. ends_leaves x.phase (sees now x) given (λ idle. idle) h))
 
   -- ---- its user releases
 
   closes_own : (p : Phase) (x : Station) → OwnIn c wd w x → OwnIn c wd w (record (closes_at p x) { phase = Down; timer = None })
-  closes_own Idle x h = (h.0, h.1, h.2, h.3, tt, h.5, λ live. absurd cc, λ e. absurd cc)
-  closes_own Setting x h = (h.0, h.1, h.2, h.3, tt, h.5, λ live. absurd cc, λ e. absurd cc)
-  closes_own Up x h = (h.0, h.1, h.2, h.3, tt, h.5, λ live. absurd cc, λ e. absurd cc)
-  closes_own Down x h = (h.0, h.1, h.2, h.3, tt, h.5, λ live. absurd cc, λ e. absurd cc)
+  closes_own Idle x h = (h.0, h.1, h.2, h.3, refl, h.5, λ live. absurd cc, λ e. absurd cc)
+  closes_own Setting x h = (h.0, h.1, h.2, h.3, refl, h.5, λ live. absurd cc, λ e. absurd cc)
+  closes_own Up x h = (h.0, h.1, h.2, h.3, refl, h.5, λ live. absurd cc, λ e. absurd cc)
+  closes_own Down x h = (h.0, h.1, h.2, h.3, refl, h.5, λ live. absurd cc, λ e. absurd cc)
 
   pub quits_leaves : (sub : ℕ) (x : Station) → is_down x.phase ≡ false → OwnIn c wd w x → Leaves c wd w x.phase (quits sub x)
   quits_leaves sub x live h =

@@ -1,9 +1,9 @@
 -- What a station does at a frame keeps what holds of it alone, and no frame of a live station releases it. Everywhere x acts and y doesn't,
 -- w waited from x before the call.
-use Rattle.std.proofs.Common.{if◌then◌else◌, ◌≡◌, ℕ, zero, suc, ◌+◌, ◌-◌, ◌%◌, ◌<◌, ◌≤◌, ◌⊎◌, inl, inr, Bool, true, false, List, [], ◌∷◌, ◌++◌, length, map, Option, Some, None, refl, sym, ◌∙◌, ap, subst, arith, append_assoc, append-nil, length-append, eq-eqb, eqb-true, true≢false}
+use Rattle.std.proofs.Common.{if◌then◌else◌, ◌≡◌, ℕ, ◌+◌, ◌-◌, ◌%◌, ◌<◌, ◌⊎◌, inl, inr, Bool, true, false, List, [], ◌∷◌, ◌++◌, length, map, Option, Some, None, refl, sym, ◌∙◌, ap, subst, arith, append_assoc, append-nil, length-append, eq-eqb, eqb-true, ltb-true, true≢false}
 use Rattle.std.specs.Prelude.{nat_lt, nat_le, ◌==◌}
 use Rattle.std.specs.List.{filter}
-use Rattle.std.proofs.lemmas.Bool.{cond_both, cases_Bool}
+use Rattle.std.proofs.lemmas.Bool.{cond_both}
 use Rattle.er_base.specs.declared.cause.Cause.TheVariants.{PeerDisconnected}
 use Rattle.station_model.specs.declared.phase.Phase.{Phase}
 use Rattle.station_model.specs.declared.phase.Phase.TheVariants.{Idle, Setting, Up, Down}
@@ -12,12 +12,15 @@ use Rattle.station_model.specs.Stations.{Station, is_down, puts}
 use Rattle.station_model.specs.Sending.{info_at, refuses_frame, sends_again, starts_timer, releases}
 use Rattle.station_model.specs.Receiving.{strays, named, acknowledges, acknowledging, by_number, accepts, rejects, takes, marks_busy, repeats_rejected, agrees, comes_up, row_idle, row_up, row}
 use Rattle.station_model.specs.Selective.{held_for, is_found, without_gap, takes_run, missing_below, holds, says_next, files_at, files, repeats_at, repeats_one, sets_up_selective_again, selective_row_up, selective_row}
-use Rattle.station_pair.specs.Invariant.{Half, IsSpan, Pair, Both, infos, numbers, marks}
+use Rattle.station_pair.specs.Invariant.{Half, IsSpan, Both, marks}
 use Rattle.station_pair.proofs.Ways.{climbs_le, way_bounds}
 use Rattle.station_pair.proofs.Rows.{no_foreign, set_up_at, named_is}
 use Rattle.station_pair.proofs.SelectiveRows.{named_none_or}
 use Rattle.station_pair.proofs.Gaps.{next_not_held, held_others}
-use Rattle.station_pair.proofs.Sound.{IsPolite, AllPolite, Timed, OwnIn, polite_said, own_puts, own_ack, own_again, own_dead}
+use Rattle.station_pair.proofs.Sound.{IsPolite, AllPolite, OwnIn, polite_said, own_puts, own_ack, own_again, own_dead}
+
+length_more : (ps qs : List (List ℕ)) (q : List ℕ) → length (ps ++ q ∷ qs) ≡ 0 → ⊥
+length_more ps qs q e = let l = length-append ps (q ∷ qs) in omega (arith, e, l)
 
 -- behind a frame that came at a station in this phase
 abbrev pub Wakes : (calling : Bool) (window : ℕ) → List Frame → Phase → Frame → Station → Type 0
@@ -30,17 +33,14 @@ module _ (c : Bool) (wd : ℕ) (w : List Frame) where
   up_wakes f t h = (h, λ polite live. refl, λ e. e)
 
   -- it came up, before which it sent nothing
-  comes_up_wakes : (p : Phase) (f : Frame) (x : Station) (timer : Option ℕ) (expiries : ℕ) → is_down p ≡ false → x.acked ≡ x.sent → OwnIn c wd w (record x { phase = p })
+  comes_up_wakes : (p : Phase) (f : Frame) (x : Station) (timer : Option ℕ) (expiries : ℕ) → is_down p ≡ false → timer ≡ None → expiries ≡ 0 → x.acked ≡ x.sent → OwnIn c wd w (record x { phase = p })
       → Wakes c wd w p f (comes_up (record x { timer = timer; expiries = expiries }))
-  comes_up_wakes p f x timer expiries live none h = ((h.0, h.1, h.2, h.3, λ e. none, h.5, λ up. h.6 live, λ e. absurd cc), λ polite l. refl, λ e. absurd cc)
+  comes_up_wakes p f x timer expiries live stopped zero none h = ((h.0, h.1, h.2, h.3, (λ e. (none, zero), λ e. stopped, omega (arith, none)), h.5, λ up. h.6 live, λ e. absurd cc), λ polite l. refl, λ e. absurd cc)
 
   dead_wakes : (p : Phase) (f : Frame) (x : Station) (said : List Frame) → (IsPolite f → ⊥) → OwnIn c wd w x → Wakes c wd w p f (releases PeerDisconnected (record x { said = said }))
   dead_wakes p f x said impolite h = (own_dead c wd w x said (w ++ x.said) PeerDisconnected h, λ polite l. absurd (impolite polite), λ e. absurd cc)
 
   -- ---- an I frame with go-back
-
-  length_more : (ps qs : List (List ℕ)) (q : List ℕ) → length (ps ++ q ∷ qs) ≡ 0 → ⊥
-  length_more ps qs q e = let l = length-append ps (q ∷ qs) in omega (arith, e, l)
 
   takes_wakes : (n r : ℕ) (q : List ℕ) (x : Station) → x.held ≡ [] → OwnIn c wd w (record x { phase = Up }) → Wakes c wd w Up (Info n r q) (takes (n % modulo x.extended) q (record x { phase = Up }))
   takes_wakes n r q x none h =
@@ -66,7 +66,8 @@ module _ (c : Bool) (wd : ℕ) (w : List Frame) where
   repeated_wakes : (r : ℕ) (x : Station) → OwnIn c wd w (record x { phase = Up }) → Wakes c wd w Up (Rej r) (repeats_rejected (record x { phase = Up }))
   repeated_wakes r x h =
       cond_both (nat_lt x.acked x.sent) (starts_timer (sends_again (record x { phase = Up }))) (record x { phase = Up }) (Wakes c wd w Up (Rej r))
-      (λ some. (own_again c wd w x h, λ polite live. refl, λ e. e)) (λ none. up_wakes (Rej r) x h)
+      (λ some. (own_again c wd w x (λ same. let lt = ltb-true x.acked x.sent some in let u : ⊥ = omega (arith, lt, same) in u) h, λ polite live. refl, λ e. e))
+      (λ none. up_wakes (Rej r) x h)
 
   set_up_wakes : (e : Bool) (x : Station) → length x.taken ≡ 0 → OwnIn c wd w (record x { phase = Up }) → Wakes c wd w Up SetUp (row_up (record x { phase = Up }) (set_up e) [])
   set_up_wakes true x none h =
@@ -78,10 +79,10 @@ module _ (c : Bool) (wd : ℕ) (w : List Frame) where
 
   idle_wakes : (e : Bool) (x : Station) → x.acked ≡ x.sent → OwnIn c wd w (record x { phase = Idle }) → Wakes c wd w Idle SetUp (row_idle (record x { phase = Idle }) (set_up e) [])
   idle_wakes true x none h =
-      let g = comes_up_wakes Idle SetUp x x.timer x.expiries refl none h in
+      let g = comes_up_wakes Idle SetUp x x.timer x.expiries refl h.4.0 h.4.1 none h in
       (own_puts c wd w (comes_up x) (Ua true) tt g.0, λ polite l. refl, λ e. absurd cc)
   idle_wakes false x none h =
-      let g = comes_up_wakes Idle SetUp x x.timer x.expiries refl none h in
+      let g = comes_up_wakes Idle SetUp x x.timer x.expiries refl h.4.0 h.4.1 none h in
       (own_puts c wd w (comes_up x) (Ua true) tt g.0, λ polite l. refl, λ e. absurd cc)
 
 -- before it is up a station sent no I frame
@@ -110,7 +111,7 @@ go_back_wakes k c wd w Setting x SetUp fs y b h =
 go_back_wakes k c wd w Setting x Disc fs y b h = dead_wakes c wd w Setting Disc (record x { phase = Setting }) (x.said ++ Ua true ∷ []) (λ e. e) h
 go_back_wakes k c wd w Setting x Dm fs y b h = dead_wakes c wd w Setting Dm (record x { phase = Setting }) x.said (λ e. e) h
 go_back_wakes k c wd w Setting x (Ua final) fs y b h =
-    comes_up_wakes c wd w Setting (Ua final) x None 0 refl (none_sent false k _ _ _ (record x { phase = Setting }) y b.0.2.0 b.0) h
+    comes_up_wakes c wd w Setting (Ua final) x None 0 refl refl refl (none_sent false k _ _ _ (record x { phase = Setting }) y b.0.2.0 b.0) h
 go_back_wakes k c wd w Up x (Info n r q) fs y b h =
     numbered_wakes c wd w false k r (Info n r q) _ _ _ x y (takes (n % modulo x.extended) q) b.4 b.0 h
     (λ a. takes_wakes c wd w n r q (acknowledges r x) b.1.6 a)
@@ -142,7 +143,7 @@ module _ (c : Bool) (wd : ℕ) (w : List Frame) where
         h.0,
         h.1,
         h.2,
-        λ called t. absurd (length_more c wd w x.taken run q t),
+        λ called t. absurd (length_more x.taken run q t),
         h.4,
         ap (λ (m : ℕ). held_for m (filter (λ g. nat_le now g.0) x.held)) all ∙ next_not_held (n + 1) now x.held (omega (arith, same)),
         h.6,
@@ -181,13 +182,14 @@ module _ (c : Bool) (wd : ℕ) (w : List Frame) where
   one_wakes r x h =
       let u : Station = record x { phase = Up } in
       let o : Option ℕ = named x.extended x.acked (x.sent - x.acked - 1) (r % modulo x.extended) in
-      cond_both (nat_lt x.acked x.sent) (repeats_at o u) (strays u) (Wakes c wd w Up (Srej r)) (λ some. at o) (λ none. (h, λ polite live. refl, λ e. e))
+      cond_both (nat_lt x.acked x.sent) (repeats_at o u) (strays u) (Wakes c wd w Up (Srej r)) (λ some. at o (ltb-true x.acked x.sent some)) (λ none. (h, λ polite live. refl, λ e. e))
     where
-      at : (o : Option ℕ) → Wakes c wd w Up (Srej r) (repeats_at o (record x { phase = Up }))
-      at None = (h, λ polite live. refl, λ e. e)
-      at (Some n) =
+      at : (o : Option ℕ) → x.acked < x.sent → Wakes c wd w Up (Srej r) (repeats_at o (record x { phase = Up }))
+      at None some = (h, λ polite live. refl, λ e. e)
+      at (Some n) some =
           let g = own_puts c wd w x (info_at (record x { phase = Up }) n) tt h in
-          ((g.0, g.1, g.2, g.3, λ none. absurd cc, g.5, g.6, λ e. absurd cc), λ polite live. refl, λ e. e)
+          let unacked : x.acked ≡ x.sent → ⊥ = λ same. let u : ⊥ = omega (arith, some, same) in u in
+          ((g.0, g.1, g.2, g.3, (λ none. absurd cc, λ same. absurd (unacked same), h.4.2), g.5, g.6, λ e. absurd cc), λ polite live. refl, λ e. e)
 
   agreed_wakes : (x : Station) → length x.taken ≡ 0 → OwnIn c wd w (record x { phase = Up }) → Wakes c wd w Up SetUp (sets_up_selective_again true (record x { phase = Up }))
   agreed_wakes x none h =
@@ -220,7 +222,7 @@ selective_wakes k c wd w Setting x SetUp fs y b h =
 selective_wakes k c wd w Setting x Disc fs y b h = dead_wakes c wd w Setting Disc (record x { phase = Setting }) (x.said ++ Ua true ∷ []) (λ e. e) h
 selective_wakes k c wd w Setting x Dm fs y b h = dead_wakes c wd w Setting Dm (record x { phase = Setting }) x.said (λ e. e) h
 selective_wakes k c wd w Setting x (Ua final) fs y b h =
-    comes_up_wakes c wd w Setting (Ua final) x None 0 refl (none_sent true k _ _ _ (record x { phase = Setting }) y b.0.2.0 b.0) h
+    comes_up_wakes c wd w Setting (Ua final) x None 0 refl refl refl (none_sent true k _ _ _ (record x { phase = Setting }) y b.0.2.0 b.0) h
 selective_wakes k c wd w Up x (Info n r q) fs y b h =
     numbered_wakes c wd w true k r (Info n r q) _ _ _ x y (files (n % modulo x.extended) q) b.4 b.0 h
     (λ a. filed_wakes c wd w n r q (acknowledges r x) (named x.extended (length x.taken) (x.window - 1) (n % modulo x.extended))

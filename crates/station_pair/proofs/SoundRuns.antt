@@ -1,11 +1,12 @@
 -- Each step of an order-keeping line keeps what holds of each station alone; while frames are given alone, no live end is released.
-use Rattle.std.proofs.Common.{if◌then◌else◌, ◌≡◌, ℕ, zero, suc, ◌≤◌, inl, inr, max, Bool, true, false, not, ◌&&◌, ◌||◌, List, [], ◌∷◌, ◌++◌, length, Option, Some, None, refl, sym, ◌∙◌, ap, subst, true≢false}
+use Rattle.std.proofs.Common.{if◌then◌else◌, ◌≡◌, ℕ, zero, suc, ◌≤◌, inl, max, Bool, true, false, not, ◌&&◌, ◌||◌, List, [], ◌∷◌, ◌++◌, length, Option, Some, None, refl, sym, ◌∙◌, ap, subst, true≢false}
 use Rattle.std.specs.Prelude.{nat_lt, ◌==◌}
 use Rattle.std.proofs.lemmas.Bool.{cond_both}
 use Rattle.er_base.specs.declared.side.Side.{Side}
 use Rattle.er_base.specs.declared.side.Side.TheVariants.{E, R}
-use Rattle.station_model.specs.declared.phase.Phase.TheVariants.{Idle, Down}
-use Rattle.station_model.specs.Frames.{Frame, SetUp}
+use Rattle.station_model.specs.declared.phase.Phase.{Phase}
+use Rattle.station_model.specs.declared.phase.Phase.TheVariants.{Idle, Setting, Up, Down}
+use Rattle.station_model.specs.Frames.{SetUp}
 use Rattle.station_model.specs.Stations.{Station, is_up, is_down, settled}
 use Rattle.station_model.specs.Calls.{hands, finishes, ticks, closes_at}
 use Rattle.station_model.specs.Events.{quits, is_late}
@@ -13,19 +14,20 @@ use Rattle.station_model.specs.Lines.{altered, next_of}
 use Rattle.station_pair.specs.Links.{Came, Link, station_of, line_of, with_line, did, opened}
 use Rattle.station_pair.specs.Steps.{LinkStep, Send, Pass, Lose, Repeat, Alter, Put, UserRelease, Drain, Tick, refusal_at, send_unless, lose, repeat, alter, release, tick_at, tick, is_overfull, Draining, pass_next, drained, step, happens, run}
 use Rattle.station_pair.specs.Laws.{Opening, after}
+use Rattle.station_pair.specs.Timers.{TimedAt, TimersRun}
 use Rattle.station_pair.specs.Recovery.{ArePasses, AreLive, PassesRelease}
 use Rattle.station_pair.proofs.Events.{finishes_keeps, hands_keeps, ticks_keeps, quits_keeps}
-use Rattle.station_pair.proofs.Lines.{turned, First, first_of_line, lost, repeated}
+use Rattle.station_pair.proofs.Lines.{turned, first_of_line, lost, repeated}
 use Rattle.station_pair.proofs.Opened.{span_of, opened_stands}
 use Rattle.station_pair.proofs.Runs.{Frames, refused_long, passed_kept, drained_kept, sent_kept, lost_kept, repeated_kept, released_kept}
 use Rattle.station_pair.proofs.Telling.{phases_stay, ticks_tell}
-use Rattle.station_pair.proofs.Sound.{Own}
+use Rattle.station_pair.proofs.Sound.{Timed, Own}
 use Rattle.station_pair.proofs.SoundCalls.{hands_leaves, ticks_leaves, quits_leaves}
 use Rattle.station_pair.proofs.Sounds.{Claim, Sounds, own_gone, own_twice, e_does, r_does, e_ready, r_ready, e_own, r_own, same, ToR, ToE, passed, passes_keep}
 
 -- nothing is claimed besides
 abbrev pub NoClaim : Claim
-NoClaim fe e fr r = Unit {0}
+NoClaim selective fe e fr r = Unit {0}
 
 abbrev pub Sound : (window : ℕ) → Link → Type 0
 Sound window l = Sounds window NoClaim l
@@ -78,6 +80,7 @@ module _ (wd : ℕ) where
         rests_r = h.rests_r;
         first = h.first;
         wide = h.wide;
+        begun = h.begun;
         claim = tt;
       }
   lost_sound R l (octets ∷ rest) e h =
@@ -93,6 +96,7 @@ module _ (wd : ℕ) where
         rests_r = h.rests_r;
         first = h.first;
         wide = h.wide;
+        begun = h.begun;
         claim = tt;
       }
 
@@ -113,6 +117,7 @@ module _ (wd : ℕ) where
         rests_r = h.rests_r;
         first = h.first;
         wide = h.wide;
+        begun = h.begun;
         claim = tt;
       }
   repeated_sound R l (octets ∷ rest) e h =
@@ -128,6 +133,7 @@ module _ (wd : ℕ) where
         rests_r = h.rests_r;
         first = h.first;
         wide = h.wide;
+        begun = h.begun;
         claim = tt;
       }
 
@@ -227,11 +233,12 @@ opened_sound s = record {
   fr = [];
   stands = opened_stands s;
   own_e = (refl, refl, refl, λ called none. refl, λ none. absurd cc, refl, λ live. (tt, tt), λ idle. absurd cc);
-  own_r = (refl, refl, refl, λ called none. refl, tt, refl, λ live. tt, λ idle. (refl, refl));
+  own_r = (refl, refl, refl, λ called none. refl, (refl, refl), refl, λ live. tt, λ idle. (refl, refl));
   rests_e = (inl refl, λ live. refl);
   rests_r = (inl refl, λ live. refl);
   first = λ idle. refl;
   wide = wide_at s.selective s.extended s.window;
+  begun = λ idle. absurd cc;
   claim = tt;
 }
 
@@ -248,3 +255,17 @@ pub passes_release : Frames → PassesRelease
 passes_release laws s steps kept live passes p =
     subst AreLive (sym (run_append steps passes (opened s.selective s.extended s.window s.n2 s.t1 s.moment)))
     ((passes_sound s.window laws passes (after s steps) p (after_sound laws s steps kept)).1 live)
+
+-- ---- T1
+
+timed_at : (p : Phase) (x : Station) → Timed p x.timer x.expiries x.acked x.sent → TimedAt p x
+timed_at Idle x h = h
+timed_at Setting x h = h
+timed_at Up x h = (h.0, h.1)
+timed_at Down x h = h
+
+pub timers_run : Frames → TimersRun
+timers_run laws s steps kept =
+    let h = after_sound laws s steps kept in
+    let l : Link = after s steps in
+    (timed_at l.e.phase l.e h.own_e.4, timed_at l.r.phase l.r h.own_r.4)

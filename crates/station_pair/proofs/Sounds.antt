@@ -1,34 +1,24 @@
 -- Two stations over an order-keeping line, step by step: what holds of each alone, beside the invariant of both; and while frames are given
 -- alone, no live end is released.
-use Rattle.std.proofs.Common.{if◌then◌else◌, ◌≡◌, ℕ, zero, suc, ◌≤◌, inl, inr, max, Bool, true, false, not, ◌&&◌, ◌||◌, List, [], ◌∷◌, ◌++◌, length, Option, Some, None, refl, sym, ◌∙◌, ap, subst, append-nil, true≢false}
-use Rattle.std.specs.Prelude.{nat_lt, ◌==◌}
-use Rattle.std.proofs.lemmas.Bool.{cond_both}
+use Rattle.std.proofs.Common.{◌≡◌, ℕ, Bool, true, false, List, [], ◌∷◌, ◌++◌, refl, sym, ◌∙◌, ap, subst, append-nil}
 use Rattle.er_base.specs.declared.side.Side.{Side}
 use Rattle.er_base.specs.declared.side.Side.TheVariants.{E, R}
 use Rattle.hdlc_frames.specs.Framing.{Verdict}
-use Rattle.station_model.specs.declared.phase.Phase.{Phase}
 use Rattle.station_model.specs.declared.phase.Phase.TheVariants.{Idle}
-use Rattle.station_model.specs.Frames.{Frame, SetUp}
-use Rattle.station_model.specs.Stations.{Station, is_up, is_down, settled}
-use Rattle.station_model.specs.Calls.{hands, finishes, ticks}
-use Rattle.station_model.specs.Events.{news, quits, is_late}
-use Rattle.station_model.specs.Lines.{altered, next_of}
-use Rattle.station_pair.specs.Links.{Came, Link, station_of, line_of, with_line, did, hears_each, reads, opened}
-use Rattle.station_pair.specs.Steps.{LinkStep, Send, Pass, Lose, Repeat, Alter, Put, UserRelease, Drain, Tick, refusal_at, send_unless, send, pass, lose, repeat, alter, release, tick_at, tick, is_overfull, Draining, pass_next, drained, step, happens, run}
-use Rattle.station_pair.specs.Laws.{Opening, after}
+use Rattle.station_model.specs.Frames.{Frame}
+use Rattle.station_model.specs.Stations.{Station, is_up, settled}
+use Rattle.station_pair.specs.Links.{Came, Link, line_of, did, hears_each, reads}
+use Rattle.station_pair.specs.Steps.{LinkStep, Send, Pass, Lose, Repeat, Alter, Put, UserRelease, Drain, Tick, pass, happens, run}
 use Rattle.station_pair.specs.Invariant.{Pair, Both}
-use Rattle.station_pair.specs.Recovery.{IsPass, ArePasses, AreLive, PassesRelease}
-use Rattle.station_pair.proofs.Events.{finishes_keeps, hands_keeps, ticks_keeps, quits_keeps}
-use Rattle.station_pair.proofs.Lines.{octets_of, Stands, turned, begun, acted, First, first_of_line, answered, one_event, flag_behind, answered_keeps, lost, repeated}
-use Rattle.station_pair.proofs.Opened.{span_of, opened_stands}
-use Rattle.station_pair.proofs.Runs.{Frames, refused_long, passed_kept, drained_kept, sent_kept, lost_kept, repeated_kept, released_kept}
-use Rattle.station_pair.proofs.Telling.{phases_stay, ticks_tell}
-use Rattle.station_pair.proofs.Sound.{IsPolite, AllPolite, Own, OwnIn}
-use Rattle.station_pair.proofs.SoundCalls.{Rested, Leaves, Lives, hands_leaves, ticks_leaves, quits_leaves, answered_lives}
+use Rattle.station_pair.specs.Recovery.{ArePasses, AreLive}
+use Rattle.station_pair.proofs.Lines.{octets_of, Stands, turned, begun, acted, First, first_of_line, answered, one_event, flag_behind, answered_keeps}
+use Rattle.station_pair.proofs.Runs.{Frames}
+use Rattle.station_pair.proofs.Sound.{Own, OwnIn}
+use Rattle.station_pair.proofs.SoundCalls.{Rested, Leaves, answered_lives}
 
--- what is claimed besides of the frames that wait and the stations: from e, e, from r, r
+-- what is claimed besides of the kind, the frames that wait and the stations: from e, e, from r, r
 abbrev pub Claim : Type 1
-Claim = List Frame → Station → List Frame → Station → Type 0
+Claim = (selective : Bool) → List Frame → Station → List Frame → Station → Type 0
 
 pub record Sounds (window : ℕ) (Q : Claim) (l : Link) : Type 0 where
   pub k : ℕ
@@ -43,7 +33,9 @@ pub record Sounds (window : ℕ) (Q : Claim) (l : Link) : Type 0 where
   pub first : l.r.phase ≡ Idle → is_up l.e.phase ≡ false
   -- with selective reject the greatest window is the window
   pub wide : l.selective ≡ true → k ≡ window
-  pub claim : Q fe l.e fr l.r
+  -- the calling station started
+  pub begun : l.e.phase ≡ Idle → ⊥
+  pub claim : Q l.selective fe l.e fr l.r
 
 -- between two calls nothing is said
 pub own_begun : (c : Bool) (wd : ℕ) (w : List Frame) (x : Station) → x.said ≡ [] → Own c wd w x → OwnIn c wd w x
@@ -60,7 +52,7 @@ module _ (wd : ℕ) (Q P : Claim) where
   -- ---- an event at an end
 
   pub e_does : (l : Link) (h : Sounds wd Q l) (x : Station) → Both l.selective h.k h.fe x h.fr l.r → Leaves true wd h.fe l.e.phase x → (l.r.phase ≡ Idle → is_up x.phase ≡ false)
-      → P (h.fe ++ x.said) (settled x) h.fr l.r → Sounds wd P (did E x l)
+      → P l.selective (h.fe ++ x.said) (settled x) h.fr l.r → Sounds wd P (did E x l)
   e_does l h x b o first claim = record {
     k = h.k;
     fe = h.fe ++ x.said;
@@ -72,11 +64,12 @@ module _ (wd : ℕ) (Q P : Claim) where
     rests_r = h.rests_r;
     first = first;
     wide = h.wide;
+    begun = λ idle. h.begun (o.2 idle);
     claim = claim;
   }
 
   pub r_does : (l : Link) (h : Sounds wd Q l) (x : Station) → Both l.selective h.k h.fr x h.fe l.e → Leaves false wd h.fr l.r.phase x
-      → P h.fe l.e (h.fr ++ x.said) (settled x) → Sounds wd P (did R x l)
+      → P l.selective h.fe l.e (h.fr ++ x.said) (settled x) → Sounds wd P (did R x l)
   r_does l h x b o claim =
       let t = turned l.selective h.k h.fe l.e h.fr l.r l.from_e l.from_r l.read_e l.read_r h.stands in
       let a = acted l.selective h.k h.fr l.r h.fe l.e l.from_r l.from_e l.read_r l.read_e x h.fe l.from_e l.read_r t t.lined_y t.flag_x b in
@@ -91,6 +84,7 @@ module _ (wd : ℕ) (Q P : Claim) where
         rests_r = o.1;
         first = λ idle. h.first (o.2 idle);
         wide = h.wide;
+        begun = h.begun;
         claim = claim;
       }
 
@@ -111,20 +105,20 @@ module _ (wd : ℕ) (Q : Claim) where
   pub same : (l : Link) (h : Sounds wd Q l) (moment passes : ℕ) (order_kept loss_free : Bool) (came : List Came)
       → Sounds wd Q (record l { moment = moment; passes = passes; order_kept = order_kept; loss_free = loss_free; came = came })
   same l h moment passes order_kept loss_free came =
-      record { k = h.k; fe = h.fe; fr = h.fr; stands = h.stands; own_e = h.own_e; own_r = h.own_r; rests_e = h.rests_e; rests_r = h.rests_r; first = h.first; wide = h.wide; claim = h.claim }
+      record { k = h.k; fe = h.fe; fr = h.fr; stands = h.stands; own_e = h.own_e; own_r = h.own_r; rests_e = h.rests_e; rests_r = h.rests_r; first = h.first; wide = h.wide; begun = h.begun; claim = h.claim }
 
   -- ---- a frame is passed
 
   -- the claim outlasts the frame that comes to r, and to e
   abbrev pub ToR : Type 0
   ToR = (selective : Bool) (k now : ℕ) (fr : List Frame) (r : Station) (f : Frame) (fs : List Frame) (e : Station) → (selective ≡ true → k ≡ wd) → r.said ≡ []
-      → Both selective k fr r (f ∷ fs) e → Own false wd fr r → Own true wd (f ∷ fs) e → Rested r → Rested e → Q (f ∷ fs) e fr r
-      → Q fs e (fr ++ (answered selective now e f r).said) (settled (answered selective now e f r))
+      → Both selective k fr r (f ∷ fs) e → Own false wd fr r → Own true wd (f ∷ fs) e → Rested r → Rested e → Q selective (f ∷ fs) e fr r
+      → Q selective fs e (fr ++ (answered selective now e f r).said) (settled (answered selective now e f r))
 
   abbrev pub ToE : Type 0
   ToE = (selective : Bool) (k now : ℕ) (fe : List Frame) (e : Station) (f : Frame) (fs : List Frame) (r : Station) → (selective ≡ true → k ≡ wd) → e.said ≡ []
-      → Both selective k fe e (f ∷ fs) r → Own true wd fe e → Own false wd (f ∷ fs) r → Rested e → Rested r → Q fe e (f ∷ fs) r
-      → Q (fe ++ (answered selective now r f e).said) (settled (answered selective now r f e)) fs r
+      → Both selective k fe e (f ∷ fs) r → Own true wd fe e → Own false wd (f ∷ fs) r → Rested e → Rested r → Q selective fe e (f ∷ fs) r
+      → Q selective (fe ++ (answered selective now r f e).said) (settled (answered selective now r f e)) fs r
 
   -- and live ends stay so
   abbrev pub Gone : Link → Link → Type 0
@@ -142,7 +136,7 @@ module _ (wd : ℕ) (Q : Claim) where
       (answered_keeps laws.back l.selective h.k h.fr l.moment l.r f.frame f.frames l.e b) in
       let g = answered_lives laws.back l.selective h.k false wd h.fr l.moment l.r f.frame f.frames l.e b (r_own l h) in
       let c = keeps l.selective h.k l.moment h.fr l.r f.frame f.frames l.e h.wide h.stands.quiet_y b h.own_r o h.rests_r h.rests_e
-      (subst (λ (q : List Frame). Q q l.e h.fr l.r) f.all h.claim) in
+      (subst (λ (q : List Frame). Q l.selective q l.e h.fr l.r) f.all h.claim) in
       subst (λ (os : List ℕ). Gone l (reads R os (record l { from_e = rest; passes = passes }))) (sym f.octets_are)
       (subst (λ (vs : List Verdict). Gone l (hears_each R vs (record l { from_e = rest; passes = passes; read_r = l.read_r ++ octets_of l.e f.frame })))
       (sym (one_event laws.parts laws.alone l.selective h.k h.fr l.r f.frame f.frames l.e l.read_r t.flag_x p)) (
@@ -157,6 +151,7 @@ module _ (wd : ℕ) (Q : Claim) where
           rests_r = g.0.1;
           first = λ idle. h.first (g.0.2 idle);
           wide = h.wide;
+          begun = h.begun;
           claim = c;
         },
         λ live. (live.0, g.1 (o.6 live.0).0 live.1),
@@ -174,7 +169,7 @@ module _ (wd : ℕ) (Q : Claim) where
       (answered_keeps laws.back l.selective h.k h.fe l.moment l.e f.frame f.frames l.r b) in
       let g = answered_lives laws.back l.selective h.k true wd h.fe l.moment l.e f.frame f.frames l.r b (e_own l h) in
       let c = keeps l.selective h.k l.moment h.fe l.e f.frame f.frames l.r h.wide h.stands.quiet_x b h.own_e o h.rests_e h.rests_r
-      (subst (λ (q : List Frame). Q h.fe l.e q l.r) f.all h.claim) in
+      (subst (λ (q : List Frame). Q l.selective h.fe l.e q l.r) f.all h.claim) in
       subst (λ (os : List ℕ). Gone l (reads E os (record l { from_r = rest; passes = passes }))) (sym f.octets_are)
       (subst (λ (vs : List Verdict). Gone l (hears_each E vs (record l { from_r = rest; passes = passes; read_e = l.read_e ++ octets_of l.r f.frame })))
       (sym (one_event laws.parts laws.alone l.selective h.k h.fe l.e f.frame f.frames l.r l.read_e t.flag_x p)) (
@@ -190,6 +185,7 @@ module _ (wd : ℕ) (Q : Claim) where
           -- in Idle the called station sent nothing
           first = λ idle. absurd (let n : f.frame ∷ f.frames ≡ [] = (o.7 idle).0 in let u : ⊥ = cc in u);
           wide = h.wide;
+          begun = λ idle. h.begun (g.0.2 idle);
           claim = c;
         },
         λ live. (g.1 (o.6 live.1).0 live.0, live.1),

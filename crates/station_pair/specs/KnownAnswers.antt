@@ -115,3 +115,43 @@ none_left = refl
 pub all_taken : (drain_of rejected_often 500).link.r.taken ≡ (1 ∷ []) ∷ (2 ∷ []) ∷ (3 ∷ []) ∷ (4 ∷ []) ∷ (5 ∷ []) ∷ (6 ∷ []) ∷ (7 ∷ []) ∷ []
 unfolding frames_of between_flags all_but_last cut verdict_on verdict_on_content checked_part check_number unescaped ends_in_escape spelling escaped escaped_octet content_of control_of fcs_of fcs_bits dividend remainder divided_once add_front sent_bits low_bits low_number
 all_taken = refl
+
+-- ---- one tick repairs a loss of each kind, with go-back and with selective reject
+
+-- a lossy beginning, then T1 is found expired, and what waits is passed
+abbrev repaired : (selective : Bool) → List LinkStep → List Came × (ℕ × ℕ)
+repaired selective steps = told (opened selective false 4 5 1000 0) (steps ++ Tick 1000 ∷ Drain 20 ∷ [])
+
+abbrev of_both : List LinkStep → List Came × (ℕ × ℕ) → Type 0
+of_both steps told = (repaired false steps ≡ told) × (repaired true steps ≡ told)
+
+-- the set-up frame is lost: it comes again, and is answered
+pub lost_set_up : of_both (Lose E ∷ []) (CameUp R ∷ CameUp E ∷ Drained 2 ∷ [], (0, 0))
+unfolding frames_of between_flags all_but_last cut verdict_on verdict_on_content checked_part check_number unescaped ends_in_escape spelling escaped escaped_octet content_of control_of fcs_of fcs_bits dividend remainder divided_once add_front sent_bits low_bits low_number
+lost_set_up = (refl, refl)
+
+-- its answer is lost: the set-up frame comes again to a station that is up, which answers again and doesn't come up twice
+pub lost_answer : of_both (Pass E ∷ Lose R ∷ []) (CameUp R ∷ CameUp E ∷ Drained 2 ∷ [], (0, 0))
+unfolding frames_of between_flags all_but_last cut verdict_on verdict_on_content checked_part check_number unescaped ends_in_escape spelling escaped escaped_octet content_of control_of fcs_of fcs_bits dividend remainder divided_once add_front sent_bits low_bits low_number
+lost_answer = (refl, refl)
+
+-- an I frame is lost behind which none comes: no gap is seen, so nothing but T1 tells
+pub lost_frame : of_both (Drain 4 ∷ Send E (1 ∷ []) ∷ Lose E ∷ []) (CameUp R ∷ CameUp E ∷ Drained 2 ∷ Accepted R (1 ∷ []) ∷ Drained 2 ∷ [], (0, 0))
+unfolding frames_of between_flags all_but_last cut verdict_on verdict_on_content checked_part check_number unescaped ends_in_escape spelling escaped escaped_octet content_of control_of fcs_of fcs_bits dividend remainder divided_once add_front sent_bits low_bits low_number
+lost_frame = (refl, refl)
+
+-- the RR that answers it is lost: the frame comes again as an old one, and isn't taken twice. Its answer, a REJ with go-back and an RR with selective
+-- reject, shows the next number
+pub lost_ready : of_both (Drain 4 ∷ Send E (1 ∷ []) ∷ Pass E ∷ Lose R ∷ []) (CameUp R ∷ CameUp E ∷ Drained 2 ∷ Accepted R (1 ∷ []) ∷ Drained 2 ∷ [], (0, 0))
+unfolding frames_of between_flags all_but_last cut verdict_on verdict_on_content checked_part check_number unescaped ends_in_escape spelling escaped escaped_octet content_of control_of fcs_of fcs_bits dividend remainder divided_once add_front sent_bits low_bits low_number
+lost_ready = (refl, refl)
+
+-- the first of two I frames is lost, and so is the REJ or SREJ that asks for it: both frames come again, each with its answer
+pub lost_reject : of_both (Drain 4 ∷ Send E (1 ∷ []) ∷ Send E (2 ∷ []) ∷ Lose E ∷ Pass E ∷ Lose R ∷ []) (CameUp R ∷ CameUp E ∷ Drained 2 ∷ Accepted R (1 ∷ []) ∷ Accepted R (2 ∷ []) ∷ Drained 4 ∷ [], (0, 0))
+unfolding frames_of between_flags all_but_last cut verdict_on verdict_on_content checked_part check_number unescaped ends_in_escape spelling escaped escaped_octet content_of control_of fcs_of fcs_bits dividend remainder divided_once add_front sent_bits low_bits low_number
+lost_reject = (refl, refl)
+
+-- a frame of either station is lost: the same tick repairs both directions. The passes are the two frames and an RR for each
+pub lost_both_ways : of_both (Drain 4 ∷ Send E (1 ∷ []) ∷ Drain 4 ∷ Send R (2 ∷ []) ∷ Send E (3 ∷ []) ∷ Lose R ∷ Lose E ∷ []) (CameUp R ∷ CameUp E ∷ Drained 2 ∷ Accepted R (1 ∷ []) ∷ Drained 2 ∷ Accepted R (3 ∷ []) ∷ Accepted E (2 ∷ []) ∷ Drained 4 ∷ [], (0, 0))
+unfolding frames_of between_flags all_but_last cut verdict_on verdict_on_content checked_part check_number unescaped ends_in_escape spelling escaped escaped_octet content_of control_of fcs_of fcs_bits dividend remainder divided_once add_front sent_bits low_bits low_number
+lost_both_ways = (refl, refl)

@@ -6,4 +6,5 @@ pub mod Flowing
 pub mod Keeping
 pub mod LossFree
 pub mod Recovery
+pub mod Timers
 pub mod KnownAnswers

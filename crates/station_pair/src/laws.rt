@@ -3,6 +3,7 @@
 ghost use Rattle.station_pair.specs.Keeping.{CallsKeep, FramesGive, PhasesStay, ReceivesTell, TicksTell};
 ghost use Rattle.station_pair.specs.LossFree.{FlowBounds, FlowKeeps};
 ghost use Rattle.station_pair.specs.Recovery.{DrainEmptiesLive, PassesBound, PassesRelease, Recovery};
+ghost use Rattle.station_pair.specs.Timers.{Renewal, TimersRun};
 ghost use Rattle.station_pair.specs.Laws.{Prefix, LosingLineReasons, Delivery, DeliveryBound, DrainEmpties, DeliveriesBound, FewWait};
 
 use hdlc_frames::laws::{control_reads_back, flag_parts, frame_alone};
@@ -93,6 +94,17 @@ pub fn loss_free_keeps()
 pub fn recovery()
     ensures recovered { Recovery }
     ensures live { PassesRelease }
+{
+    control_reads_back();
+    flag_parts();
+    frame_alone();
+}
+
+/// T1 of each station runs exactly while an I frame is unacknowledged, or while the set-up is unanswered. Behind a recovery it runs at neither
+/// station and no expiry is counted, so that all N2 expiries are left for the next loss.
+pub fn timers_run()
+    ensures exactly { TimersRun }
+    ensures renewed { Renewal }
 {
     control_reads_back();
     flag_parts();
