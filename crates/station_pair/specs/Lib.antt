@@ -7,4 +7,6 @@ pub mod Keeping
 pub mod LossFree
 pub mod Recovery
 pub mod Timers
+pub mod Mending
+pub mod Repairs
 pub mod KnownAnswers
