@@ -58,21 +58,40 @@ impl Script {
         self.act(Act::Bring { conn, octets }, 1)
     }
 
-    /// A train sends what it has to send, if anything.
+    /// The train of this place sends what it has to send, if anything, over the connection of that place.
     pub(crate) fn speak(
         &mut self,
         alloc: Global,
         keys: &KeyStore,
-        conn: u64,
-        train: &mut Train,
+        place: u8,
+        trains: &mut Vec<Train>,
     ) -> Result<(), NoMemory> {
+        let Some(train) = trains.get_mut(usize::from(place)) else {
+            return Ok(());
+        };
         let (piece, is_answered) = train.speak(keys);
         if piece.is_empty() {
             return Ok(());
         }
+        let conn = u64::from(place) + 1;
         let octets = Octets::new(Vec::from_slice(alloc, piece.as_slice())?);
         let calls = if is_answered { 3 } else { 2 };
         self.act(Act::Bring { conn, octets }, calls)
+    }
+
+    /// The train of this place leaves with this sub-reason.
+    pub(crate) fn leave(
+        &mut self,
+        alloc: Global,
+        keys: &KeyStore,
+        place: u8,
+        trains: &mut Vec<Train>,
+        sub: u8,
+    ) -> Result<(), NoMemory> {
+        if let Some(train) = trains.get_mut(usize::from(place)) {
+            train.leave(sub);
+        }
+        self.speak(alloc, keys, place, trains)
     }
 
     /// The last call so far is to fail.

@@ -13,6 +13,9 @@ use readiness_loop::{LinePlan, serve};
 use std::alloc::Global;
 use std::test::Fail;
 
+/// The header of what is printed with the usual settings.
+pub(crate) const HEADER: &[u8] = b"trace 1 7 15 128 1000 5 40000\n";
+
 /// The generator of a day, behind so many of its words.
 pub(crate) fn randoms_behind(words: u8) -> Lcg64Xsh32 {
     let mut randoms = Lcg64Xsh32::seed_from_u64(1);
@@ -24,12 +27,7 @@ pub(crate) fn randoms_behind(words: u8) -> Lcg64Xsh32 {
 
 /// A clock that goes on for a while, less than T1 in all.
 pub(crate) fn clock(alloc: Global) -> Result<MemoryClock, NoMemory> {
-    let mut moments = Vec::new(alloc);
-    moments.push(0)?;
-    moments.push(3)?;
-    moments.push(20)?;
-    moments.push(120)?;
-    moments.push(400)?;
+    let moments = Vec::from_slice(alloc, &[0, 3, 20, 120, 400])?;
     Ok(MemoryClock::new(moments))
 }
 

@@ -1,11 +1,13 @@
 //! A train: what it sends, act by act.
 
+use crate::serving::randoms_behind;
 use arrayvec::ArrayVec;
 use des_block::TripleKey;
 use er_base::NoMemory;
 use er_end::End;
 use er_settings::Settings;
 use key_store::{KeyFileFault, KeyStore};
+use rand_core::Rng;
 use std::alloc::Global;
 
 /// Octets that are read, or written, at once.
@@ -106,9 +108,24 @@ fn hear(end: &mut End, keys: &KeyStore, is_echo: bool, octets: &[u8], out: &mut 
     is_connected
 }
 
+// The train that is accepted behind so many others.
+fn accepted_behind(alloc: Global, others: u8) -> Result<Train, NoMemory> {
+    let ra = randoms_behind(others).next_u64();
+    Train::begin(alloc, others.saturating_add(5), ra)
+}
+
+/// So many trains, of which the first is accepted behind so many others.
+pub(crate) fn trains(alloc: Global, count: u8, others: u8) -> Result<Vec<Train>, NoMemory> {
+    let mut trains = Vec::new(alloc);
+    for place in 0..count {
+        trains.push(accepted_behind(alloc, others.saturating_add(place))?)?;
+    }
+    Ok(trains)
+}
+
 impl Train {
     /// The train of this engine, whose call is answered with this random number.
-    pub(crate) fn begin(alloc: Global, engine: u8, ra: u64) -> Result<Train, NoMemory> {
+    fn begin(alloc: Global, engine: u8, ra: u64) -> Result<Train, NoMemory> {
         let settings = Settings::usual();
         let engine = u32::from(engine);
         let rb = u64::from(engine);
