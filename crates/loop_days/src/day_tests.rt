@@ -23,6 +23,9 @@ const ORDERS: [[u8; 3]; 6] = [
     [2, 1, 0],
 ];
 
+// The position reports of a train.
+const REPORTS: u8 = 10;
+
 // The rounds in which each train speaks, from its call until all its reports were said back.
 const WHOLE: u8 = 16;
 
@@ -34,7 +37,7 @@ const LATE: &[u8] = &[0x7e, 0x01, 0x3f, 0xeb, 0xdf, 0x7e];
 
 // The script of a day. The wire of the second train fails at a write of its last round.
 fn day(alloc: Global, keys: &KeyStore, order: [u8; 3]) -> Result<Script, NoMemory> {
-    let mut trains = trains(alloc, 4, 0)?;
+    let mut trains = trains(alloc, 4, 0, REPORTS)?;
     let mut script = Script::new(alloc);
     for _ in 0..3 {
         script.accept()?;
@@ -60,7 +63,7 @@ fn day(alloc: Global, keys: &KeyStore, order: [u8; 3]) -> Result<Script, NoMemor
 
 // The script of one train.
 fn alone(alloc: Global, keys: &KeyStore, behind: u8) -> Result<Script, NoMemory> {
-    let mut train = trains(alloc, 1, behind)?;
+    let mut train = trains(alloc, 1, behind, REPORTS)?;
     let mut script = Script::new(alloc);
     script.accept()?;
     for _ in 0..WHOLE {

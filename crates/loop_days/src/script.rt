@@ -1,7 +1,8 @@
 //! What happens at wires in memory, act by act.
 
+use crate::serving::bring;
 use crate::train::Train;
-use er_base::{NoMemory, Octets};
+use er_base::NoMemory;
 use key_store::KeyStore;
 use link_trait::Act;
 use std::alloc::Global;
@@ -54,8 +55,7 @@ impl Script {
         conn: u64,
         octets: &[u8],
     ) -> Result<(), NoMemory> {
-        let octets = Octets::new(Vec::from_slice(alloc, octets)?);
-        self.act(Act::Bring { conn, octets }, 1)
+        self.act(bring(alloc, conn, octets)?, 1)
     }
 
     /// The train of this place sends what it has to send, if anything, over the connection of that place.
@@ -74,9 +74,8 @@ impl Script {
             return Ok(());
         }
         let conn = u64::from(place) + 1;
-        let octets = Octets::new(Vec::from_slice(alloc, piece.as_slice())?);
         let calls = if is_answered { 3 } else { 2 };
-        self.act(Act::Bring { conn, octets }, calls)
+        self.act(bring(alloc, conn, piece.as_slice())?, calls)
     }
 
     /// The train of this place leaves with this sub-reason.

@@ -1,13 +1,10 @@
 //! The smallest loops that serve.
 
-use crate::serving::HEADER;
-use er_settings::Settings;
+use crate::serving::{HEADER, Ran, clock_at_0, plan, randoms_behind};
 use er_users::{SafeUser, Silent};
 use key_store::KeyStore;
-use link_trait::{Act, MemoryClock, MemorySink, MemoryWires};
-use rand_core::SeedableRng;
-use rand_pcg::Lcg64Xsh32;
-use readiness_loop::{LinePlan, LoopFault, Served, Stop, serve};
+use link_trait::{Act, MemorySink, MemoryWires};
+use readiness_loop::{Served, Stop, serve};
 use std::alloc::Global;
 use std::test::Fail;
 
@@ -17,13 +14,6 @@ const SMALLEST: [(u8, u64, &str); 3] = [
     (0, 1, "> 0 1 unserved 0\n"),
     (1, 0, ""),
 ];
-
-// How a run ended, and what it printed.
-#[derive(Drop)]
-struct Ran {
-    end: Result<Served, LoopFault>,
-    sink: MemorySink,
-}
 
 // A peer is accepted.
 fn accepting(alloc: Global) -> Result<MemoryWires, Fail> {
@@ -35,23 +25,18 @@ fn accepting(alloc: Global) -> Result<MemoryWires, Fail> {
 // A run with so many users, and so many turns.
 fn smallest(alloc: Global, users: u8, turns: u64) -> Result<Ran, Fail> {
     let mut wires = accepting(alloc)?;
-    let moments = Vec::from_slice(alloc, &[0])?;
-    let mut clock = MemoryClock::new(moments);
+    let mut clock = clock_at_0(alloc)?;
     let mut sink = MemorySink::with_capacity(alloc, 1000)?;
-    let mut randoms = Lcg64Xsh32::seed_from_u64(1);
+    let mut randoms = randoms_behind(0);
     let keys = KeyStore::from_bytes(alloc, b"version = 2")?;
     let mut minds: Vec<Box<dyn SafeUser>> = Vec::new(alloc);
     for _ in 0..users {
         minds.push(Box::new(alloc, Silent::new())?)?;
     }
-    let plan = LinePlan {
-        settings: Settings::usual(),
-        turns,
-    };
     let end = serve(
         alloc,
         &keys,
-        &plan,
+        &plan(turns),
         "here",
         9,
         minds,

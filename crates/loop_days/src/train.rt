@@ -16,9 +16,6 @@ pub(crate) type Piece = ArrayVec<u8, 512>;
 /// The radio block centre that is called.
 pub(crate) const CENTRE: u32 = 9;
 
-/// The position reports of a day.
-pub(crate) const REPORTS: u8 = 10;
-
 /// The KMAC of every train.
 pub(crate) const KMAC: TripleKey = TripleKey {
     first: 0x0123456789abcdef,
@@ -60,6 +57,7 @@ pub(crate) struct Train {
     centre: End,
     next: Piece,
     is_connected: bool,
+    reports: u8,
     reported: u8,
 }
 
@@ -108,24 +106,29 @@ fn hear(end: &mut End, keys: &KeyStore, is_echo: bool, octets: &[u8], out: &mut 
     is_connected
 }
 
-// The train that is accepted behind so many others.
-fn accepted_behind(alloc: Global, others: u8) -> Result<Train, NoMemory> {
+// The train that is accepted behind so many others, with so many position reports.
+fn accepted_behind(alloc: Global, others: u8, reports: u8) -> Result<Train, NoMemory> {
     let ra = randoms_behind(others).next_u64();
-    Train::begin(alloc, others.saturating_add(5), ra)
+    Train::begin(alloc, others.saturating_add(5), ra, reports)
 }
 
-/// So many trains, of which the first is accepted behind so many others.
-pub(crate) fn trains(alloc: Global, count: u8, others: u8) -> Result<Vec<Train>, NoMemory> {
+/// So many trains, with so many position reports each, of which the first is accepted behind so many others.
+pub(crate) fn trains(
+    alloc: Global,
+    count: u8,
+    others: u8,
+    reports: u8,
+) -> Result<Vec<Train>, NoMemory> {
     let mut trains = Vec::new(alloc);
     for place in 0..count {
-        trains.push(accepted_behind(alloc, others.saturating_add(place))?)?;
+        trains.push(accepted_behind(alloc, others.saturating_add(place), reports)?)?;
     }
     Ok(trains)
 }
 
 impl Train {
     /// The train of this engine, whose call is answered with this random number.
-    fn begin(alloc: Global, engine: u8, ra: u64) -> Result<Train, NoMemory> {
+    fn begin(alloc: Global, engine: u8, ra: u64, reports: u8) -> Result<Train, NoMemory> {
         let settings = Settings::usual();
         let engine = u32::from(engine);
         let rb = u64::from(engine);
@@ -137,6 +140,7 @@ impl Train {
             centre: End::answer(alloc, &settings, CENTRE, ra, 0)?,
             next,
             is_connected: false,
+            reports,
             reported: 0,
         })
     }
@@ -157,7 +161,7 @@ impl Train {
 
     // The next position report, where there is one.
     fn report(&mut self) {
-        if self.is_connected && self.reported < REPORTS {
+        if self.is_connected && self.reported < self.reports {
             self.reported += 1;
             if let Ok(deeds) = self.end.send(0, &report(self.reported)) {
                 put(&mut self.next, deeds.out);

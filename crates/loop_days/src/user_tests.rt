@@ -90,14 +90,14 @@ fn begun(
 
 // What two trains do in three rounds.
 fn three_rounds(alloc: Global, keys: &KeyStore) -> Result<Script, NoMemory> {
-    let mut trains = trains(alloc, 2, 0)?;
+    let mut trains = trains(alloc, 2, 0, 10)?;
     let script = begun(alloc, keys, 3, &mut trains)?;
     Ok(script)
 }
 
 // What two trains do, of which the first takes nothing any more and leaves behind its third report, and the second is cut off.
 fn one_leaves(alloc: Global, keys: &KeyStore) -> Result<Script, NoMemory> {
-    let mut trains = trains(alloc, 2, 0)?;
+    let mut trains = trains(alloc, 2, 0, 10)?;
     let mut script = begun(alloc, keys, 5, &mut trains)?;
     script.stop_taking(1)?;
     script.leave(alloc, keys, 0, &mut trains, 7)?;
