@@ -74,7 +74,8 @@ compare tap "$work/tapped"
 
 # Which step printed which line.
 rows=$(printf 'tests/rows/%s/scenario ' hostile-wires-modulo-8 hostile-wires-modulo-128 sixteen-messages-wait sixteen-payloads-wait \
-  set-up-under-repeats lost-frame-go-back window-of-1 rnr-and-t1)
+  set-up-under-repeats lost-frame-go-back window-of-1 rnr-and-t1 hostile-selective-wires-modulo-8 hostile-selective-wires-modulo-128 \
+  selective-lost-and-repeated-frames)
 # shellcheck disable=SC2086
 steps=$(python3 tests/chart/followed-steps.py "$program" examples/*.drill $rows)
 judge "the steps of drills" "$(echo "$steps" | sed -E 's/^[0-9]{2,} drills, [0-9]{4,} steps$/all/')" "all"

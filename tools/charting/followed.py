@@ -27,16 +27,16 @@ SAFE_OUTCOMES = {"AU3": "connected", "AR": "connected", "DT": "accepted"}
 class Wire:
     """One link while its steps are followed: its chart, its stations, and the frames that wait in each direction."""
 
-    def __init__(self, link, level, settings):
-        self.level = level
+    def __init__(self, link, level, settings, selective):
+        self.level, self.selective = level, selective
         self.chart = Chart(link.name, SOURCE)
-        self.stations = {side: stations.Station(side, settings) for side in "er"}
+        self.stations = {side: stations.Station(side, settings, selective) for side in "er"}
         self.waiting = {"e": deque(), "r": deque()}
         self.passed = 0
         self.released = {"e": False, "r": False}
-        self.arrivals = conversation.Conversation(settings["modulo"], payloads=level == "full")
+        self.arrivals = conversation.Conversation(settings["modulo"], level == "full", selective)
         self.modulo = settings["modulo"]
-        self.decoder = Decoder(level, settings["modulo"], whole=True)
+        self.decoder = Decoder(level, settings["modulo"], True, selective)
         self.sent = {item.line: self.decoder.flights(item)[0] for item in link.items if item.kind == sources.OCTETS}
 
     def mark(self, flight, what, text):
@@ -48,7 +48,7 @@ class Wire:
 
     def glance(self, side, frame):
         """What one frame is by itself."""
-        return conversation.Conversation(self.modulo, payloads=False).look(side, frame)
+        return conversation.Conversation(self.modulo, False, self.selective).look(side, frame)
 
     def words(self, side, octets):
         """(words, kind, whether it is faulty) of octets by themselves, before they arrive: the frames that they close."""
@@ -156,7 +156,7 @@ class Follower:
         self.place += 1
         self.strays.append(item.line)
         if number not in self.wires:
-            self.wires[number] = Wire(self.links[number], self.drill.level, self.drill.settings)
+            self._wire(number, self.links[number])
         wire = self.wires[number]
         if item.kind == sources.OCTETS:
             flight = self._fly(wire, item, share=False)
@@ -197,13 +197,17 @@ class Follower:
 
     # Steps that open a link, of the users, and of time.
 
+    def _wire(self, number, link):
+        wire = self.wires[number] = Wire(link, self.drill.level, self.drill.settings, self.drill.selective)
+        return wire
+
     def _open(self, step):
         number = step.values[0]
         if number in self.wires:
             self.bad_steps.append(BadLine(step.line, f"link {number} is opened twice"))
             return
         link = self.links.get(number) or sources.Link("link", number)
-        wire = self.wires[number] = Wire(link, self.drill.level, self.drill.settings)
+        wire = self._wire(number, link)
         if step.word != "wire":
             name_end(wire.chart, "e", step.values[1])
             name_end(wire.chart, "r", step.values[2])
@@ -403,10 +407,11 @@ class Follower:
         if seen.control is not None and seen.control.name == "I":
             seen = wire.arrivals.look(OTHER[side], frame)
         closed, faulty = not station.may_send(), _link_fault(station, seen)
-        took = station.gets(seen, self.moment)
-        for word in ("up", "connected", "accepted", "released"):
+        taken = station.gets(seen, self.moment)
+        accepted = [("accepted", user) for user in _users(seen, taken)]
+        for word, user in [("up", None), ("connected", None)] + accepted + [("released", None)]:
             item = self._next(number, side, word)
-            if item is not None and _causes(item, seen, took, faulty):
+            if item is not None and _causes(item, seen, user, bool(taken), faulty):
                 self.place += 1
                 self._tell(wire, item)
         self._answer(number, side, _answer_to(station, seen, wire.released[side], closed))
@@ -444,23 +449,29 @@ class _SafeAnswer:
 
 def _link_fault(station, seen):
     """Whether a frame is one that an end of balanced mode releases at, with 1.3."""
-    if seen.control is None or seen.control.name == "SREJ":
+    if seen.control is None or seen.control.name == ("REJ" if station.selective else "SREJ"):
         return True
-    if seen.control.receive is not None and not station.valid(seen.control.receive):
+    if seen.control.receive is not None and seen.control.name != "SREJ" and not station.valid(seen.control.receive):
         return True
     if seen.control.name in stations.SET_UP and (station.side == "e" or station.taken > 0):
         return True
     return bool(seen.information) and seen.control.name not in ("I", "FRMR")
 
 
-def _causes(item, seen, took, faulty):
-    """Whether an end can tell this at this frame."""
+def _users(seen, taken):
+    """The users' octets in what an end takes at a frame."""
+    if seen.carried is None:
+        return taken
+    return [seen.sapdu.user] if taken and seen.sapdu is not None else []
+
+
+def _causes(item, seen, user, took, faulty):
+    """Whether an end can tell this at this frame, of these octets of a user."""
     name = seen.control.name if seen.control else ""
     if item.word == "up":
         return name in stations.SET_UP or name == "UA"
     if item.word == "accepted":
-        user = seen.information if seen.carried is None else seen.sapdu.user if seen.sapdu is not None else None
-        return took and user == item.octets
+        return user == item.octets
     if item.word == "released" and item.words[:2] == ("1", "3"):
         return faulty
     if item.word == "released" and item.words[0] == "1" and item.words[2] == "local":
@@ -477,5 +488,7 @@ def _answer_to(station, seen, released, closed):
     if name in stations.SET_UP:
         return stations.Answer(station, named=["UA"])
     if name == "I":
-        return stations.Answer(station, supervisory=True, tpdus=OWN_TPDUS, opened=opened)
+        return stations.Answer(station, supervisory=not station.holds, asks=station.asks, tpdus=OWN_TPDUS, opened=opened)
+    if name == "SREJ":
+        return stations.Answer(station, again=int(station.asked_for(seen.control)), only=seen.control.receive)
     return stations.Answer(station, again=station.outstanding if name == "REJ" else 0, tpdus=OWN_TPDUS)

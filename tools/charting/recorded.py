@@ -20,9 +20,9 @@ class Decoder:
     """The frames of one link, decoded in order, with the words for a chart. Where `whole` is set each piece is one frame from flag to flag, as a
     drill prints them; one that isn't is kept in `bad`."""
 
-    def __init__(self, level, modulo=None, whole=False):
+    def __init__(self, level, modulo=None, whole=False, selective=False):
         self.level, self.whole = level, whole
-        self.talk = conversation.Conversation(modulo, payloads=level != "link")
+        self.talk = conversation.Conversation(modulo, level != "link", selective)
         self.before = {"e": {}, "r": {}}
         self.bad = []
 

@@ -1,7 +1,7 @@
 """Which frames an end may send at an event, by the rules of balanced mode (ISO/IEC 13239, elements of procedure, with this profile's choices).
 
 What a drill prints doesn't say which step made an end send a frame. It can be told from the numbers: a frame names how many I frames its station
-took, a new I frame goes only while the window is open, and only an expiry of T1 or a REJ makes frames come again. A station here follows the
+took, a new I frame goes only while the window is open, and only an expiry of T1, a REJ or a SREJ makes frames come again. A station here follows the
 frames that its end sent and got; `Answer` tells of the next frame of the text whether it belongs to the event at hand.
 """
 from decoding import controls
@@ -12,16 +12,19 @@ SET_UP = ("SABM", "SABME")
 
 
 class Station:
-    """The counts of one end: its state, how many I frames it sent, how many of them the peer acknowledged, how many it took itself."""
+    """The counts of one end: its state, how many I frames it sent, how many of them the peer acknowledged, how many it took itself. With
+    selective reject it holds frames behind a gap too, and asks for each of the gap once."""
 
-    def __init__(self, side, settings):
-        self.side = side
+    def __init__(self, side, settings, selective=False):
+        self.side, self.selective = side, selective
         self.modulo, self.window, self.t1 = settings["modulo"], settings["window"], settings["t1"]
         self.state = IDLE
         self.sent = self.acknowledged = self.taken = 0
         self.busy = False
         self.due = None
         self.pending = 0  # segments, or payloads at level link, that the user gave and that weren't sent yet
+        self.held, self.asked = {}, set()
+        self.asks, self.holds = [], False  # at the newest frame: the numbers that it asks for, and whether it holds it
 
     @property
     def outstanding(self):
@@ -65,18 +68,39 @@ class Station:
         return not (self.state == SETTING and control.name in ("I",) + SUPERVISORY)
 
     def gets(self, seen, moment):
-        """It got this frame, which it heeds. Answers whether it is an I frame that it takes."""
+        """It got this frame, which it heeds. Answers the information that it takes: of an I frame, and of those held behind it."""
         name = seen.control.name if seen.control else ""
+        self.asks, self.holds = [], False
         if name in SET_UP and self.side == "r" and self.taken == 0:
-            self.state = UP
+            self.state, self.held, self.asked = UP, {}, set()
         elif name == "UA" and self.state == SETTING:
             self.state, self.due = UP, None
+        elif name == "SREJ" and self.selective:
+            self.due = moment + self.t1 if self.asked_for(seen.control) else self.due
         elif name in ("I",) + SUPERVISORY and self.valid(seen.control.receive):
             self._acknowledged(seen.control, moment)
-            if name == "I" and seen.control.send == self.taken % self.modulo:
-                self.taken += 1
-                return True
-        return False
+            return self._files(seen) if name == "I" else []
+        return []
+
+    def asked_for(self, control):
+        """Whether a SREJ names a frame that isn't acknowledged."""
+        return (control.receive - self.acknowledged) % self.modulo < self.outstanding
+
+    def _files(self, seen):
+        """Takes an I frame that is the next one; with selective reject holds one behind it, up to the window."""
+        ahead = (seen.control.send - self.taken) % self.modulo
+        number = self.taken + ahead
+        if ahead >= (self.window if self.selective else 1) or number in self.held:
+            return []
+        self.held[number], self.holds = seen.information, ahead > 0
+        self.asks = [gap for gap in range(self.taken, number) if gap not in self.held and gap not in self.asked]
+        self.asked.update(self.asks)
+        taken = []
+        while self.taken in self.held:
+            taken.append(self.held.pop(self.taken))
+            self.taken += 1
+        self.asked = {gap for gap in self.asked if gap >= self.taken}
+        return taken
 
     def _acknowledged(self, control, moment):
         rise = (control.receive - self.acknowledged) % self.modulo
@@ -97,11 +121,13 @@ class Station:
 
 
 class Answer:
-    """The frames that a station sends at one event: how many I frames may come again, whether one S frame, which unnumbered ones, and which TPDUs
-    new I frames may carry besides what the user waits to have sent. `everything` takes all, as behind a release: they are an end's last."""
+    """The frames that a station sends at one event: how many I frames may come again, or the one whose number is `only`, whether one S frame, the
+    numbers that SREJs ask for before it, which unnumbered ones, and which TPDUs new I frames may carry besides what the user waits to have sent.
+    `everything` takes all, as behind a release: they are an end's last."""
 
-    def __init__(self, station, again=0, supervisory=False, named=(), tpdus=(), everything=False, opened=False):
+    def __init__(self, station, again=0, only=None, supervisory=False, asks=(), named=(), tpdus=(), everything=False, opened=False):
         self.station, self.again, self.supervisory, self.named = station, again, supervisory, list(named)
+        self.only, self.asks = only, [number % station.modulo for number in asks]
         self.tpdus, self.everything, self.opened = list(tpdus), everything, opened
         self.ended = False
 
@@ -115,11 +141,13 @@ class Answer:
         if name in self.named:
             self.named.remove(name)
             return True
+        if name == "SREJ":
+            return bool(self.asks) and self.asks.pop(0) == seen.control.receive
         if seen.control.receive is None or seen.control.receive != station.taken % station.modulo:
             return False
         if name == "I" and not seen.new:
             self.again -= 1
-            return self.again >= 0
+            return self.again >= 0 and self.only in (None, seen.control.send)
         return self._new(seen) if name == "I" else self._answers()
 
     def _new(self, seen):

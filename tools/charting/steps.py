@@ -4,7 +4,9 @@ from typing import Dict, List
 
 from decoding.sources import BadLine, BadWord, decimal, octets_of, side_of
 
-LEVELS = ("safe", "link", "full")
+LEVELS = ("safe", "link", "link-sr", "full")
+# The window at level link-sr where no line says it.
+SELECTIVE_WINDOW = 4
 # The settings: each name with what it is where no line says it, and the numbers that it takes.
 SETTINGS = {"modulo": (8, (8, 128)), "window": (7, range(1, 32)), "credit": (15, range(1, 16)), "size": (128, (128, 256, 512, 1024)),
             "t1": (1000, range(100, 60001)), "n2": (5, range(1, 11)), "setup": (40000, range(1000, 600001)), "show": (0, (0, 1))}
@@ -25,9 +27,10 @@ class Step:
 
 @dataclass
 class Drill:
-    """A drill file that was read."""
+    """A drill file that was read. Level link-sr is level link with stations that are `selective`: they have selective reject."""
 
     level: str = ""
+    selective: bool = False
     settings: Dict[str, int] = field(default_factory=lambda: {name: usual for name, (usual, _) in SETTINGS.items()})
     steps: List[Step] = field(default_factory=list)
     bad: List[BadLine] = field(default_factory=list)
@@ -50,8 +53,10 @@ def read(text):
 def _line(drill, number, words):
     if not drill.level:
         if words[:2] != ["drill", "1"] or len(words) != 3 or words[2] not in LEVELS:
-            raise BadWord("no header of a drill: `drill 1 safe`, `drill 1 link` or `drill 1 full` is wanted")
-        drill.level = words[2]
+            raise BadWord("no header of a drill: `drill 1 safe`, `drill 1 link`, `drill 1 link-sr` or `drill 1 full` is wanted")
+        drill.level, drill.selective = words[2].removesuffix("-sr"), words[2] == "link-sr"
+        if drill.selective:
+            drill.settings["window"] = SELECTIVE_WINDOW
     elif words[0] == "set":
         if len(words) != 3 or words[1] not in SETTINGS or decimal(words[2]) not in SETTINGS[words[1]][1]:
             raise BadWord(f"no setting: {' '.join(words[1:])[:40]}")

@@ -98,12 +98,14 @@ class Direction:
 
 class Conversation:
     """Both directions of one link. `modulo` is 8 or 128; where it is None, the first SABM or SABME of the link tells it, and it is 8 till then.
-    `payloads` False leaves the information of I frames unread, as at level link, where it is the user's own."""
+    `payloads` False leaves the information of I frames unread, as at level link, where it is the user's own. `selective` says that the stations
+    have selective reject."""
 
-    def __init__(self, modulo=None, payloads=True):
+    def __init__(self, modulo=None, payloads=True, selective=False):
         self.told = modulo
         self.modulo = modulo or 8
         self.payloads = payloads
+        self.selective = selective
         self.size = transport.GREATEST_SIZE
         self.directions = {side: Direction(side) for side in "er"}
 
@@ -142,8 +144,8 @@ class Conversation:
         own, peer = controls.ADDRESSES[seen.side], controls.ADDRESSES[OTHER[seen.side]]
         if address not in (own, peer) or name in controls.COMMANDS and address != peer or name in controls.RESPONSES and address != own:
             return Fault("stray address", None, octet=f"{address:02x}")
-        if name == "SREJ":
-            return Fault("SREJ", "1.3")
+        if name == ("REJ" if self.selective else "SREJ"):
+            return Fault(name, "1.3")
         if seen.information and name not in ("I", "FRMR"):
             return Fault("information", "1.3", control=name)
         if name in ("SABM", "SABME") and seen.side == "r":

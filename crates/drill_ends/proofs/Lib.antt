@@ -1,5 +1,7 @@
 pub mod SafeRows
 pub mod StationFrames
+pub mod Fitting
+pub mod EitherCalls
 pub mod StationCalls
 pub mod StationRows
 pub mod StackMoments

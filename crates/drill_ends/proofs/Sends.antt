@@ -7,7 +7,8 @@ use Rattle.er_base.specs.declared.release.Release.{Release}
 use Rattle.des_block.specs.declared.triple_key.TripleKey.{TripleKey}
 use Rattle.hdlc_frames.specs.Framing.{Verdict}
 use Rattle.station_model.specs.Stations.{Station, Deed as LinkDeed, is_down}
-use Rattle.station_model.specs.Calls.{starts as begins_station, receives, hands, ticks as station_ticks, finishes as owes}
+use Rattle.station_model.specs.Calls.{starts as begins_station, hands, ticks as station_ticks, finishes as owes}
+use Rattle.station_model.specs.Selective.{receives_as}
 use Rattle.station_model.specs.Events.{said_octets, news, quits, is_late, news as stack_news}
 use Rattle.t70_header.specs.Joining as joining
 use Rattle.x224_class2.specs.Tpdus.{Dr, Dc}
@@ -30,12 +31,12 @@ use Rattle.end_model.specs.Ends.{End as Stack, finds_expired}
 use Rattle.drill_model.specs.Outcomes.{Outcome, OfSafety, Handed, Arrived, Up, Took, NothingToTake, Released as ReleasedOut, Frame, Expired, UserReleased, Passed, Lost, Repeated, Altered, Inserted, NothingWaits, IsShort}
 use Rattle.drill_model.specs.Outcomes as outcome
 use Rattle.drill_model.specs.Kinds.{sent_in}
-use Rattle.drill_model.specs.StationEnds.{if_up, if_arrived, if_released, if_expired, told_by, frames_heard, handed_unless, user_sends, user_releases, time_goes_on}
+use Rattle.drill_model.specs.StationEnds.{if_up, if_arrived, all_arrived, if_released, if_expired, told_by, frames_heard, handed_unless, user_sends, user_releases, time_goes_on}
 use Rattle.drill_model.specs.StationEnds as stations
 use Rattle.drill_model.specs.StackEnds.{facts_told, told_at, stack_told, told_unless, took}
 use Rattle.drill_model.specs.Ends.{End, OfSafe, OfStation, OfStack, EndEvent, Start, Receive, Send, Take, Release as Leave, Tick, safety_event, outcomes_by, safe_end_step, station_end_step, stack_end_step, end_step}
 use Rattle.drill_ends.specs.declared.told.Told.{Told}
-use Rattle.drill_ends.specs.Tellings.{IsToldFact, IsTold, EachTold, heard_in}
+use Rattle.drill_ends.specs.Tellings.{IsToldFact, IsTold, EachTold, heard_of, heard_in}
 use Rattle.drill_ends.specs.SendCounts.{is_refusal, begins_refused, sent_at, SendsAreTold}
 
 -- ---- of outcomes
@@ -183,41 +184,70 @@ safe_sends only key_of s Take = refl
 safe_sends only key_of s (Leave sub) = outcome_unsent key_of s (DisconnectRequest sub) tt (step key_of s (DisconnectRequest sub)).0 [] (step key_of s (DisconnectRequest sub)).1 (only key_of s (DisconnectRequest sub))
 safe_sends only key_of s Tick = refl
 
--- ---- level link
+-- ---- levels link and link-sr
 
-call_unsent : (up : Bool) (payload : Option (List ℕ)) (release : Option Release) (frames : List (List ℕ))
-    → sent_of (((if_up up ++ if_arrived payload) ++ if_released release) ++ map Frame frames) ≡ 0
-call_unsent true None None frames = frames_unsent frames
-call_unsent true None (Some release) frames = frames_unsent frames
-call_unsent true (Some payload) None frames = frames_unsent frames
-call_unsent true (Some payload) (Some release) frames = frames_unsent frames
-call_unsent false None None frames = frames_unsent frames
-call_unsent false None (Some release) frames = frames_unsent frames
-call_unsent false (Some payload) None frames = frames_unsent frames
-call_unsent false (Some payload) (Some release) frames = frames_unsent frames
+arrived_unsent : (more : List (List ℕ)) → sent_of (map Arrived more) ≡ 0
+arrived_unsent [] = refl
+arrived_unsent (payload ∷ more) = arrived_unsent more
 
-call_begins : (up : Bool) (payload : Option (List ℕ)) (release : Option Release) (frames : List (List ℕ))
-    → begins_so (heard_in (((if_up up ++ if_arrived payload) ++ if_released release) ++ map Frame frames)) ≡ false
-call_begins true None None frames = refl
-call_begins true None (Some release) frames = refl
-call_begins true (Some payload) None frames = refl
-call_begins true (Some payload) (Some release) frames = refl
-call_begins false None None frames = frames_begin frames
-call_begins false None (Some release) frames = refl
-call_begins false (Some payload) None frames = refl
-call_begins false (Some payload) (Some release) frames = refl
+up_unsent : (up : Bool) → sent_of (if_up up) ≡ 0
+up_unsent true = refl
+up_unsent false = refl
+
+payload_unsent : (payload : Option (List ℕ)) → sent_of (if_arrived payload) ≡ 0
+payload_unsent None = refl
+payload_unsent (Some payload) = refl
+
+release_unsent : (release : Option Release) → sent_of (if_released release) ≡ 0
+release_unsent None = refl
+release_unsent (Some release) = refl
 
 station_unsent : (s : Station) → sent_of (told_by s) ≡ 0
-station_unsent s = call_unsent s.deed.up s.deed.payload s.deed.released (said_octets s)
+station_unsent s =
+    sent_more ((if_up s.deed.up ++ all_arrived s.deed) ++ if_released s.deed.released) (map Frame (said_octets s))
+    (sent_more (if_up s.deed.up ++ all_arrived s.deed) (if_released s.deed.released)
+    (sent_more (if_up s.deed.up) (all_arrived s.deed) (up_unsent s.deed.up)
+    (sent_more (if_arrived s.deed.payload) (map Arrived s.deed.more) (payload_unsent s.deed.payload) (arrived_unsent s.deed.more)))
+    (release_unsent s.deed.released))
+    (frames_unsent (said_octets s))
+
+begins_more : (xs ys : List Outcome) → begins_so (heard_in xs) ≡ false → begins_so (heard_in ys) ≡ false → begins_so (heard_in (xs ++ ys)) ≡ false
+begins_more xs ys one two = ap begins_so (flat_map-append heard_of xs ys) ∙ either (heard_in xs) (heard_in ys) one two
+  where
+    either : (os ps : List Outcome) → begins_so os ≡ false → begins_so ps ≡ false → begins_so (os ++ ps) ≡ false
+    either [] ps one two = two
+    either (o ∷ os) ps one two = one
+
+arrived_begin : (more : List (List ℕ)) → begins_so (heard_in (map Arrived more)) ≡ false
+arrived_begin [] = refl
+arrived_begin (payload ∷ more) = refl
+
+up_begins : (up : Bool) → begins_so (heard_in (if_up up)) ≡ false
+up_begins true = refl
+up_begins false = refl
+
+payload_begins : (payload : Option (List ℕ)) → begins_so (heard_in (if_arrived payload)) ≡ false
+payload_begins None = refl
+payload_begins (Some payload) = refl
+
+release_begins : (release : Option Release) → begins_so (heard_in (if_released release)) ≡ false
+release_begins None = refl
+release_begins (Some release) = refl
 
 station_begins : (s : Station) → begins_so (heard_in (told_by s)) ≡ false
-station_begins s = call_begins s.deed.up s.deed.payload s.deed.released (said_octets s)
+station_begins s =
+    begins_more ((if_up s.deed.up ++ all_arrived s.deed) ++ if_released s.deed.released) (map Frame (said_octets s))
+    (begins_more (if_up s.deed.up ++ all_arrived s.deed) (if_released s.deed.released)
+    (begins_more (if_up s.deed.up) (all_arrived s.deed) (up_begins s.deed.up)
+    (begins_more (if_arrived s.deed.payload) (map Arrived s.deed.more) (payload_begins s.deed.payload) (arrived_begin s.deed.more)))
+    (release_begins s.deed.released))
+    (frames_begin (said_octets s))
 
-heard_unsent : (moment : ℕ) (verdicts : List Verdict) (s : Station) → sent_of (frames_heard moment verdicts s).1 ≡ 0
-heard_unsent moment [] s = refl
-heard_unsent moment (verdict ∷ verdicts) s =
-    let t : Station = owes (receives moment verdict s) in
-    sent_more (told_by t) (frames_heard moment verdicts (stations.called t).0).1 (station_unsent t) (heard_unsent moment verdicts (stations.called t).0)
+heard_unsent : (selective : Bool) (moment : ℕ) (verdicts : List Verdict) (s : Station) → sent_of (frames_heard selective moment verdicts s).1 ≡ 0
+heard_unsent selective moment [] s = refl
+heard_unsent selective moment (verdict ∷ verdicts) s =
+    let t : Station = owes (receives_as selective moment verdict s) in
+    sent_more (told_by t) (frames_heard selective moment verdicts (stations.called t).0).1 (station_unsent t) (heard_unsent selective moment verdicts (stations.called t).0)
 
 hands_once : (refusal : Option outcome.SendRefusal) (moment : ℕ) (payload : List ℕ) (s : Station)
     → let os = (handed_unless refusal moment payload s).1 in sent_of os ≡ (if begins_so (heard_in os) then 0 else 1)
@@ -230,13 +260,13 @@ quits_unsent : (b : Bool) (sub : ℕ) (s : Station) → sent_of (if b then (s, [
 quits_unsent true sub s = refl
 quits_unsent false sub s = station_unsent (quits sub s)
 
-station_sends : (moment : ℕ) (s : Station) (stream : List ℕ) (event : EndEvent) → SendsSo event (station_end_step moment s stream event).1
-station_sends moment s stream Start = station_unsent (owes (begins_station moment s))
-station_sends moment s stream (Receive octets) = heard_unsent moment (news stream octets) s
-station_sends moment s stream (Send payload) = hands_once (stations.refusal_of s payload s.released) moment payload s
-station_sends moment s stream Take = refl
-station_sends moment s stream (Leave sub) = quits_unsent (is_down s.phase) sub s
-station_sends moment s stream Tick =
+station_sends : (selective : Bool) (moment : ℕ) (s : Station) (stream : List ℕ) (event : EndEvent) → SendsSo event (station_end_step selective moment s stream event).1
+station_sends selective moment s stream Start = station_unsent (owes (begins_station moment s))
+station_sends selective moment s stream (Receive octets) = heard_unsent selective moment (news stream octets) s
+station_sends selective moment s stream (Send payload) = hands_once (stations.refusal_of s payload s.released) moment payload s
+station_sends selective moment s stream Take = refl
+station_sends selective moment s stream (Leave sub) = quits_unsent (is_down s.phase) sub s
+station_sends selective moment s stream Tick =
     expired_unsent (is_late moment s) (told_by (owes (station_ticks moment s))) (station_unsent (owes (station_ticks moment s)))
 
 -- ---- level full: what the safety side said in an event
@@ -442,7 +472,7 @@ module _ (only : StepsOnly) where
 
   sends_so : (key_of : ℕ → ℕ → Option TripleKey) (moment : ℕ) (end : End) (event : EndEvent) → SendsSo event (end_step key_of moment end event).1
   sends_so key_of moment (OfSafe s) event = safe_sends only key_of s event
-  sends_so key_of moment (OfStation s stream) event = station_sends moment s stream event
+  sends_so key_of moment (OfStation selective s stream) event = station_sends selective moment s stream event
   sends_so key_of moment (OfStack m) event = stack_sends_so key_of moment m event
 
   -- by what was told

@@ -7,20 +7,25 @@ use Rattle.er_base.specs.Stored.{Stored}
 use Rattle.er_base.specs.declared.release.Release.{Release}
 use Rattle.er_base.specs.declared.cause.Cause.TheVariants.{User}
 use Rattle.er_base.specs.Causes.{release_of}
+use Rattle.hdlc_frames.specs.Framing.{Verdict}
 use Rattle.station_model.specs.Frames.{Frame, sent_octets}
-use Rattle.station_model.specs.Stations.{Station, Deed, no_deed}
+use Rattle.station_model.specs.Stations.{Station, Deed, no_deed, settled}
 use Rattle.station_model.specs.Sending.{waiting}
 use Rattle.station_model.specs.Calls.{closes, hands, finishes}
+use Rattle.station_model.specs.Selective.{receives_as}
 use Rattle.station_model.specs.Events.{said_octets, quits}
-use Rattle.hdlc_balanced.specs.Kept.{Kept, texts, Stands}
-use Rattle.drill_model.specs.Outcomes.{Outcome, RefusedFull, Frame as FrameOut}
-use Rattle.drill_model.specs.StationEnds.{if_up, if_arrived, if_released, told_by, called, refusal_of, handed_unless}
+use Rattle.hdlc_balanced.specs.Kept.{texts}
+use Rattle.drill_model.specs.Outcomes.{Outcome, RefusedFull, Arrived, Frame as FrameOut}
+use Rattle.drill_model.specs.StationEnds.{if_up, if_arrived, all_arrived, if_released, told_by, called, refusal_of, handed_unless}
 use Rattle.drill_ends.specs.declared.told.Told.{Told}
 use Rattle.drill_ends.specs.declared.told.Told.TheVariants as told
 use Rattle.drill_ends.specs.declared.refusal.Refusal.TheVariants as refusal
 use Rattle.drill_ends.specs.Tellings.{EachTold, AreTold, heard_of, heard_in}
+use Rattle.drill_ends.specs.declared.either_station.EitherStation.{EitherStation}
+use Rattle.drill_ends.specs.declared.either_station.EitherStation.TheVariants as either
+use Rattle.drill_ends.specs.EitherStations.{Keeps, StandsInCall}
 use Rattle.drill_ends.specs.KeptStations.{StandsQuiet}
-use Rattle.drill_ends.specs.StationEnds.{told_up, told_arrived, told_released, told_deed, told_frames, TellsFrames, CallDid}
+use Rattle.drill_ends.specs.StationEnds.{told_up, told_arrived, told_payloads, told_released, told_deed, told_frames, TellsFrames, Heard, CallDid}
 
 -- ---- what is told one behind another
 
@@ -44,6 +49,14 @@ arrived_told : (payload : Option (List ℕ)) → AreTold (if_arrived payload) (t
 arrived_told None = tt
 arrived_told (Some payload) = (refl, tt)
 
+more_told : (more : List (List ℕ)) → AreTold (map Arrived more) (map told.Arrived more)
+more_told [] = tt
+more_told (payload ∷ more) = (refl, more_told more)
+
+payloads_told : (d : Deed) → AreTold (all_arrived d) (told_payloads d)
+payloads_told d =
+    told_append (if_arrived d.payload) (map Arrived d.more) (told_arrived d.payload) (map told.Arrived d.more) (arrived_told d.payload) (more_told d.more)
+
 pub released_told : (release : Option Release) → AreTold (if_released release) (told_released release)
 released_told None = tt
 released_told (Some release) = (refl, tt)
@@ -54,51 +67,63 @@ frames_told calling extended (f ∷ frames) = (refl, frames_told calling extende
 
 call_told : (t : Station) → AreTold (told_by t) (told_deed t.deed ++ told_frames t.calling t.extended t.said)
 call_told t =
-    told_append ((if_up t.deed.up ++ if_arrived t.deed.payload) ++ if_released t.deed.released) (map FrameOut (said_octets t))
+    told_append ((if_up t.deed.up ++ all_arrived t.deed) ++ if_released t.deed.released) (map FrameOut (said_octets t))
     (told_deed t.deed) (told_frames t.calling t.extended t.said)
-    (told_append (if_up t.deed.up ++ if_arrived t.deed.payload) (if_released t.deed.released) (told_up t.deed.up ++ told_arrived t.deed.payload) (told_released t.deed.released)
-    (told_append (if_up t.deed.up) (if_arrived t.deed.payload) (told_up t.deed.up) (told_arrived t.deed.payload) (up_told t.deed.up) (arrived_told t.deed.payload))
+    (told_append (if_up t.deed.up ++ all_arrived t.deed) (if_released t.deed.released) (told_up t.deed.up ++ told_payloads t.deed) (told_released t.deed.released)
+    (told_append (if_up t.deed.up) (all_arrived t.deed) (told_up t.deed.up) (told_payloads t.deed) (up_told t.deed.up) (payloads_told t.deed))
     (released_told t.deed.released))
     (frames_told t.calling t.extended t.said)
 
--- between two calls, with an empty room
-pub call_begins : (k : Kept) (s : Station) (room : Stored) → StandsQuiet k s → room.items ≡ [] → Stands k [] room no_deed s
-call_begins k s room h empty = record {
-  is = h.is;
-  order = h.order;
-  given = h.given;
-  deed = h.deed;
-  text = empty ∙ sym (ap (texts k.calling k.extended) h.said);
-}
+-- what is kept says nothing of the call
+keeps_settled : (k : EitherStation) (selective : Bool) (s : Station) → Keeps k selective s → Keeps k selective (settled s)
+keeps_settled (either.GoBack k) true s h = absurd h
+keeps_settled (either.GoBack k) false s h = h
+keeps_settled (either.Selective k) true s h = record { core = h.core; behind = h.behind; no_gap = h.no_gap }
+keeps_settled (either.Selective k) false s h = absurd h
 
--- and behind it: what the call told, and then its frames
-pub call_ends : (k : Kept) (room : Stored) (d : Deed) (t : Station) (before between now : List Told)
-    → Stands k [] room d t → between ≡ before ++ told_deed d → TellsFrames room.items between now → CallDid k before now (called t)
-call_ends k room d t before between now h tells frames =
-    let calling : k.calling ≡ t.calling = ap (λ (x : Kept). x.calling) h.is in
-    let extended : k.extended ≡ t.extended = ap (λ (x : Kept). x.extended) h.is in
-    let deed : told_deed d ≡ told_deed t.deed = ap told_deed (sym h.deed) in
-    let sent : told_frames k.calling k.extended t.said ≡ told_frames t.calling t.extended t.said =
-    ap (λ (b : Bool). told_frames b k.extended t.said) calling ∙ ap (λ (b : Bool). told_frames t.calling b t.said) extended in
-    record {
-      stands = record { is = h.is; order = h.order; given = h.given; said = refl; deed = refl };
-      list = told_deed t.deed ++ told_frames t.calling t.extended t.said;
-      grew = frames k.calling k.extended t.said h.text
-          ∙ ap (λ (xs : List Told). xs ++ told_frames k.calling k.extended t.said) tells
-          ∙ append_assoc before (told_deed d) (told_frames k.calling k.extended t.said)
-          ∙ ap (λ (xs : List Told). before ++ (xs ++ told_frames k.calling k.extended t.said)) deed
-          ∙ ap (λ (xs : List Told). before ++ (told_deed t.deed ++ xs)) sent;
-      told = call_told t;
-    }
+module _ (selective : Bool) where
+  -- between two calls, with an empty room
+  pub call_begins : (k : EitherStation) (s : Station) (room : Stored) → StandsQuiet k selective s → room.items ≡ [] → StandsInCall k selective [] room no_deed s
+  call_begins k s room h empty = record {
+    keeps = h.keeps;
+    order = h.order;
+    given = h.given;
+    deed = h.deed;
+    text = empty ∙ sym (ap (texts s.calling s.extended) h.said);
+  }
 
--- a call at a moment
-pub stands_at : (call : ℕ → Station → Station) (k : Kept) (room : Stored) (d : Deed) (s : Station) (a b : ℕ) → a ≡ b
-    → Stands k [] room d (call a s) → Stands k [] room d (call b s)
-stands_at call k room d s a b same h = subst (λ (n : ℕ). Stands k [] room d (call n s)) same h
+  -- and behind it: what the call told, and then its frames
+  pub call_ends : (k : EitherStation) (room : Stored) (d : Deed) (t : Station) (before between now : List Told)
+      → StandsInCall k selective [] room d t → between ≡ before ++ told_deed d → TellsFrames room.items between now → CallDid k selective before now (called t)
+  call_ends k room d t before between now h tells frames =
+      let deed : told_deed d ≡ told_deed t.deed = ap told_deed (sym h.deed) in
+      record {
+        stands = record { keeps = keeps_settled k selective t h.keeps; order = h.order; given = h.given; said = refl; deed = refl };
+        list = told_deed t.deed ++ told_frames t.calling t.extended t.said;
+        grew = frames t.calling t.extended t.said h.text
+            ∙ ap (λ (xs : List Told). xs ++ told_frames t.calling t.extended t.said) tells
+            ∙ append_assoc before (told_deed d) (told_frames t.calling t.extended t.said)
+            ∙ ap (λ (xs : List Told). before ++ (xs ++ told_frames t.calling t.extended t.said)) deed;
+        told = call_told t;
+      }
 
--- what is kept of a side of a model, as the code has it inside
-pub begins_inside : (inside k : Kept) (s : Station) (room : Stored) → inside ≡ k → StandsQuiet k s → room.items ≡ [] → Stands inside [] room no_deed s
-begins_inside inside k s room is h empty = subst (λ (x : Kept). Stands x [] room no_deed s) (sym is) (call_begins k s room h empty)
+  -- a call at a moment
+  pub stands_at : (call : ℕ → Station → Station) (k : EitherStation) (room : Stored) (d : Deed) (s : Station) (a b : ℕ) → a ≡ b
+      → StandsInCall k selective [] room d (call a s) → StandsInCall k selective [] room d (call b s)
+  stands_at call k room d s a b same h = subst (λ (n : ℕ). StandsInCall k selective [] room d (call n s)) same h
+
+  pub heard_at : (verdict : Verdict) (k : EitherStation) (room : Stored) (before now : List Told) (released : Option Release) (s : Station) (a b : ℕ) → a ≡ b
+      → Heard k selective [] room before now released (receives_as selective a verdict s) → Heard k selective [] room before now released (receives_as selective b verdict s)
+  heard_at verdict k room before now released s a b same h =
+      subst (λ (n : ℕ). Heard k selective [] room before now released (receives_as selective n verdict s)) same h
+
+  -- what is kept of a side of a model, as the code has it inside
+  pub keeps_inside : (inside k : EitherStation) (s : Station) → inside ≡ k → StandsQuiet k selective s → Keeps inside selective s
+  keeps_inside inside k s is h = subst (λ (x : EitherStation). Keeps x selective s) (sym is) h.keeps
+
+  pub begins_inside : (inside k : EitherStation) (s : Station) (room : Stored) → inside ≡ k → StandsQuiet k selective s → room.items ≡ []
+      → StandsInCall inside selective [] room no_deed s
+  begins_inside inside k s room is h empty = subst (λ (x : EitherStation). StandsInCall x selective [] room no_deed s) (sym is) (call_begins k s room h empty)
 
 -- nothing was told
 pub nothing_told : (before : List Told) → before ≡ before ++ told_deed no_deed
@@ -106,9 +131,16 @@ nothing_told before = sym (append-nil before)
 
 -- ---- the user releases
 
-pub quit_stands : (k : Kept) (room : Stored) (sub : ℕ) (s : Station) → Stands k [] room no_deed (closes s)
-    → Stands k [] room (record { up = false; payload = None; more = []; released = Some (release_of (User sub)) }) (quits sub s)
-quit_stands k room sub s h = record { is = h.is; order = h.order; given = h.given; deed = refl; text = h.text }
+keeps_quit : (k : EitherStation) (selective : Bool) (sub : ℕ) (s : Station) → Keeps k selective (closes s) → Keeps k selective (quits sub s)
+keeps_quit (either.GoBack k) true sub s h = absurd h
+keeps_quit (either.GoBack k) false sub s h = h
+keeps_quit (either.Selective k) true sub s h = record { core = h.core; behind = h.behind; no_gap = h.no_gap }
+keeps_quit (either.Selective k) false sub s h = absurd h
+
+pub quit_stands : (selective : Bool) (k : EitherStation) (room : Stored) (sub : ℕ) (s : Station) → StandsInCall k selective [] room no_deed (closes s)
+    → StandsInCall k selective [] room (record { up = false; payload = None; more = []; released = Some (release_of (User sub)) }) (quits sub s)
+quit_stands selective k room sub s h =
+    record { keeps = keeps_quit k selective sub s h.keeps; order = h.order; given = h.given; deed = refl; text = h.text }
 
 -- ---- the user sends
 
@@ -128,20 +160,21 @@ full_refused s payload n some few many is =
     ∙ ap (λ (m : ℕ). if nat_lt m 16 then None else Some (RefusedFull m)) many
     ∙ ap (λ (m : ℕ). Some (RefusedFull m)) (sym is)
 
-pub hand_did : (k : Kept) (s : Station) (payload : List ℕ) (now : ℕ) (before after : List Told) → refusal_of s payload None ≡ None
-    → CallDid k before after (called (finishes (hands now payload s))) → CallDid k before after (handed_unless (refusal_of s payload None) now payload s)
-hand_did k s payload now before after none d =
-    subst (λ o. CallDid k before after (handed_unless o now payload s)) (sym none)
-    (record { stands = d.stands; list = d.list; grew = d.grew; told = d.told })
+module _ (selective : Bool) where
+  pub hand_did : (k : EitherStation) (s : Station) (payload : List ℕ) (now : ℕ) (before after : List Told) → refusal_of s payload None ≡ None
+      → CallDid k selective before after (called (finishes (hands now payload s))) → CallDid k selective before after (handed_unless (refusal_of s payload None) now payload s)
+  hand_did k s payload now before after none d =
+      subst (λ o. CallDid k selective before after (handed_unless o now payload s)) (sym none)
+      (record { stands = d.stands; list = d.list; grew = d.grew; told = d.told })
 
-pub full_did : (old k : Kept) (s : Station) (payload : List ℕ) (now n : ℕ) (before after : List Told) → refusal_of s payload None ≡ Some (RefusedFull n)
-    → StandsQuiet old s → k ≡ old → after ≡ before ++ told.Refused (refusal.Full n) ∷ []
-    → CallDid k before after (handed_unless (refusal_of s payload None) now payload s)
-full_did old k s payload now n before after some h same grew =
-    subst (λ o. CallDid k before after (handed_unless o now payload s)) (sym some)
-    (record {
-      stands = subst (λ (x : Kept). StandsQuiet x s) (sym same) h;
-      list = told.Refused (refusal.Full n) ∷ [];
-      grew = grew;
-      told = (record { refused = refusal.Full n; told_is = refl; is = refl }, tt);
-    })
+  pub full_did : (old k : EitherStation) (s : Station) (payload : List ℕ) (now n : ℕ) (before after : List Told) → refusal_of s payload None ≡ Some (RefusedFull n)
+      → StandsQuiet old selective s → k ≡ old → after ≡ before ++ told.Refused (refusal.Full n) ∷ []
+      → CallDid k selective before after (handed_unless (refusal_of s payload None) now payload s)
+  full_did old k s payload now n before after some h same grew =
+      subst (λ o. CallDid k selective before after (handed_unless o now payload s)) (sym some)
+      (record {
+        stands = subst (λ (x : EitherStation). StandsQuiet x selective s) (sym same) h;
+        list = told.Refused (refusal.Full n) ∷ [];
+        grew = grew;
+        told = (record { refused = refusal.Full n; told_is = refl; is = refl }, tt);
+      })

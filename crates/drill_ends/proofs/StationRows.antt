@@ -1,4 +1,4 @@
--- What an end of level link does at an event: its calls, the stream that it was given, and its release.
+-- What an end of levels link and link-sr does at an event: its calls, the stream that it was given, and its release.
 use Rattle.std.proofs.Common.{◌≡◌, ℕ, Bool, true, false, ◌||◌, List, [], ◌∷◌, ◌++◌, length, drop, take, Option, Some, None, refl, sym, ap, ◌∙◌, subst, append-nil, append_assoc}
 use Rattle.std.proofs.lemmas.List.{drop_at, take-append-drop}
 use Rattle.er_base.specs.declared.release.Release.{Release}
@@ -6,15 +6,17 @@ use Rattle.hdlc_frames.specs.Framing.{Verdict, frames_of}
 use Rattle.hdlc_frames.specs.Deframing as frames
 use Rattle.hdlc_frames.specs.Laws.{KeptStandsForStream, GoesOn}
 use Rattle.station_model.specs.Stations.{Station, Deed, no_deed, settled, is_down}
-use Rattle.station_model.specs.Calls.{starts, receives, hands, finishes, ticks}
+use Rattle.station_model.specs.Calls.{starts, hands, finishes, ticks}
+use Rattle.station_model.specs.Selective.{receives_as}
 use Rattle.station_model.specs.Laws.{HandsKeep}
-use Rattle.hdlc_balanced.specs.Kept.{Kept}
+use Rattle.station_pair.specs.Keeping.{FramesGive}
 use Rattle.station_model.specs.Reports.{newer, is_release, TellsRelease, ReleasesAreTold, KeepsRelease, FinishKeepsRelease}
 use Rattle.station_model.specs.Events.{news, is_late}
 use Rattle.drill_model.specs.Outcomes.{Outcome, SendRefusal}
 use Rattle.drill_model.specs.StationEnds.{called, begins, frames_heard, refusal_of, handed_unless, user_sends, if_expired, time_goes_on}
 use Rattle.drill_ends.specs.declared.told.Told.{Told}
 use Rattle.drill_ends.specs.declared.station_end.StationEnd.{StationEnd}
+use Rattle.drill_ends.specs.declared.either_station.EitherStation.{EitherStation}
 use Rattle.drill_ends.specs.Tellings.{AreTold}
 use Rattle.drill_ends.specs.KeptStations.{StandsQuiet, StandsStation}
 use Rattle.drill_model.specs.Ends.{station_end}
@@ -37,8 +39,8 @@ record Known (released : Option Release) (s : Station) : Type 0 where
   is : released ≡ s.released
   down : is_down s.phase ≡ is_release s.released
 
-known_of : (k : StationEnd) (s : Station) (stream : List ℕ) → StandsStation k s stream → Known k.released s
-known_of k s stream h = record { is = h.released; down = h.down }
+known_of : (k : StationEnd) (selective : Bool) (s : Station) (stream : List ℕ) → StandsStation k selective s stream → Known k.released s
+known_of k selective s stream h = record { is = h.released; down = h.down }
 
 either_release : (b : Bool) (told' before : Option Release) → b ≡ is_release before → (b || is_release told') ≡ is_release (newer told' before)
 either_release true None before e = e
@@ -58,38 +60,39 @@ known_kept : (old : Option Release) (s t : Station) → Known old s → TellsRel
 known_kept old s t known h none = known_told old old None s t known h (sym (ap (λ (d : Deed). d.released) none)) refl
 
 -- an end is its station, its stream and its release
-joined : (k : StationEnd) (t : Station) (stream : List ℕ) → StandsQuiet k.station t → k.deframer ≡ frames.kept_of stream → Known k.released t → StandsStation k t stream
-joined k t stream h reads known = record { station = h; reads = reads; released = known.is; down = known.down }
+joined : (k : StationEnd) (selective : Bool) (t : Station) (stream : List ℕ) → StandsQuiet k.station selective t → k.deframer ≡ frames.kept_of stream → Known k.released t
+    → StandsStation k selective t stream
+joined k selective t stream h reads known = record { station = h; reads = reads; released = known.is; down = known.down }
 
 -- ---- events that give no octets
 
 -- what a call did, at an end
-at_end : (k : StationEnd) (stream : List ℕ) (before now : List Told) (a : Station × List Outcome) → CallDid k.station before now a
-    → k.deframer ≡ frames.kept_of stream → Known k.released a.0 → StationDid k stream before now a
-at_end k stream before now a d reads known =
-    record { stands = joined k a.0 stream d.stands reads known; list = d.list; grew = d.grew; told = d.told }
+at_end : (k : StationEnd) (selective : Bool) (stream : List ℕ) (before now : List Told) (a : Station × List Outcome) → CallDid k.station selective before now a
+    → k.deframer ≡ frames.kept_of stream → Known k.released a.0 → StationDid k selective stream before now a
+at_end k selective stream before now a d reads known =
+    record { stands = joined k selective a.0 stream d.stands reads known; list = d.list; grew = d.grew; told = d.told }
 
-pub starts_so : ReleasesAreTold → FinishKeepsRelease → (old : StationEnd) (k : Kept) (moment : ℕ) (before now : List Told)
-    → CallTells old.station k before now None (λ s. finishes (starts moment s)) → StationDoes old (record old { station = k }) before now (begins moment)
-starts_so laws law old k moment before now call s stream h =
-    let d = call s h.station in
+pub starts_so : ReleasesAreTold → FinishKeepsRelease → (old : StationEnd) (k : EitherStation) (moment : ℕ) (before now : List Told)
+    → ((selective : Bool) → CallTells selective old.station k before now None (λ s. finishes (starts moment s))) → StationDoes old (record old { station = k }) before now (begins moment)
+starts_so laws law old k moment before now call selective s stream h =
+    let d = call selective s h.station in
     let t : Station = finishes (starts moment s) in
-    at_end (record old { station = k }) stream before now (called t) d.0 h.reads
-    (known_told old.released old.released None s t (known_of old s stream h) (told_finished law s (starts moment s) (laws moment s h.station.deed).2) d.1 refl)
+    at_end (record old { station = k }) selective stream before now (called t) d.0 h.reads
+    (known_told old.released old.released None s t (known_of old selective s stream h) (told_finished law s (starts moment s) (laws moment s h.station.deed).2) d.1 refl)
 
 pub expired_told : (expired : Bool) (outcomes : List Outcome) (list : List Told) → AreTold outcomes list → AreTold (if_expired expired ++ outcomes) list
 expired_told true outcomes list a = a
 expired_told false outcomes list a = a
 
-pub ticks_so : ReleasesAreTold → FinishKeepsRelease → (old : StationEnd) (k : Kept) (released new : Option Release) (moment : ℕ) (before now : List Told)
-    → CallTells old.station k before now released (λ s. finishes (ticks moment s)) → new ≡ newer released old.released
+pub ticks_so : ReleasesAreTold → FinishKeepsRelease → (old : StationEnd) (k : EitherStation) (released new : Option Release) (moment : ℕ) (before now : List Told)
+    → ((selective : Bool) → CallTells selective old.station k before now released (λ s. finishes (ticks moment s))) → new ≡ newer released old.released
     → StationDoes old (record old { station = k; released = new }) before now (time_goes_on moment)
-ticks_so laws law old k released new moment before now call kept s stream h =
-    let d = call s h.station in
+ticks_so laws law old k released new moment before now call kept selective s stream h =
+    let d = call selective s h.station in
     let t : Station = finishes (ticks moment s) in
     record {
-      stands = joined (record old { station = k; released = new }) (settled t) stream d.0.stands h.reads
-          (known_told old.released new released s t (known_of old s stream h) (told_finished law s (ticks moment s) (laws moment s h.station.deed).1) d.1 kept);
+      stands = joined (record old { station = k; released = new }) selective (settled t) stream d.0.stands h.reads
+          (known_told old.released new released s t (known_of old selective s stream h) (told_finished law s (ticks moment s) (laws moment s h.station.deed).1) d.1 kept);
       list = d.0.list;
       grew = d.0.grew;
       told = expired_told (is_late moment s) (called t).1 d.0.list d.0.told;
@@ -97,22 +100,22 @@ ticks_so laws law old k released new moment before now call kept s stream h =
 
 -- ---- the user sends
 
-hand_known : ReleasesAreTold → FinishKeepsRelease → HandsKeep → (old : StationEnd) (moment : ℕ) (payload : List ℕ) (s : Station) (stream : List ℕ) → StandsStation old s stream
+hand_known : ReleasesAreTold → FinishKeepsRelease → HandsKeep → (old : StationEnd) (moment : ℕ) (payload : List ℕ) (selective : Bool) (s : Station) (stream : List ℕ) → StandsStation old selective s stream
     → (o : Option SendRefusal) → Known old.released (handed_unless o moment payload s).0
-hand_known laws law hand old moment payload s stream h (Some refused) = known_of old s stream h
-hand_known laws law hand old moment payload s stream h None =
+hand_known laws law hand old moment payload selective s stream h (Some refused) = known_of old selective s stream h
+hand_known laws law hand old moment payload selective s stream h None =
     let t : Station = hands moment payload s in
-    known_kept old.released s (finishes t) (known_of old s stream h) (told_finished law s t ((laws moment s h.station.deed).3 payload))
+    known_kept old.released s (finishes t) (known_of old selective s stream h) (told_finished law s t ((laws moment s h.station.deed).3 payload))
     ((law t).deed ∙ (hand moment payload s).2 ∙ h.station.deed)
 
-pub sends_so : ReleasesAreTold → FinishKeepsRelease → HandsKeep → (old : StationEnd) (k : Kept) (moment : ℕ) (payload : List ℕ) (before now : List Told) → old.released ≡ None
-    → CallDoes old.station k before now (λ s. handed_unless (refusal_of s payload None) moment payload s)
+pub sends_so : ReleasesAreTold → FinishKeepsRelease → HandsKeep → (old : StationEnd) (k : EitherStation) (moment : ℕ) (payload : List ℕ) (before now : List Told) → old.released ≡ None
+    → ((selective : Bool) → CallDoes selective old.station k before now (λ s. handed_unless (refusal_of s payload None) moment payload s))
     → StationDoes old (record old { station = k }) before now (user_sends moment payload)
-sends_so laws law hand old k moment payload before now none call s stream h =
+sends_so laws law hand old k moment payload before now none call selective s stream h =
     let unreleased : s.released ≡ None = sym h.released ∙ none in
-    subst (λ r. StationDid (record old { station = k }) stream before now (handed_unless (refusal_of s payload r) moment payload s)) (sym unreleased)
-    (at_end (record old { station = k }) stream before now (handed_unless (refusal_of s payload None) moment payload s) (call s h.station) h.reads
-    (hand_known laws law hand old moment payload s stream h (refusal_of s payload None)))
+    subst (λ r. StationDid (record old { station = k }) selective stream before now (handed_unless (refusal_of s payload r) moment payload s)) (sym unreleased)
+    (at_end (record old { station = k }) selective stream before now (handed_unless (refusal_of s payload None) moment payload s) (call selective s h.station) h.reads
+    (hand_known laws law hand old moment payload selective s stream h (refusal_of s payload None)))
 
 -- ---- octets
 
@@ -126,26 +129,26 @@ pub news_are : (stream octets : List ℕ) (vs : List Verdict) → frames_of (str
 news_are stream octets vs is = ap (drop (length (frames_of stream))) is ∙ drop_at (frames_of stream) vs (length (frames_of stream)) refl
 
 -- octets in which no frame closes
-pub none_heard : (old : StationEnd) (d : frames.Kept) (moment : ℕ) (s : Station) (stream octets : List ℕ) (before : List Told) → StandsStation old s stream
+pub none_heard : (old : StationEnd) (d : frames.Kept) (moment : ℕ) (selective : Bool) (s : Station) (stream octets : List ℕ) (before : List Told) → StandsStation old selective s stream
     → d ≡ frames.kept_of (stream ++ octets) → frames_of (stream ++ octets) ≡ frames_of stream ++ []
-    → StationDid (record old { deframer = d }) (stream ++ octets) before before (frames_heard moment (news stream octets) s)
-none_heard old d moment s stream octets before h reads is =
-    subst (λ (vs : List Verdict). StationDid (record old { deframer = d }) (stream ++ octets) before before (frames_heard moment vs s)) (sym (news_are stream octets [] is))
-    (record { stands = joined (record old { deframer = d }) s (stream ++ octets) h.station reads (known_of old s stream h); list = []; grew = sym (append-nil before); told = tt })
+    → StationDid (record old { deframer = d }) selective (stream ++ octets) before before (frames_heard selective moment (news stream octets) s)
+none_heard old d moment selective s stream octets before h reads is =
+    subst (λ (vs : List Verdict). StationDid (record old { deframer = d }) selective (stream ++ octets) before before (frames_heard selective moment vs s)) (sym (news_are stream octets [] is))
+    (record { stands = joined (record old { deframer = d }) selective s (stream ++ octets) h.station reads (known_of old selective s stream h); list = []; grew = sym (append-nil before); told = tt })
 
 -- octets up to the end of a frame
-pub one_heard : ReleasesAreTold → FinishKeepsRelease → (old : StationEnd) (k : Kept) (d : frames.Kept) (released new : Option Release) (moment : ℕ) (verdict : Verdict)
-    (s : Station) (stream octets : List ℕ) (before now : List Told) → StandsStation old s stream
+pub one_heard : FramesGive → FinishKeepsRelease → (old : StationEnd) (k : EitherStation) (d : frames.Kept) (released new : Option Release) (moment : ℕ) (verdict : Verdict)
+    (selective : Bool) (s : Station) (stream octets : List ℕ) (before now : List Told) → StandsStation old selective s stream
     → d ≡ frames.kept_of (stream ++ octets) → frames_of (stream ++ octets) ≡ frames_of stream ++ verdict ∷ []
-    → CallTells old.station k before now released (λ s. finishes (receives moment verdict s)) → new ≡ newer released old.released
-    → StationDid (record { station = k; deframer = d; released = new }) (stream ++ octets) before now (frames_heard moment (news stream octets) s)
-one_heard laws law old k d released new moment verdict s stream octets before now h reads is call kept =
+    → CallTells selective old.station k before now released (λ s. finishes (receives_as selective moment verdict s)) → new ≡ newer released old.released
+    → StationDid (record { station = k; deframer = d; released = new }) selective (stream ++ octets) before now (frames_heard selective moment (news stream octets) s)
+one_heard laws law old k d released new moment verdict selective s stream octets before now h reads is call kept =
     let e = call s h.station in
-    let t : Station = finishes (receives moment verdict s) in
-    subst (λ (vs : List Verdict). StationDid (record { station = k; deframer = d; released = new }) (stream ++ octets) before now (frames_heard moment vs s)) (sym (news_are stream octets (verdict ∷ []) is))
+    let t : Station = finishes (receives_as selective moment verdict s) in
+    subst (λ (vs : List Verdict). StationDid (record { station = k; deframer = d; released = new }) selective (stream ++ octets) before now (frames_heard selective moment vs s)) (sym (news_are stream octets (verdict ∷ []) is))
     (record {
-      stands = joined (record { station = k; deframer = d; released = new }) (settled t) (stream ++ octets) e.0.stands reads
-          (known_told old.released new released s t (known_of old s stream h) (told_finished law s (receives moment verdict s) ((laws moment s h.station.deed).0 verdict)) e.1 kept);
+      stands = joined (record { station = k; deframer = d; released = new }) selective (settled t) (stream ++ octets) e.0.stands reads
+          (known_told old.released new released s t (known_of old selective s stream h) (told_finished law s (receives_as selective moment verdict s) (laws selective moment verdict s h.station.deed).release) e.1 kept);
       list = e.0.list;
       grew = e.0.grew;
       told = subst (λ (os : List Outcome). AreTold os e.0.list) (sym (append-nil (called t).1)) e.0.told;
@@ -153,14 +156,14 @@ one_heard laws law old k d released new moment verdict s stream octets before no
 
 -- ---- a piece with any number of frames
 
-frames_heard-append : (moment : ℕ) (vs ws : List Verdict) (s : Station)
-    → frames_heard moment (vs ++ ws) s ≡ ((frames_heard moment ws (frames_heard moment vs s).0).0, (frames_heard moment vs s).1 ++ (frames_heard moment ws (frames_heard moment vs s).0).1)
-frames_heard-append moment [] ws s = refl
-frames_heard-append moment (v ∷ vs) ws s =
-    let a = called (finishes (receives moment v s)) in
-    let b = frames_heard moment vs a.0 in
-    let c = frames_heard moment ws b.0 in
-    ap (λ (p : Station × List Outcome). (p.0, a.1 ++ p.1)) (frames_heard-append moment vs ws a.0)
+frames_heard-append : (selective : Bool) (moment : ℕ) (vs ws : List Verdict) (s : Station)
+    → frames_heard selective moment (vs ++ ws) s ≡ ((frames_heard selective moment ws (frames_heard selective moment vs s).0).0, (frames_heard selective moment vs s).1 ++ (frames_heard selective moment ws (frames_heard selective moment vs s).0).1)
+frames_heard-append selective moment [] ws s = refl
+frames_heard-append selective moment (v ∷ vs) ws s =
+    let a = called (finishes (receives_as selective moment v s)) in
+    let b = frames_heard selective moment vs a.0 in
+    let c = frames_heard selective moment ws b.0 in
+    ap (λ (p : Station × List Outcome). (p.0, a.1 ++ p.1)) (frames_heard-append selective moment vs ws a.0)
     ∙ ap (λ (os : List Outcome). (c.0, os)) (sym (append_assoc a.1 b.1 c.1))
 
 pub news_more : KeptStandsForStream → (stream xs ys : List ℕ) → news stream (xs ++ ys) ≡ news stream xs ++ news (stream ++ xs) ys
@@ -173,9 +176,9 @@ news_more law stream xs ys =
     (ap frames_of (sym (append_assoc stream xs ys)) ∙ second ∙ ap (λ (vs : List Verdict). vs ++ g) first ∙ append_assoc (frames_of stream) f g)
     ∙ sym (ap (λ (vs : List Verdict). vs ++ news (stream ++ xs) ys) (news_are stream xs f first) ∙ ap (λ (vs : List Verdict). f ++ vs) (news_are (stream ++ xs) ys g second))
 
-pub reading_begins : (moment : ℕ) (k : StationEnd) (s : Station) (stream octets : List ℕ) (before : List Told) → StandsStation k s stream
-    → Reading moment s stream octets octets k before before
-reading_begins moment k s stream octets before h = record {
+pub reading_begins : (selective : Bool) (moment : ℕ) (k : StationEnd) (s : Station) (stream octets : List ℕ) (before : List Told) → StandsStation k selective s stream
+    → Reading selective moment s stream octets octets k before before
+reading_begins selective moment k s stream octets before h = record {
   at = s;
   given = stream;
   came = [];
@@ -184,24 +187,24 @@ reading_begins moment k s stream octets before h = record {
   did = record { stands = h; list = []; grew = sym (append-nil before); told = tt };
 }
 
-pub reading_goes_on : KeptStandsForStream → (moment : ℕ) (old new : StationEnd) (s : Station) (stream octets rest back : List ℕ) (used : ℕ) (before between now : List Told)
-    → back ≡ drop used rest → Reading moment s stream octets rest old before between → StationReads moment old (take used rest) new between now
-    → Reading moment s stream octets back new before now
-reading_goes_on law moment old new s stream octets rest back used before between now back_is r one =
+pub reading_goes_on : KeptStandsForStream → (selective : Bool) (moment : ℕ) (old new : StationEnd) (s : Station) (stream octets rest back : List ℕ) (used : ℕ) (before between now : List Told)
+    → back ≡ drop used rest → Reading selective moment s stream octets rest old before between → StationReads moment old (take used rest) new between now
+    → Reading selective moment s stream octets back new before now
+reading_goes_on law selective moment old new s stream octets rest back used before between now back_is r one =
     let taken : List ℕ = take used rest in
-    let d = one r.at r.given r.did.stands in
-    let a : Station × List Outcome = frames_heard moment (news r.given taken) r.at in
+    let d = one selective r.at r.given r.did.stands in
+    let a : Station × List Outcome = frames_heard selective moment (news r.given taken) r.at in
     let whole' : taken ++ back ≡ rest = ap (λ (xs : List ℕ). taken ++ xs) back_is ∙ take-append-drop used rest in
-    let split : frames_heard moment (news r.given rest) r.at ≡ frames_heard moment (news r.given taken ++ news (r.given ++ taken) back) r.at =
-    ap (λ (vs : List Verdict). frames_heard moment vs r.at) (ap (news r.given) (sym whole') ∙ news_more law r.given taken back) in
-    let b : Station × List Outcome = frames_heard moment (news (r.given ++ taken) back) a.0 in
+    let split : frames_heard selective moment (news r.given rest) r.at ≡ frames_heard selective moment (news r.given taken ++ news (r.given ++ taken) back) r.at =
+    ap (λ (vs : List Verdict). frames_heard selective moment vs r.at) (ap (news r.given) (sym whole') ∙ news_more law r.given taken back) in
+    let b : Station × List Outcome = frames_heard selective moment (news (r.given ++ taken) back) a.0 in
     record {
       at = a.0;
       given = r.given ++ taken;
       came = r.came ++ a.1;
       whole = append_assoc r.given taken back ∙ ap (λ (xs : List ℕ). r.given ++ xs) whole' ∙ r.whole;
       leads = r.leads
-          ∙ ap (λ (p : Station × List Outcome). (p.0, r.came ++ p.1)) (split ∙ frames_heard-append moment (news r.given taken) (news (r.given ++ taken) back) r.at)
+          ∙ ap (λ (p : Station × List Outcome). (p.0, r.came ++ p.1)) (split ∙ frames_heard-append selective moment (news r.given taken) (news (r.given ++ taken) back) r.at)
           ∙ ap (λ (os : List Outcome). (b.0, os)) (sym (append_assoc r.came a.1 b.1));
       did = record {
         stands = d.stands;
@@ -214,19 +217,19 @@ reading_goes_on law moment old new s stream octets rest back used before between
 pub nothing_new : (stream : List ℕ) → news stream [] ≡ []
 nothing_new stream = news_are stream [] [] (ap frames_of (append-nil stream) ∙ sym (append-nil (frames_of stream)))
 
-pub reading_ends : (moment : ℕ) (k : StationEnd) (s : Station) (stream octets rest : List ℕ) (before now : List Told) → rest ≡ []
-    → Reading moment s stream octets rest k before now → StationDid k (stream ++ octets) before now (frames_heard moment (news stream octets) s)
-reading_ends moment k s stream octets rest before now none r =
+pub reading_ends : (selective : Bool) (moment : ℕ) (k : StationEnd) (s : Station) (stream octets rest : List ℕ) (before now : List Told) → rest ≡ []
+    → Reading selective moment s stream octets rest k before now → StationDid k selective (stream ++ octets) before now (frames_heard selective moment (news stream octets) s)
+reading_ends selective moment k s stream octets rest before now none r =
     let given : r.given ≡ stream ++ octets = sym (append-nil r.given) ∙ ap (λ (xs : List ℕ). r.given ++ xs) (sym none) ∙ r.whole in
-    let left : frames_heard moment (news r.given rest) r.at ≡ (r.at, []) =
-    ap (λ (vs : List Verdict). frames_heard moment vs r.at) (ap (news r.given) none ∙ nothing_new r.given) in
-    let all : frames_heard moment (news stream octets) s ≡ (r.at, r.came) =
+    let left : frames_heard selective moment (news r.given rest) r.at ≡ (r.at, []) =
+    ap (λ (vs : List Verdict). frames_heard selective moment vs r.at) (ap (news r.given) none ∙ nothing_new r.given) in
+    let all : frames_heard selective moment (news stream octets) s ≡ (r.at, r.came) =
     r.leads ∙ ap (λ (p : Station × List Outcome). (p.0, r.came ++ p.1)) left ∙ ap (λ (os : List Outcome). (r.at, os)) (append-nil r.came) in
-    subst (λ (xs : List ℕ). StationDid k xs before now (frames_heard moment (news stream octets) s)) given
-    (subst (λ (p : Station × List Outcome). StationDid k r.given before now p) (sym all) r.did)
+    subst (λ (xs : List ℕ). StationDid k selective xs before now (frames_heard selective moment (news stream octets) s)) given
+    (subst (λ (p : Station × List Outcome). StationDid k selective r.given before now p) (sym all) r.did)
 
 -- ---- an event
 
-pub went_so : (new : StationEnd) (stream : List ℕ) (before now : List Told) (a : Station × List Outcome) → StationDid new stream before now a
-    → StationWent new before now (station_end stream a)
-went_so new stream before now a d = record { at = a.0; given = stream; is = refl; stands = d.stands; list = d.list; grew = d.grew; told = d.told }
+pub went_so : (new : StationEnd) (selective : Bool) (stream : List ℕ) (before now : List Told) (a : Station × List Outcome) → StationDid new selective stream before now a
+    → StationWent new before now (station_end selective stream a)
+went_so new selective stream before now a d = record { at = a.0; given = stream; selective = selective; is = refl; stands = d.stands; list = d.list; grew = d.grew; told = d.told }

@@ -12,13 +12,13 @@ use Rattle.drill_ends.specs.KeptStacks.{StandsStack}
 -- an end of the code stands where an end of the model does
 abbrev pub StandsEnd : DrillEnd → End → Type 0
 StandsEnd (code.Safe kept) (OfSafe s) = kept.safety ≡ s
-StandsEnd (code.Safe kept) (OfStation s stream) = ⊥
+StandsEnd (code.Safe kept) (OfStation selective s stream) = ⊥
 StandsEnd (code.Station kept) (OfSafe s) = ⊥
-StandsEnd (code.Station kept) (OfStation s stream) = StandsStation kept s stream
+StandsEnd (code.Station kept) (OfStation selective s stream) = StandsStation kept selective s stream
 StandsEnd (code.Safe kept) (OfStack m) = ⊥
 StandsEnd (code.Station kept) (OfStack m) = ⊥
 StandsEnd (code.Stack kept) (OfSafe s) = ⊥
-StandsEnd (code.Stack kept) (OfStation s stream) = ⊥
+StandsEnd (code.Stack kept) (OfStation selective s stream) = ⊥
 StandsEnd (code.Stack kept) (OfStack m) = StandsStack kept m
 
 -- an end went on so, and told its outcomes

@@ -2,6 +2,7 @@ pub mod Keys
 pub mod Refusals
 pub mod Events
 pub mod Tellings
+pub mod EitherStations
 pub mod KeptStations
 pub mod KeptStacks
 pub mod KeptEnds

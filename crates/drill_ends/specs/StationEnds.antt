@@ -1,4 +1,4 @@
--- Representation: what an end of level link of the code tells of an event; no claim rests on it.
+-- Representation: what an end of levels link and link-sr of the code tells of an event; no claim rests on it.
 use Rattle.std.specs.Prelude.{ℕ, ◌≡◌, Bool, true, false, List, [], ◌∷◌, ◌++◌, map, Option, Some, None}
 use Rattle.er_base.specs.declared.release.Release.{Release}
 use Rattle.station_model.specs.Frames.{Frame, sent_octets}
@@ -7,7 +7,11 @@ use Rattle.station_model.specs.Events.{news}
 use Rattle.drill_model.specs.Outcomes.{Outcome}
 use Rattle.drill_model.specs.Ends.{End, OfStation}
 use Rattle.drill_model.specs.StationEnds.{called, frames_heard}
-use Rattle.hdlc_balanced.specs.Kept.{Kept, texts}
+use Rattle.er_base.specs.Stored.{Stored}
+use Rattle.hdlc_balanced.specs.Kept.{Kept, texts, Stands}
+use Rattle.hdlc_selective.specs.Kept.{SelectiveKept, SelectiveStands}
+use Rattle.drill_ends.specs.declared.either_station.EitherStation.{EitherStation}
+use Rattle.drill_ends.specs.EitherStations.{StandsInCall}
 use Rattle.drill_ends.specs.declared.told.Told.{Told}
 use Rattle.drill_ends.specs.declared.told.Told.TheVariants as told
 use Rattle.drill_ends.specs.Tellings.{AreTold}
@@ -23,12 +27,16 @@ abbrev pub told_arrived : Option (List ℕ) → List Told
 told_arrived None = []
 told_arrived (Some payload) = told.Arrived payload ∷ []
 
+-- the payloads that were taken, in their order
+abbrev pub told_payloads : Deed → List Told
+told_payloads d = told_arrived d.payload ++ map told.Arrived d.more
+
 abbrev pub told_released : Option Release → List Told
 told_released None = []
 told_released (Some release) = told.Released release ∷ []
 
 abbrev pub told_deed : Deed → List Told
-told_deed d = (told_up d.up ++ told_arrived d.payload) ++ told_released d.released
+told_deed d = (told_up d.up ++ told_payloads d) ++ told_released d.released
 
 -- frames that were written are told one by one
 abbrev pub told_frames : (calling extended : Bool) → List Frame → List Told
@@ -44,25 +52,43 @@ pub record TellingFrames (calling extended : Bool) (frames : List Frame) (rest :
   pub is : rest ≡ texts calling extended left
   pub leads : now ++ told_frames calling extended left ≡ before ++ told_frames calling extended frames
 
+-- a frame that came was heard, and what it brought was told
+pub record TellsDeed (d : Deed) (before now : List Told) (why : Option Release) : Type 0 where
+  pub grew : now ≡ before ++ told_deed d
+  pub released : why ≡ d.released
+
+pub record Heard (new : EitherStation) (selective : Bool) (text : List ℕ) (out : Stored) (before now : List Told) (why : Option Release) (t : Station) : Type 0 where
+  pub stands : StandsInCall new selective text out t.deed t
+  pub tells : TellsDeed t.deed before now why
+
+-- the same of each kind of station by itself
+pub record BackHeard (new : Kept) (text : List ℕ) (out : Stored) (before now : List Told) (why : Option Release) (t : Station) : Type 0 where
+  pub stands : Stands new text out t.deed t
+  pub tells : TellsDeed t.deed before now why
+
+pub record SelectiveHeard (new : SelectiveKept) (text : List ℕ) (out : Stored) (before now : List Told) (why : Option Release) (t : Station) : Type 0 where
+  pub stands : SelectiveStands new.core new.places text out t.deed t
+  pub tells : TellsDeed t.deed before now why
+
 -- a call was made, what it told and the frames that it sent were told
-pub record CallDid (new : Kept) (before now : List Told) (a : Station × List Outcome) : Type 0 where
-  pub stands : StandsQuiet new a.0
+pub record CallDid (new : EitherStation) (selective : Bool) (before now : List Told) (a : Station × List Outcome) : Type 0 where
+  pub stands : StandsQuiet new selective a.0
   pub list : List Told
   pub grew : now ≡ before ++ list
   pub told : AreTold a.1 list
 
 -- wherever the station stands
-abbrev pub CallDoes : Kept → Kept → List Told → List Told → (Station → Station × List Outcome) → Type 0
-CallDoes old new before now moves = (s : Station) → StandsQuiet old s → CallDid new before now (moves s)
+abbrev pub CallDoes : (selective : Bool) → EitherStation → EitherStation → List Told → List Told → (Station → Station × List Outcome) → Type 0
+CallDoes selective old new before now moves = (s : Station) → StandsQuiet old selective s → CallDid new selective before now (moves s)
 
 -- the same of a call that may tell a release
-abbrev pub CallTells : Kept → Kept → List Told → List Told → Option Release → (Station → Station) → Type 0
-CallTells old new before now released call =
-    (s : Station) → StandsQuiet old s → CallDid new before now (called (call s)) × (released ≡ (call s).deed.released)
+abbrev pub CallTells : (selective : Bool) → EitherStation → EitherStation → List Told → List Told → Option Release → (Station → Station) → Type 0
+CallTells selective old new before now released call =
+    (s : Station) → StandsQuiet old selective s → CallDid new selective before now (called (call s)) × (released ≡ (call s).deed.released)
 
 -- a station went on so, was given this stream, and told its outcomes
-pub record StationDid (new : StationEnd) (stream : List ℕ) (before now : List Told) (a : Station × List Outcome) : Type 0 where
-  pub stands : StandsStation new a.0 stream
+pub record StationDid (new : StationEnd) (selective : Bool) (stream : List ℕ) (before now : List Told) (a : Station × List Outcome) : Type 0 where
+  pub stands : StandsStation new selective a.0 stream
   pub list : List Told
   pub grew : now ≡ before ++ list
   pub told : AreTold a.1 list
@@ -70,30 +96,31 @@ pub record StationDid (new : StationEnd) (stream : List ℕ) (before now : List 
 -- an event that gives no octets, wherever the station stands
 abbrev pub StationDoes : StationEnd → StationEnd → List Told → List Told → (Station → Station × List Outcome) → Type 0
 StationDoes old new before now moves =
-    (s : Station) (stream : List ℕ) → StandsStation old s stream → StationDid new stream before now (moves s)
+    (selective : Bool) (s : Station) (stream : List ℕ) → StandsStation old selective s stream → StationDid new selective stream before now (moves s)
 
 -- octets were given
 abbrev pub StationReads : (moment : ℕ) → StationEnd → List ℕ → StationEnd → List Told → List Told → Type 0
 StationReads moment old octets new before now =
-    (s : Station) (stream : List ℕ) → StandsStation old s stream
-    → StationDid new (stream ++ octets) before now (frames_heard moment (news stream octets) s)
+    (selective : Bool) (s : Station) (stream : List ℕ) → StandsStation old selective s stream
+    → StationDid new selective (stream ++ octets) before now (frames_heard selective moment (news stream octets) s)
 
 -- in the midst of it: some octets were given, and with what is left it is all
-pub record Reading (moment : ℕ) (s : Station) (stream octets rest : List ℕ) (kept : StationEnd) (before now : List Told) : Type 0 where
+pub record Reading (selective : Bool) (moment : ℕ) (s : Station) (stream octets rest : List ℕ) (kept : StationEnd) (before now : List Told) : Type 0 where
   pub at : Station
   pub given : List ℕ
   pub came : List Outcome
   pub whole : given ++ rest ≡ stream ++ octets
-  pub leads : frames_heard moment (news stream octets) s
-      ≡ ((frames_heard moment (news given rest) at).0, came ++ (frames_heard moment (news given rest) at).1)
-  pub did : StationDid kept given before now (at, came)
+  pub leads : frames_heard selective moment (news stream octets) s
+      ≡ ((frames_heard selective moment (news given rest) at).0, came ++ (frames_heard selective moment (news given rest) at).1)
+  pub did : StationDid kept selective given before now (at, came)
 
--- an end of level link went on so, and told its outcomes
+-- an end of level link or link-sr went on so, and told its outcomes
 pub record StationWent (new : StationEnd) (before now : List Told) (a : End × List Outcome) : Type 0 where
   pub at : Station
   pub given : List ℕ
-  pub is : a.0 ≡ OfStation at given
-  pub stands : StandsStation new at given
+  pub selective : Bool
+  pub is : a.0 ≡ OfStation selective at given
+  pub stands : StandsStation new selective at given
   pub list : List Told
   pub grew : now ≡ before ++ list
   pub told : AreTold a.1 list

@@ -1,4 +1,4 @@
-//! An end of a link, one case a level.
+//! An end of a link, by its level.
 
 ghost use Rattle.std.specs.Prelude.{IfOk};
 ghost use Rattle.safety_automaton.specs.Keys.{key_at};
@@ -24,7 +24,7 @@ use std::collections::VecDeque;
 pub enum DrillEnd {
     /// Level safe.
     Safe(Safe),
-    /// Level link.
+    /// Levels link and link-sr.
     Station(StationEnd),
     /// Level full.
     Stack(End),

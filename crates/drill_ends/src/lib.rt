@@ -1,7 +1,8 @@
-//! The ends of the links of a drill, one kind a level, and what each tells of an event.
+//! The ends of the links of a drill, by their level, and what each tells of an event.
 #![tactic(auto)]
 
 mod drill_end;
+mod either_station;
 mod end_event;
 mod finder;
 pub mod laws;
@@ -12,6 +13,7 @@ mod send_counts;
 mod stack_call;
 mod stack_end;
 mod station_end;
+mod telling;
 mod telling_station;
 mod told;
 

@@ -8,7 +8,7 @@ ghost use Rattle.drill_ends.specs.SafeEnds.{checked_text, told_sealed};
 ghost use Rattle.drill_ends.specs.StackEnds.{IsCall, TellsCall, told_checked};
 
 use crate::safe_end::Checked;
-use crate::telling_station::{tell_frames, tell_released};
+use crate::telling::{tell_frames, tell_released};
 use crate::told::Told;
 use er_base::{NoMemory, Octets, Release};
 use er_end::{Deeds, End};

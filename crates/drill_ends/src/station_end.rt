@@ -1,6 +1,6 @@
-//! An end of level link: a station, the deframer of what comes to it, and what it tells of each event.
+//! An end of levels link and link-sr: a station, the deframer of what comes to it, and what it tells of each event.
 
-ghost use Rattle.std.specs.Prelude.{ℕ, ◌≡◌, ◌<◌, ◌≤◌, ◌==◌, [], List, length, take, true, false, IfOk, OnOk};
+ghost use Rattle.std.specs.Prelude.{ℕ, ◌≡◌, ◌<◌, ◌≤◌, ◌==◌, ◌*◌, [], List, length, take, Bool, true, false, IfOk, OnOk};
 ghost use Rattle.er_settings.specs.Ranges.{AllAllowed};
 ghost use Rattle.station_model.specs.Stations.{Station as AnyStation, made};
 ghost use Rattle.station_model.specs.Reports.{newer};
@@ -43,25 +43,35 @@ fn newer(told: Option<Release>, before: Option<Release>) -> Option<Release>
 }
 
 impl StationEnd {
-    /// The calling station of a link.
-    pub fn calling(alloc: Global, settings: &Settings) -> Result<StationEnd, NoMemory>
-        requires { AllAllowed settings.now }
-        ensures { IfOk result (λ k. StandsStation k (made true (settings.now.modulo == 128) settings.now.window settings.now.n2 settings.now.t1) []) }
+    /// The calling station of a link, with selective reject or without.
+    pub fn calling(
+        alloc: Global,
+        selective: bool,
+        settings: &Settings,
+    ) -> Result<StationEnd, NoMemory>
+        requires allowed { AllAllowed settings.now }
+        requires half { selective ≡ true → 2 * settings.now.window ≤ settings.now.modulo }
+        ensures { IfOk result (λ k. StandsStation k selective (made true (settings.now.modulo == 128) settings.now.window settings.now.n2 settings.now.t1) []) }
     {
         Ok(StationEnd {
-            station: TellingStation::calling(alloc, settings)?,
+            station: TellingStation::calling(alloc, selective, settings)?,
             deframer: Deframer::new(),
             released: None,
         })
     }
 
-    /// The called station of a link.
-    pub fn called(alloc: Global, settings: &Settings) -> Result<StationEnd, NoMemory>
-        requires { AllAllowed settings.now }
-        ensures { IfOk result (λ k. StandsStation k (made false (settings.now.modulo == 128) settings.now.window settings.now.n2 settings.now.t1) []) }
+    /// The called station of a link, with selective reject or without.
+    pub fn called(
+        alloc: Global,
+        selective: bool,
+        settings: &Settings,
+    ) -> Result<StationEnd, NoMemory>
+        requires allowed { AllAllowed settings.now }
+        requires half { selective ≡ true → 2 * settings.now.window ≤ settings.now.modulo }
+        ensures { IfOk result (λ k. StandsStation k selective (made false (settings.now.modulo == 128) settings.now.window settings.now.n2 settings.now.t1) []) }
     {
         Ok(StationEnd {
-            station: TellingStation::called(alloc, settings)?,
+            station: TellingStation::called(alloc, selective, settings)?,
             deframer: Deframer::new(),
             released: None,
         })
@@ -93,6 +103,7 @@ impl StationEnd {
         ensures moves { IfOk result (λ used. 0 < length octets.now → 0 < used) }
     {
         station_model::laws::releases_are_told();
+        station_pair::laws::frames_give();
         hdlc_frames::laws::goes_on();
         let (used, found) = self.deframer.feed(octets);
         let Some(found) = found else {
@@ -185,8 +196,8 @@ impl StationEnd {
         event: &EndEvent,
         told: &mut VecDeque<Told>,
     ) -> Result<(), NoMemory>
-        ensures { OnOk result ((s : AnyStation) (stream : List ℕ) → StandsStation self.old s stream
-            → StationWent self.new told.old.items told.new.items (station_end_step now s stream (event_of event.now))) }
+        ensures { OnOk result ((selective : Bool) (s : AnyStation) (stream : List ℕ) → StandsStation self.old selective s stream
+            → StationWent self.new told.old.items told.new.items (station_end_step selective now s stream (event_of event.now))) }
     {
         match event {
             EndEvent::Start => self.start(alloc, now, told),
@@ -205,8 +216,8 @@ impl StationEnd {
         now: Moment,
         event: &EndEvent,
     ) -> Result<VecDeque<Told>, NoMemory>
-        ensures { IfOk result (λ told. (s : AnyStation) (stream : List ℕ) → StandsStation self.old s stream
-            → StationWent self.new [] told.items (station_end_step now s stream (event_of event.now))) }
+        ensures { IfOk result (λ told. (selective : Bool) (s : AnyStation) (stream : List ℕ) → StandsStation self.old selective s stream
+            → StationWent self.new [] told.items (station_end_step selective now s stream (event_of event.now))) }
     {
         let mut told = VecDeque::new(alloc);
         self.tell(alloc, now, event, &mut told)?;

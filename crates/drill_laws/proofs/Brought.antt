@@ -182,11 +182,11 @@ quiet_streams P l history side os quiet h =
     streams_by l l history (history ++ map (at_end side) os) refl refl (passed_still P R side history os quiet) (passed_still P E side history os quiet) h
 
 -- links before their first event
-abbrev joined_stations : Settings → (moment : ℕ) → Link
-joined_stations settings moment =
-    joined OfStations moment
-    (OfStation (made true (settings.modulo == 128) settings.window settings.n2 settings.t1) [])
-    (OfStation (made false (settings.modulo == 128) settings.window settings.n2 settings.t1) [])
+abbrev joined_stations : Settings → (moment : ℕ) → (selective : Bool) → Link
+joined_stations settings moment selective =
+    joined (OfStations selective) moment
+    (OfStation selective (made true (settings.modulo == 128) settings.window settings.n2 settings.t1) [])
+    (OfStation selective (made false (settings.modulo == 128) settings.window settings.n2 settings.t1) [])
 
 abbrev joined_stacks : Settings → (moment engine rbc : ℕ) (ke : TripleKey) (kr : Option TripleKey) (ra rb : ℕ) → Link
 joined_stacks settings moment engine rbc ke kr ra rb =
@@ -375,21 +375,21 @@ module _ (only : StepsOnly) (gives : EventsGive) where
   opened_streams settings moment (OfPair (OfFixed engine rbc ke kr)) = record { e = tt; r = tt }
   opened_streams settings moment (OfPair (OfKeys engine rbc ke kr ra rb)) =
       give_streams (joined_pair (OfKeys engine rbc ke kr ra rb) moment) [] E Start tt (record { e = tt; r = tt })
-  opened_streams settings moment OfStations = record { e = tt; r = tt }
+  opened_streams settings moment (OfStations selective) = record { e = tt; r = tt }
   opened_streams settings moment (OfStacks engine rbc ke kr ra rb) = give_streams (joined_stacks settings moment engine rbc ke kr ra rb) [] E Start tt (record { e = refl; r = refl })
 
   opened_along : (settings : Settings) (moment : ℕ) (opening : LinkOpening) → Along (HeardAt settings moment opening) [] (opened settings moment opening).1
   opened_along settings moment (OfPair (OfFixed engine rbc ke kr)) = tt
   opened_along settings moment (OfPair (OfKeys engine rbc ke kr ra rb)) =
       give_deaf settings moment (OfPair (OfKeys engine rbc ke kr ra rb)) (joined_pair (OfKeys engine rbc ke kr ra rb) moment) [] E Start tt
-  opened_along settings moment OfStations = give_deaf settings moment OfStations (joined_stations settings moment) [] E Start tt
+  opened_along settings moment (OfStations selective) = give_deaf settings moment (OfStations selective) (joined_stations settings moment selective) [] E Start tt
   opened_along settings moment (OfStacks engine rbc ke kr ra rb) = give_deaf settings moment (OfStacks engine rbc ke kr ra rb) (joined_stacks settings moment engine rbc ke kr ra rb) [] E Start tt
 
   opened_same : (settings : Settings) (moment : ℕ) (opening : LinkOpening)
       → ((opened settings moment opening).0.opened_at ≡ moment) × ((opened settings moment opening).0.opening ≡ opening)
   opened_same settings moment (OfPair (OfFixed engine rbc ke kr)) = (refl, refl)
   opened_same settings moment (OfPair (OfKeys engine rbc ke kr ra rb)) = (refl, refl)
-  opened_same settings moment OfStations = (refl, refl)
+  opened_same settings moment (OfStations selective) = (refl, refl)
   opened_same settings moment (OfStacks engine rbc ke kr ra rb) = (refl, refl)
 
   opens_standing : (settings : Settings) (moment : ℕ) (opening : LinkOpening) → Stands settings (opened settings moment opening).0 (opened settings moment opening).1

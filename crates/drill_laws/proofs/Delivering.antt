@@ -17,7 +17,7 @@ use Rattle.safe_pair.specs.Talks.{answer}
 use Rattle.safe_pair.specs.Deliveries.{sent_of, accepted_of, Flow, under_way, delivered, Flows, Delivers, FitsOpening, set_up_sapdus, IsComplete, HasFlowed, FlowsDeliver}
 use Rattle.safe_pair.specs.Deliveries as pair
 use Rattle.drill_model.specs.Outcomes.{Occurrence}
-use Rattle.drill_model.specs.Links.{Link, LinkOpening, OfPair, waiting_of, Pass, pass, link_step}
+use Rattle.drill_model.specs.Links.{Link, LinkOpening, OfPair, OfStations, waiting_of, Pass, pass, link_step}
 use Rattle.station_model.specs.Lines.{next_of}
 use Rattle.drill_model.specs.Worlds.{link_at, history_on, next_side, overfull_side, Drain, drain, drain_on, world_run}
 use Rattle.drill_model.specs.Kinds.{sent_by, accepted_by, deliveries, IsLossFree, EndsAgree, bound}
@@ -25,11 +25,11 @@ use Rattle.drill_model.specs.Headline.{FitsSettings, IsConnectedEnd, HasAll, IsE
 use Rattle.drill_model.specs.Headline as claim
 use Rattle.drill_model.specs.Growth.{FactsGrow, HistoryGrows, HistoryOfOwn, HistoryOfOther}
 use Rattle.er_settings.specs.Ranges.{AllAllowed}
-use Rattle.er_settings.specs.Laws.{AllowedAreBounded}
+use Rattle.er_settings.specs.Laws.{AreBounded, AllowedAreBounded}
 use Rattle.station_pair.specs.Laws.{Delivery, DeliveriesBound, FewWait}
 use Rattle.drill_laws.proofs.Tellings.{StationLaws}
-use Rattle.drill_laws.proofs.Wired.{Either}
-use Rattle.drill_laws.proofs.Losing.{allowed_of}
+use Rattle.drill_laws.proofs.Wired.{Either, kind_of}
+use Rattle.drill_laws.proofs.Losing.{allowed_of, narrow_of}
 use Rattle.drill_laws.proofs.Emptying.{wired_delivers}
 use Rattle.drill_laws.proofs.Fitting.{steps_fit}
 use Rattle.drill_laws.proofs.StackWiring.{Numbers}
@@ -252,6 +252,7 @@ module _ (laws : StationLaws) (stacks : StackLaws) (delivery : Delivery) (delive
                   (unforged_at stacks facts grow own other plan steps fit n l is k t.opening_is allowed free)
             ]
         | inr w ↦
-            let allowed : AllAllowed settings = allowed_of settings l w.sees.opening_is settings_fit in
-            wired_delivers laws delivery deliveries_bound few settings allowed (bounds settings allowed) l history w free
+            let kind : l.opening ≡ OfStations w.0 = kind_of settings w.0 l history w.1 in
+            let bounded : AreBounded settings = bounds settings (allowed_of settings w.0 l kind settings_fit) in
+            wired_delivers laws delivery deliveries_bound few settings w.0 bounded (narrow_of settings w.0 l kind settings_fit bounded) l history w.1 free
       ]

@@ -16,17 +16,20 @@ fixed_fits : (grow : FactsGrow) (l : Level) (engine rbc : ℕ) (ke kr : TripleKe
     → OpensFit (FitsLinkOpening grow) (fixed_opening l engine rbc ke kr)
 fixed_fits grow level.Safe engine rbc ke kr e r = (e, r)
 fixed_fits grow level.Link engine rbc ke kr e r = tt
+fixed_fits grow level.LinkSr engine rbc ke kr e r = tt
 fixed_fits grow level.Full engine rbc ke kr e r = tt
 
 link_fits : (grow : FactsGrow) (l : Level) (engine rbc : ℕ) (ke : TripleKey) (kr : Option TripleKey) (ra rb : ℕ) → engine < 2 ^ 24 → rbc < 2 ^ 24 → ra < 2 ^ 64 → rb < 2 ^ 64
     → OpensFit (FitsLinkOpening grow) (link_opening l engine rbc ke kr ra rb)
 link_fits grow level.Safe engine rbc ke kr ra rb e r a b = (e, r, a, b)
 link_fits grow level.Link engine rbc ke kr ra rb e r a b = tt
+link_fits grow level.LinkSr engine rbc ke kr ra rb e r a b = tt
 link_fits grow level.Full engine rbc ke kr ra rb e r a b = (e, r, a, b)
 
 wire_fits : (grow : FactsGrow) (l : Level) → OpensFit (FitsLinkOpening grow) (wire_opening l)
 wire_fits grow level.Safe = tt
 wire_fits grow level.Link = tt
+wire_fits grow level.LinkSr = tt
 wire_fits grow level.Full = tt
 
 step_fits : (grow : FactsGrow) (plan : Plan) (s : Step) → FitsFields s → StepFits (FitsLinkOpening grow) (FitsLinkStep grow) plan s

@@ -9,8 +9,9 @@ use Rattle.safety_automaton.specs.Safety.{Safety, SafetyEvent, ConnectRequest, R
 use Rattle.safety_automaton.specs.Safety as safety
 use Rattle.safety_automaton.specs.Rules.{IsStep, StepsOnly}
 use Rattle.safe_pair.specs.Facts.{Sent, Sealed, heard_in}
-use Rattle.station_model.specs.Stations.{Station, is_down}
-use Rattle.station_model.specs.Calls.{starts as station_starts, receives, hands, finishes, ticks as station_ticks}
+use Rattle.station_model.specs.Stations.{Station, settled, is_down}
+use Rattle.station_model.specs.Selective.{receives_as}
+use Rattle.station_model.specs.Calls.{starts as station_starts, hands, finishes, ticks as station_ticks}
 use Rattle.station_model.specs.Events.{news, said_octets, news as station_news, quits, is_late}
 use Rattle.end_model.specs.Layers.{Spoken, Core, model}
 use Rattle.end_model.specs.Steps.{begins_at, starts, comes, refusal_of, sends_unless, uses, leaves, ticks}
@@ -18,7 +19,7 @@ use Rattle.end_model.specs.Outcomes as stack
 use Rattle.end_model.specs.Ends.{End as Stack, hears_each, finds_expired}
 use Rattle.end_model.specs.Hearing.{FrameGives, EventsGive}
 use Rattle.drill_model.specs.Outcomes.{SendRefusal, Outcome, OfSafety, Handed, Arrived, Up, Took, NothingToTake, Refused, Released, Frame, Expired, UserReleased, Passed, Lost, Repeated, Altered, Inserted, NothingWaits, IsShort}
-use Rattle.drill_model.specs.StationEnds.{if_up, if_arrived, if_released, told_by, called, frames_heard, handed_unless, user_sends, user_releases, if_expired, time_goes_on, begins}
+use Rattle.drill_model.specs.StationEnds.{if_up, if_arrived, all_arrived, if_released, told_by, called, frames_heard, handed_unless, user_sends, user_releases, if_expired, time_goes_on, begins}
 use Rattle.drill_model.specs.StationEnds as on_station
 use Rattle.drill_model.specs.StackEnds.{facts_told, told_at, stack_told, as_refusal, told_unless, took}
 use Rattle.drill_model.specs.Ends.{End, OfSafe, OfStation, OfStack, EndEvent, Start, Receive, Send, Take, Release as Leave, Tick, refusal_of as refused_as, outcomes_by, station_end_step, stack_end_step, end_step}
@@ -88,6 +89,10 @@ module _ (P : List ℕ → Type 0) where
   arrived_hears None = tt
   arrived_hears (Some payload) = (silent P (Arrived payload) refl refl, tt)
 
+  run_hears : (more : List (List ℕ)) → AllHear P (map Arrived more)
+  run_hears [] = tt
+  run_hears (payload ∷ more) = (silent P (Arrived payload) refl refl, run_hears more)
+
   released_hears : (release : Option Release) → AllHear P (if_released release)
   released_hears None = tt
   released_hears (Some release) = (silent P (Released release) refl refl, tt)
@@ -103,22 +108,24 @@ module _ (P : List ℕ → Type 0) where
   rest_hears : (release : Option Release) (frames : List (List ℕ)) → AllHear P (if_released release ++ map Frame frames)
   rest_hears release frames = all_append (Hears P) (if_released release) (map Frame frames) (released_hears release) (frames_hear frames)
 
-  -- ---- level link: a station tells nothing of a safety layer
+  -- ---- levels link and link-sr: a station tells nothing of a safety layer
 
   station_hears : (s : Station) → AllHear P (told_by s)
   station_hears s =
       let up : List Outcome = if_up s.deed.up in
-      let arrived : List Outcome = if_arrived s.deed.payload in
+      let arrived : List Outcome = all_arrived s.deed in
       let left : List Outcome = if_released s.deed.released in
       all_append (Hears P) ((up ++ arrived) ++ left) (map Frame (said_octets s))
-      (all_append (Hears P) (up ++ arrived) left (all_append (Hears P) up arrived (up_hears s.deed.up) (arrived_hears s.deed.payload)) (released_hears s.deed.released))
+      (all_append (Hears P) (up ++ arrived) left (all_append (Hears P) up arrived (up_hears s.deed.up)
+      (all_append (Hears P) (if_arrived s.deed.payload) (map Arrived s.deed.more) (arrived_hears s.deed.payload) (run_hears s.deed.more))) (released_hears s.deed.released))
       (frames_hear (said_octets s))
 
-  heard_frames_hear : (moment : ℕ) (verdicts : List Verdict) (s : Station) → AllHear P (frames_heard moment verdicts s).1
-  heard_frames_hear moment [] s = tt
-  heard_frames_hear moment (verdict ∷ verdicts) s =
-      let a : Station × List Outcome = called (finishes (receives moment verdict s)) in
-      all_append (Hears P) a.1 (frames_heard moment verdicts a.0).1 (station_hears (finishes (receives moment verdict s))) (heard_frames_hear moment verdicts a.0)
+  heard_frames_hear : (selective : Bool) (moment : ℕ) (verdicts : List Verdict) (s : Station) → AllHear P (frames_heard selective moment verdicts s).1
+  heard_frames_hear selective moment [] s = tt
+  heard_frames_hear selective moment (verdict ∷ verdicts) s =
+      let t : Station = finishes (receives_as selective moment verdict s) in
+      let rest : List Outcome = (frames_heard selective moment verdicts (settled t)).1 in
+      all_append (Hears P) (told_by t) rest (station_hears t) (heard_frames_hear selective moment verdicts (settled t))
 
   handed_hears : (refusal : Option SendRefusal) (moment : ℕ) (payload : List ℕ) (s : Station) → AllHear P (handed_unless refusal moment payload s).1
   handed_hears (Some refusal) moment payload s = (silent P (Refused refusal) refl refl, tt)
@@ -128,13 +135,13 @@ module _ (P : List ℕ → Type 0) where
   left_hears true x y hx hy = hx
   left_hears false x y hx hy = hy
 
-  station_event_hears : (moment : ℕ) (s : Station) (stream : List ℕ) (event : EndEvent) → AllHear P (station_end_step moment s stream event).1
-  station_event_hears moment s stream Start = station_hears (finishes (station_starts moment s))
-  station_event_hears moment s stream (Receive octets) = heard_frames_hear moment (station_news stream octets) s
-  station_event_hears moment s stream (Send payload) = handed_hears (on_station.refusal_of s payload s.released) moment payload s
-  station_event_hears moment s stream Take = tt
-  station_event_hears moment s stream (Leave sub) = left_hears (is_down s.phase) (s, []) (called (quits sub s)) tt (station_hears (quits sub s))
-  station_event_hears moment s stream Tick =
+  station_event_hears : (selective : Bool) (moment : ℕ) (s : Station) (stream : List ℕ) (event : EndEvent) → AllHear P (station_end_step selective moment s stream event).1
+  station_event_hears selective moment s stream Start = station_hears (finishes (station_starts moment s))
+  station_event_hears selective moment s stream (Receive octets) = heard_frames_hear selective moment (station_news stream octets) s
+  station_event_hears selective moment s stream (Send payload) = handed_hears (on_station.refusal_of s payload s.released) moment payload s
+  station_event_hears selective moment s stream Take = tt
+  station_event_hears selective moment s stream (Leave sub) = left_hears (is_down s.phase) (s, []) (called (quits sub s)) tt (station_hears (quits sub s))
+  station_event_hears selective moment s stream Tick =
       all_append (Hears P) (if_expired (is_late moment s)) (told_by (finishes (station_ticks moment s))) (expired_hears (is_late moment s))
       (station_hears (finishes (station_ticks moment s)))
 
@@ -202,7 +209,7 @@ IsNoReceive Tick = Unit {0}
 -- the stream of a stack is all octets that it was given
 abbrev pub StreamIs : End → List ℕ → Type 0
 StreamIs (OfSafe s) octets = Unit {0}
-StreamIs (OfStation s stream) octets = Unit {0}
+StreamIs (OfStation selective s stream) octets = Unit {0}
 StreamIs (OfStack m) octets = m.stream ≡ octets
 
 module _ (only : StepsOnly) (give : EventsGive) (key_of : ℕ → ℕ → Option TripleKey) where
@@ -312,7 +319,7 @@ module _ (only : StepsOnly) (give : EventsGive) (key_of : ℕ → ℕ → Option
   deaf moment (OfSafe s) Take none = tt
   deaf moment (OfSafe s) (Leave sub) none = safe_deaf s (DisconnectRequest sub) (λ heard e. cc)
   deaf moment (OfSafe s) Tick none = tt
-  deaf moment (OfStation s stream) event none = station_event_hears Nothing moment s stream event
+  deaf moment (OfStation selective s stream) event none = station_event_hears Nothing selective moment s stream event
   deaf moment (OfStack m) event none = stack_deaf moment m event none
 
   pub hears : (moment : ℕ) (end : End) (earlier octets : List ℕ) → StreamIs end earlier
@@ -323,7 +330,7 @@ module _ (only : StepsOnly) (give : EventsGive) (key_of : ℕ → ℕ → Option
     where
       own : (heard octets : List ℕ) → Received octets ≡ Received heard → heard ≡ octets
       own heard octets e = cc
-  hears moment (OfStation s stream) earlier octets is = station_event_hears Nothing moment s stream (Receive octets)
+  hears moment (OfStation selective s stream) earlier octets is = station_event_hears Nothing selective moment s stream (Receive octets)
   hears moment (OfStack m) earlier octets stream =
       subst (λ (before : List ℕ). AllHear (IsMade key_of moment m earlier octets) (stack_told (λ now. key_of) moment (news before octets) (begins_at model moment m.core)))
       (sym stream) (each_hears moment m earlier octets stream (news earlier octets) [] refl)
@@ -337,12 +344,12 @@ module _ (only : StepsOnly) (give : EventsGive) (key_of : ℕ → ℕ → Option
   keeps_stream moment (OfSafe s) Take earlier none stream = tt
   keeps_stream moment (OfSafe s) (Leave sub) earlier none stream = tt
   keeps_stream moment (OfSafe s) Tick earlier none stream = tt
-  keeps_stream moment (OfStation s own) Start earlier none stream = tt
-  keeps_stream moment (OfStation s own) (Receive octets) earlier none stream = absurd none
-  keeps_stream moment (OfStation s own) (Send user) earlier none stream = tt
-  keeps_stream moment (OfStation s own) Take earlier none stream = tt
-  keeps_stream moment (OfStation s own) (Leave sub) earlier none stream = tt
-  keeps_stream moment (OfStation s own) Tick earlier none stream = tt
+  keeps_stream moment (OfStation selective s own) Start earlier none stream = tt
+  keeps_stream moment (OfStation selective s own) (Receive octets) earlier none stream = absurd none
+  keeps_stream moment (OfStation selective s own) (Send user) earlier none stream = tt
+  keeps_stream moment (OfStation selective s own) Take earlier none stream = tt
+  keeps_stream moment (OfStation selective s own) (Leave sub) earlier none stream = tt
+  keeps_stream moment (OfStation selective s own) Tick earlier none stream = tt
   keeps_stream moment (OfStack m) Start earlier none stream = stream
   keeps_stream moment (OfStack m) (Receive octets) earlier none stream = absurd none
   keeps_stream moment (OfStack m) (Send user) earlier none stream = stream
@@ -352,5 +359,5 @@ module _ (only : StepsOnly) (give : EventsGive) (key_of : ℕ → ℕ → Option
 
   pub grows_stream : (moment : ℕ) (end : End) (octets earlier : List ℕ) → StreamIs end earlier → StreamIs (end_step key_of moment end (Receive octets)).0 (earlier ++ octets)
   grows_stream moment (OfSafe s) octets earlier stream = tt
-  grows_stream moment (OfStation s own) octets earlier stream = tt
+  grows_stream moment (OfStation selective s own) octets earlier stream = tt
   grows_stream moment (OfStack m) octets earlier stream = ap (λ (before : List ℕ). before ++ octets) stream

@@ -1,5 +1,5 @@
 -- A link of two stations that only loses and repeats: what was accepted is a prefix of what was sent, and why an end was released.
-use Rattle.std.proofs.Common.{◌≡◌, inl, inr, ℕ, ◌==◌, ◌<◌, Bool, true, false, not, List, [], ◌∷◌, refl, sym, subst, ◌∙◌}
+use Rattle.std.proofs.Common.{◌≡◌, inl, inr, ℕ, ◌*◌, ◌==◌, ◌<◌, ◌≤◌, Bool, true, false, not, List, [], ◌∷◌, refl, sym, subst, ◌∙◌}
 use Rattle.std.specs.Prelude.{Option, Some}
 use Rattle.std.specs.List.{AllByRecursion}
 use Rattle.er_base.specs.declared.release.Release.{Release}
@@ -12,14 +12,14 @@ use Rattle.station_model.specs.Lines as line_words
 use Rattle.station_model.specs.Lines.{IsPrefix}
 use Rattle.station_pair.specs.Links.{Link as Pair}
 use Rattle.station_pair.specs.Steps.{run}
-use Rattle.station_pair.specs.Laws.{Opening, Prefix, LosingLineReasons}
+use Rattle.station_pair.specs.Laws.{IsNarrow, Opening, Prefix, LosingLineReasons}
 use Rattle.station_pair.specs.Laws as of_pair
 use Rattle.drill_model.specs.Outcomes.{Occurrence}
 use Rattle.drill_model.specs.Links.{Link, LinkOpening, OfStations}
 use Rattle.drill_model.specs.Kinds.{sent_by, accepted_by, releases_in, IsOrderKeeping}
 use Rattle.drill_model.specs.Headline.{FitsSettings, IsInOrder, IsLosingLineReason}
 use Rattle.drill_laws.proofs.Wiring.{IsOfPair}
-use Rattle.drill_laws.proofs.Wired.{wired, IsWired}
+use Rattle.drill_laws.proofs.Wired.{wired, IsWired, kind_of}
 
 -- ---- the pair's opening
 
@@ -27,23 +27,33 @@ modulo_is : (n : ℕ) → IsModulo n → modulo (n == 128) ≡ n
 modulo_is n (inl basic) = rw basic refl
 modulo_is n (inr extended) = rw extended refl
 
-abbrev pub pair_opening : (settings : Settings) → (moment : ℕ) → AreBounded settings → settings.window < modulo (settings.modulo == 128) → Opening
-pair_opening settings moment bounded below = record {
+abbrev pub pair_opening : (settings : Settings) → (selective : Bool) → (moment : ℕ) → AreBounded settings
+    → IsNarrow selective (settings.modulo == 128) settings.window → Opening
+pair_opening settings selective moment bounded narrow = record {
+  selective = selective;
   extended = settings.modulo == 128;
   window = settings.window;
   n2 = settings.n2;
   t1 = settings.t1;
   moment = moment;
   some = bounded.window.0;
-  below_modulo = below;
+  narrow = narrow;
 }
 
-pub below_modulo : (settings : Settings) → AllAllowed settings → AreBounded settings → settings.window < modulo (settings.modulo == 128)
-below_modulo settings allowed bounded = subst (λ (m : ℕ). settings.window < m) (sym (modulo_is settings.modulo allowed.modulo)) bounded.window_below_modulo
-
 -- the settings of a link of stations are in their ranges
-pub allowed_of : (settings : Settings) (l : Link) → l.opening ≡ OfStations → FitsSettings settings l.opening → AllAllowed settings
-allowed_of settings l is fit = subst (FitsSettings settings) is fit
+pub allowed_of : (settings : Settings) (selective : Bool) (l : Link) → l.opening ≡ OfStations selective → FitsSettings settings l.opening → AllAllowed settings
+allowed_of settings true l is fit = (subst (FitsSettings settings) is fit).0
+allowed_of settings false l is fit = subst (FitsSettings settings) is fit
+
+-- the window is below the modulo, and with selective reject half of it at the most
+pub narrow_of : (settings : Settings) (selective : Bool) (l : Link) → l.opening ≡ OfStations selective → FitsSettings settings l.opening → AreBounded settings
+    → IsNarrow selective (settings.modulo == 128) settings.window
+narrow_of settings true l is fit bounded =
+    let both : AllAllowed settings × (2 * settings.window ≤ settings.modulo) = subst (FitsSettings settings) is fit in
+    subst (λ (m : ℕ). 2 * settings.window ≤ m) (sym (modulo_is settings.modulo both.0.modulo)) both.1
+narrow_of settings false l is fit bounded =
+    let allowed : AllAllowed settings = subst (FitsSettings settings) is fit in
+    subst (λ (m : ℕ). settings.window < m) (sym (modulo_is settings.modulo allowed.modulo)) bounded.window_below_modulo
 
 pub not_false : (b : Bool) → not b ≡ false → b ≡ true
 not_false true e = refl
@@ -51,44 +61,49 @@ not_false false e = absurd (cc)
 
 -- ---- one link
 
-kept_of : (settings : Settings) (l : Link) (history : List Occurrence) (w : IsWired settings l history) → IsOrderKeeping l.opening history
-    → (run (wired settings w.moment) w.steps).order_kept ≡ true
-kept_of settings l history w keeping = not_false (run (wired settings w.moment) w.steps).order_kept (sym w.sees.order ∙ keeping.ordered)
+kept_of : (settings : Settings) (selective : Bool) (l : Link) (history : List Occurrence) (w : IsWired settings selective l history) → IsOrderKeeping l.opening history
+    → (run (wired settings selective w.moment) w.steps).order_kept ≡ true
+kept_of settings selective l history w keeping = not_false (run (wired settings selective w.moment) w.steps).order_kept (sym w.sees.order ∙ keeping.ordered)
+
+-- how the pair of such a link was opened
+abbrev opening_at : AllowedAreBounded → (settings : Settings) (selective : Bool) (l : Link) (history : List Occurrence) → IsWired settings selective l history
+    → FitsSettings settings l.opening → (moment : ℕ) → Opening
+opening_at bounds settings selective l history w fit moment =
+    let kind : l.opening ≡ OfStations selective = kind_of settings selective l history w in
+    let bounded : AreBounded settings = bounds settings (allowed_of settings selective l kind fit) in
+    pair_opening settings selective moment bounded (narrow_of settings selective l kind fit bounded)
 
 pub prefix_of : (xs ys xs' ys' : List (List ℕ)) → xs ≡ xs' → ys ≡ ys' → line_words.IsPrefix xs' ys' → IsPrefix xs ys
 prefix_of xs ys xs' ys' x y prefix = rw (x, y) prefix
 
-pub wired_in_order : Prefix → AllowedAreBounded → (settings : Settings) (l : Link) (history : List Occurrence) → IsWired settings l history → FitsSettings settings l.opening
-    → IsOrderKeeping l.opening history → IsInOrder history
-wired_in_order law bounds settings l history w fit keeping =
+pub wired_in_order : Prefix → AllowedAreBounded → (settings : Settings) (selective : Bool) (l : Link) (history : List Occurrence) → IsWired settings selective l history
+    → FitsSettings settings l.opening → IsOrderKeeping l.opening history → IsInOrder history
+wired_in_order law bounds settings selective l history w fit keeping =
     let v = w.sees in
-    let p : Pair = run (wired settings w.moment) w.steps in
-    let allowed : AllAllowed settings = allowed_of settings l v.opening_is fit in
-    let bounded : AreBounded settings = bounds settings allowed in
-    let s : Opening = pair_opening settings w.moment bounded (below_modulo settings allowed bounded) in
-    let both : line_words.IsPrefix p.r.taken p.e.handed × line_words.IsPrefix p.e.taken p.r.handed = law s w.steps (kept_of settings l history w keeping) in
+    let p : Pair = run (wired settings selective w.moment) w.steps in
+    let s : Opening = opening_at bounds settings selective l history w fit w.moment in
+    let both : line_words.IsPrefix p.r.taken p.e.handed × line_words.IsPrefix p.e.taken p.r.handed = law s w.steps (kept_of settings selective l history w keeping) in
     record {
       at_r = prefix_of (accepted_by R history) (sent_by E history) p.r.taken p.e.handed v.accepted_r v.sent_e both.0;
       at_e = prefix_of (accepted_by E history) (sent_by R history) p.e.taken p.r.handed v.accepted_e v.sent_r both.1;
     }
 
-one_reason : (released : Option Release) (release : Release) → released ≡ Some release → of_pair.IsLosingLineRelease released → IsLosingLineReason OfStations release
-one_reason released release is reason = subst of_pair.IsLosingLineRelease is reason
+one_reason : (selective : Bool) (released : Option Release) (release : Release) → released ≡ Some release
+    → of_pair.IsLosingLineRelease released → IsLosingLineReason (OfStations selective) release
+one_reason selective released release is reason = subst of_pair.IsLosingLineRelease is reason
 
-all_reasons : (p : Pair) (releases : List Release) → of_pair.IsLosingLineRelease p.e.released → of_pair.IsLosingLineRelease p.r.released
-    → AllByRecursion (IsOfPair p) releases → AllByRecursion (IsLosingLineReason OfStations) releases
-all_reasons p [] e r all = tt
-all_reasons p (x ∷ xs) e r all =
-    (elim all.0 [ inl is ↦ one_reason p.e.released x is e | inr is ↦ one_reason p.r.released x is r ], all_reasons p xs e r all.1)
+all_reasons : (selective : Bool) (p : Pair) (releases : List Release) → of_pair.IsLosingLineRelease p.e.released → of_pair.IsLosingLineRelease p.r.released
+    → AllByRecursion (IsOfPair p) releases → AllByRecursion (IsLosingLineReason (OfStations selective)) releases
+all_reasons selective p [] e r all = tt
+all_reasons selective p (x ∷ xs) e r all =
+    (elim all.0 [ inl is ↦ one_reason selective p.e.released x is e | inr is ↦ one_reason selective p.r.released x is r ], all_reasons selective p xs e r all.1)
 
-pub wired_reasons : LosingLineReasons → AllowedAreBounded → (settings : Settings) (l : Link) (history : List Occurrence) → IsWired settings l history
+pub wired_reasons : LosingLineReasons → AllowedAreBounded → (settings : Settings) (selective : Bool) (l : Link) (history : List Occurrence) → IsWired settings selective l history
     → FitsSettings settings l.opening → IsOrderKeeping l.opening history → AllByRecursion (IsLosingLineReason l.opening) (releases_in history)
-wired_reasons law bounds settings l history w fit keeping =
+wired_reasons law bounds settings selective l history w fit keeping =
     let v = w.sees in
-    let p : Pair = run (wired settings w.moment) w.steps in
-    let allowed : AllAllowed settings = allowed_of settings l v.opening_is fit in
-    let bounded : AreBounded settings = bounds settings allowed in
-    let s : Opening = pair_opening settings w.moment bounded (below_modulo settings allowed bounded) in
-    let both : of_pair.IsLosingLineRelease p.e.released × of_pair.IsLosingLineRelease p.r.released = law s w.steps (kept_of settings l history w keeping) in
-    subst (λ (o : LinkOpening). AllByRecursion (IsLosingLineReason o) (releases_in history)) (sym v.opening_is)
-    (all_reasons p (releases_in history) both.0 both.1 v.releases)
+    let p : Pair = run (wired settings selective w.moment) w.steps in
+    let s : Opening = opening_at bounds settings selective l history w fit w.moment in
+    let both : of_pair.IsLosingLineRelease p.e.released × of_pair.IsLosingLineRelease p.r.released = law s w.steps (kept_of settings selective l history w keeping) in
+    subst (λ (o : LinkOpening). AllByRecursion (IsLosingLineReason o) (releases_in history)) (sym (kind_of settings selective l history w))
+    (all_reasons selective p (releases_in history) both.0 both.1 v.releases)

@@ -97,7 +97,7 @@ module _ (grow : FactsGrow) where
   opened_is : (settings : Settings) (moment : ℕ) (opening : LinkOpening) → (opened settings moment opening).0.opening ≡ opening
   opened_is settings moment (OfPair (OfFixed engine rbc ke kr)) = refl
   opened_is settings moment (OfPair (OfKeys engine rbc ke kr ra rb)) = refl
-  opened_is settings moment OfStations = refl
+  opened_is settings moment (OfStations selective) = refl
   opened_is settings moment (OfStacks engine rbc ke kr ra rb) = refl
 
   named_other : (n m : ℕ) (opening : Option LinkOpening) → (n ≡ m → ⊥) → named n m opening ≡ None

@@ -55,7 +55,7 @@ module _ (laws : StationLaws) (stacks : StackLaws) (bounds : AllowedAreBounded) 
               | inl t ↦ absurd (not_numbered l history t keeping)
               | inr t ↦ stacked_in_order plan.settings l history (stack_at plan steps n l is t steps_fit) (allowed_at plan l history t fit) stacks.prefix keeping
             ]
-        | inr w ↦ wired_in_order law bounds plan.settings l history w fit keeping
+        | inr w ↦ wired_in_order law bounds plan.settings w.0 l history w.1 fit keeping
       ]
 
   pub reasons_always : LosingLineReasons → LosingLineReasonsAlways
@@ -67,5 +67,5 @@ module _ (laws : StationLaws) (stacks : StackLaws) (bounds : AllowedAreBounded) 
               | inl t ↦ absurd (not_numbered l history t keeping)
               | inr t ↦ stacked_reasons plan.settings l history (stack_at plan steps n l is t steps_fit) (allowed_at plan l history t fit) stacks.reasons keeping
             ]
-        | inr w ↦ wired_reasons law bounds plan.settings l history w fit keeping
+        | inr w ↦ wired_reasons law bounds plan.settings w.0 l history w.1 fit keeping
       ]

@@ -96,7 +96,7 @@ module _ (laws : StackLaws) (while_ordered : InStepWhileOrdered) (facts : FactsG
       lower_pair : (opening : PairOpening) (moment : ℕ) → IsLower (opened settings moment (OfPair opening)).0.opening
       lower_pair (OfFixed engine rbc ke kr) moment = tt
       lower_pair (OfKeys engine rbc ke kr ra rb) moment = tt
-  opens_trusted settings moment OfStations fit = inr tt
+  opens_trusted settings moment (OfStations selective) fit = inr tt
   opens_trusted settings moment (OfStacks engine rbc ke kr ra rb) fit =
       let k : Numbers = record { engine = engine; rbc = rbc; ke = ke; kr = kr; ra = ra; rb = rb } in
       let a : Link × List Occurrence = opened settings moment (OfStacks engine rbc ke kr ra rb) in
@@ -151,5 +151,5 @@ module _ (laws : StackLaws) (while_ordered : InStepWhileOrdered) (facts : FactsG
                 | inl t ↦ absurd (subst IsNumbered t.opening_is keeping.numbered)
                 | inr t ↦ absurd (subst IsLower t.opening_is low)
               ]
-          | inr w ↦ ap (λ (fs : List SideFact). list_any (λ f. f.forged) (marked fs)) w.sees.facts
+          | inr w ↦ ap (λ (fs : List SideFact). list_any (λ f. f.forged) (marked fs)) w.1.sees.facts
         ]) keeping.ordered agree

@@ -10,9 +10,10 @@ use Rattle.safe_pair.specs.Facts.{SideFact, MarkedFact, heard_in, marked, marked
 use Rattle.safe_pair.specs.Marks.{MarksGrow}
 use Rattle.hdlc_frames.specs.Framing.{Verdict}
 use Rattle.station_model.specs.Stations.{Station, settled, is_down}
-use Rattle.station_model.specs.Calls.{starts, receives, hands, finishes, ticks}
+use Rattle.station_model.specs.Calls.{starts, hands, finishes, ticks}
+use Rattle.station_model.specs.Selective.{receives_as}
 use Rattle.station_model.specs.Events.{said_octets, news, quits, is_late}
-use Rattle.drill_model.specs.Outcomes.{Outcome, SendRefusal, Frame, Occurrence, facts_at, facts_in}
+use Rattle.drill_model.specs.Outcomes.{Outcome, SendRefusal, Arrived, Frame, Occurrence, facts_at, facts_in}
 use Rattle.drill_model.specs.StationEnds.{if_up, if_arrived, if_released, told_by, called, frames_heard, heard_parts, refusal_of, handed_unless, user_releases, if_expired}
 use Rattle.drill_model.specs.Ends.{OfSafe, OfStation, OfStack, EndEvent, safety_event, outcomes_by, safe_end_step, station_end_step}
 use Rattle.drill_model.specs.Ends as event
@@ -119,19 +120,31 @@ only_frames [] = tt
 only_frames (f ∷ frames) = rising_frames 7 frames (omega arith)
 
 -- what a call of a station told
-rising_deed : (up : Bool) (payload : Option (List ℕ)) (released : Option Release) (frames : List (List ℕ))
-    → IsRising (flat_map place_of (((if_up up ++ if_arrived payload) ++ if_released released) ++ map Frame frames))
-rising_deed true (Some p) (Some release) frames = (omega arith, (omega arith, rising_frames 6 frames (omega arith)))
-rising_deed true (Some p) None frames = (omega arith, rising_frames 3 frames (omega arith))
-rising_deed true None (Some release) frames = (omega arith, rising_frames 6 frames (omega arith))
-rising_deed true None None frames = rising_frames 1 frames (omega arith)
-rising_deed false (Some p) (Some release) frames = (omega arith, rising_frames 6 frames (omega arith))
-rising_deed false (Some p) None frames = rising_frames 3 frames (omega arith)
-rising_deed false None (Some release) frames = rising_frames 6 frames (omega arith)
-rising_deed false None None frames = only_frames frames
+rising_end : (n : ℕ) (released : Option Release) (frames : List (List ℕ)) → n ≤ 6 → IsRising (n ∷ flat_map place_of (if_released released ++ map Frame frames))
+rising_end n None frames small = rising_frames n frames (omega arith)
+rising_end n (Some release) frames small = (small, rising_frames 6 frames (omega arith))
+
+-- payloads, behind a line of the table
+rising_run : (n : ℕ) (more : List (List ℕ)) (released : Option Release) (frames : List (List ℕ)) → n ≤ 3
+    → IsRising (n ∷ flat_map place_of ((map Arrived more ++ if_released released) ++ map Frame frames))
+rising_run n [] released frames small = rising_end n released frames (omega arith)
+rising_run n (p ∷ more) released frames small = (small, rising_run 3 more released frames (omega arith))
+
+only_run : (more : List (List ℕ)) (released : Option Release) (frames : List (List ℕ))
+    → IsRising (flat_map place_of ((map Arrived more ++ if_released released) ++ map Frame frames))
+only_run [] None frames = only_frames frames
+only_run [] (Some release) frames = rising_frames 6 frames (omega arith)
+only_run (p ∷ more) released frames = rising_run 3 more released frames (omega arith)
+
+rising_deed : (up : Bool) (payload : Option (List ℕ)) (more : List (List ℕ)) (released : Option Release) (frames : List (List ℕ))
+    → IsRising (flat_map place_of (((if_up up ++ (if_arrived payload ++ map Arrived more)) ++ if_released released) ++ map Frame frames))
+rising_deed true (Some p) more released frames = (omega arith, rising_run 3 more released frames (omega arith))
+rising_deed true None more released frames = rising_run 1 more released frames (omega arith)
+rising_deed false (Some p) more released frames = rising_run 3 more released frames (omega arith)
+rising_deed false None more released frames = only_run more released frames
 
 rising_told : (t : Station) → IsRising (flat_map place_of (told_by t))
-rising_told t = rising_deed t.deed.up t.deed.payload t.deed.released (said_octets t)
+rising_told t = rising_deed t.deed.up t.deed.payload t.deed.more t.deed.released (said_octets t)
 
 rising_sends : (refusal : Option SendRefusal) (moment : ℕ) (payload : List ℕ) (s : Station) → IsRising (flat_map place_of (handed_unless refusal moment payload s).1)
 rising_sends (Some refusal) moment payload s = tt
@@ -145,15 +158,19 @@ rising_releases : (sub : ℕ) (s : Station) → IsRising (flat_map place_of (use
 rising_releases sub s =
     cond_both (is_down s.phase) (s, []) (called (quits sub s)) (λ (a : Station × List Outcome). IsRising (flat_map place_of a.1)) (λ e. tt) (λ e. rising_told (quits sub s))
 
-parts_are : (moment : ℕ) (verdicts : List Verdict) (s : Station) → flat_map (λ (part : List Outcome). part) (heard_parts moment verdicts s) ≡ (frames_heard moment verdicts s).1
-parts_are moment [] s = refl
-parts_are moment (v ∷ vs) s =
-    let t : Station = finishes (receives moment v s) in
-    ap (λ (xs : List Outcome). told_by t ++ xs) (parts_are moment vs (settled t))
+parts_are : (selective : Bool) (moment : ℕ) (verdicts : List Verdict) (s : Station)
+    → flat_map (λ (part : List Outcome). part) (heard_parts selective moment verdicts s) ≡ (frames_heard selective moment verdicts s).1
+parts_are selective moment [] s = refl
+parts_are selective moment (v ∷ vs) s =
+    let t : Station = finishes (receives_as selective moment v s) in
+    ap (λ (xs : List Outcome). told_by t ++ xs) (parts_are selective moment vs (settled t))
 
-rising_parts : (moment : ℕ) (verdicts : List Verdict) (s : Station) → AllByRecursion (λ part. IsRising (flat_map place_of part)) (heard_parts moment verdicts s)
-rising_parts moment [] s = tt
-rising_parts moment (v ∷ vs) s = let t : Station = finishes (receives moment v s) in (rising_told t, rising_parts moment vs (settled t))
+rising_parts : (selective : Bool) (moment : ℕ) (verdicts : List Verdict) (s : Station)
+    → AllByRecursion (λ part. IsRising (flat_map place_of part)) (heard_parts selective moment verdicts s)
+rising_parts selective moment [] s = tt
+rising_parts selective moment (v ∷ vs) s =
+    let t : Station = finishes (receives_as selective moment v s) in
+    (rising_told t, rising_parts selective moment vs (settled t))
 
 abbrev IsOrdered : List (List Outcome) → List Outcome → Type 0
 IsOrdered parts outcomes = (flat_map (λ (part : List Outcome). part) parts ≡ outcomes) × AllByRecursion (λ part. IsRising (flat_map place_of part)) parts
@@ -161,15 +178,16 @@ IsOrdered parts outcomes = (flat_map (λ (part : List Outcome). part) parts ≡ 
 one_part : (outcomes : List Outcome) → IsRising (flat_map place_of outcomes) → IsOrdered (outcomes ∷ []) outcomes
 one_part outcomes rising = (append-nil outcomes, (rising, tt))
 
-ordered_station : (moment : ℕ) (s : Station) (stream : List ℕ) (event : EndEvent) → IsOrdered (station_parts moment s stream event) (station_end_step moment s stream event).1
-ordered_station moment s stream event.Start = one_part _ (rising_told (finishes (starts moment s)))
-ordered_station moment s stream (event.Receive octets) = (parts_are moment (news stream octets) s, rising_parts moment (news stream octets) s)
-ordered_station moment s stream (event.Send payload) = one_part _ (rising_sends (refusal_of s payload s.released) moment payload s)
-ordered_station moment s stream event.Take = one_part [] tt
-ordered_station moment s stream (event.Release sub) = one_part _ (rising_releases sub s)
-ordered_station moment s stream event.Tick = one_part _ (rising_expired (is_late moment s) (finishes (ticks moment s)))
+ordered_station : (selective : Bool) (moment : ℕ) (s : Station) (stream : List ℕ) (event : EndEvent)
+    → IsOrdered (station_parts selective moment s stream event) (station_end_step selective moment s stream event).1
+ordered_station selective moment s stream event.Start = one_part _ (rising_told (finishes (starts moment s)))
+ordered_station selective moment s stream (event.Receive octets) = (parts_are selective moment (news stream octets) s, rising_parts selective moment (news stream octets) s)
+ordered_station selective moment s stream (event.Send payload) = one_part _ (rising_sends (refusal_of s payload s.released) moment payload s)
+ordered_station selective moment s stream event.Take = one_part [] tt
+ordered_station selective moment s stream (event.Release sub) = one_part _ (rising_releases sub s)
+ordered_station selective moment s stream event.Tick = one_part _ (rising_expired (is_late moment s) (finishes (ticks moment s)))
 
 pub lines_in_order : LinesInOrder
 lines_in_order key_of moment (OfSafe s) event = one_part _ (rising_safe key_of s (safety_event event))
-lines_in_order key_of moment (OfStation s stream) event = ordered_station moment s stream event
+lines_in_order key_of moment (OfStation selective s stream) event = ordered_station selective moment s stream event
 lines_in_order key_of moment (OfStack m) event = stack_in_order key_of moment m event

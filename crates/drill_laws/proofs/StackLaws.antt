@@ -179,10 +179,10 @@ module _ (settings : Settings) (l : Link) (history : List Occurrence) (t : IsSta
 
 -- ---- worlds
 
--- an opening of level safe or link
+-- an opening of any level but full
 abbrev pub IsLower : LinkOpening → Type 0
 IsLower (OfPair opening) = Unit {0}
-IsLower OfStations = Unit {0}
+IsLower (OfStations selective) = Unit {0}
 IsLower (OfStacks engine rbc ke kr ra rb) = ⊥
 
 abbrev Stacked : Settings → Link → List Occurrence → Type 0
@@ -208,7 +208,7 @@ module _ (laws : StackLaws) (facts : FactsGrow) where
       lower_pair : (opening : PairOpening) (moment : ℕ) → IsLower (opened settings moment (OfPair opening)).0.opening
       lower_pair (OfFixed engine rbc ke kr) moment = tt
       lower_pair (OfKeys engine rbc ke kr ra rb) moment = tt
-  opens_stacked settings moment OfStations fit = inr tt
+  opens_stacked settings moment (OfStations selective) fit = inr tt
   opens_stacked settings moment (OfStacks engine rbc ke kr ra rb) fit =
       inl (stacked_opens laws.only laws.calls laws.opens settings moment (record { engine = engine; rbc = rbc; ke = ke; kr = kr; ra = ra; rb = rb }) fit)
 

@@ -116,7 +116,7 @@ module _ (laws : StackLaws) (facts : FactsGrow) where
       lower_pair : (opening : PairOpening) (moment : ℕ) → IsLower (opened settings moment (OfPair opening)).0.opening
       lower_pair (OfFixed engine rbc ke kr) moment = tt
       lower_pair (OfKeys engine rbc ke kr ra rb) moment = tt
-  opens_trusted settings moment OfStations fit = inr tt
+  opens_trusted settings moment (OfStations selective) fit = inr tt
   opens_trusted settings moment (OfStacks engine rbc ke kr ra rb) fit =
       let k : Numbers = record { engine = engine; rbc = rbc; ke = ke; kr = kr; ra = ra; rb = rb } in
       let a : Link × List Occurrence = opened settings moment (OfStacks engine rbc ke kr ra rb) in

@@ -21,14 +21,15 @@ use Rattle.safe_pair.specs.Openings.{OfFixed, OfKeys}
 use Rattle.safe_pair.specs.Deliveries.{IsConnectedPhase}
 use Rattle.station_model.specs.Stations.{Station, made, settled, is_down}
 use Rattle.station_model.specs.Sending.{is_due}
-use Rattle.station_model.specs.Calls.{receives, finishes, starts as station_starts, hands as station_hands, ticks as station_ticks}
+use Rattle.station_model.specs.Selective.{receives_as}
+use Rattle.station_model.specs.Calls.{finishes, starts as station_starts, hands as station_hands, ticks as station_ticks}
 use Rattle.station_model.specs.Events as station_events
 use Rattle.end_model.specs.Outcomes.{SendRefusal}
 use Rattle.end_model.specs.Layers.{Spoken, Core, model}
 use Rattle.end_model.specs.Steps.{Finds, begins_at, starts, comes, is_connected, refusal_of, sends_unless, uses, leaves, ticks}
 use Rattle.end_model.specs.Ends.{End as Stack, finds_expired}
 use Rattle.end_model.specs.Ends as stacks
-use Rattle.drill_model.specs.Outcomes.{Outcome, Frame, UserReleased, Passed, NothingWaits, Occurrence, at_end}
+use Rattle.drill_model.specs.Outcomes.{Outcome, Arrived, Frame, UserReleased, Passed, NothingWaits, Occurrence, at_end}
 use Rattle.drill_model.specs.Outcomes as came
 use Rattle.drill_model.specs.StationEnds.{if_up, if_arrived, if_released, if_expired, told_by, called, frames_heard, handed_unless}
 use Rattle.drill_model.specs.StationEnds as station
@@ -73,22 +74,27 @@ release_tells : (released : Option Release) (frames : List (List ℕ)) → told_
 release_tells None frames = frames_tell frames
 release_tells (Some release) frames = frames_tell frames
 
-parts_tell : (up : Bool) (payload : Option (List ℕ)) (released : Option Release) (frames : List (List ℕ))
-    → told_effects (((if_up up ++ if_arrived payload) ++ if_released released) ++ map Frame frames) ≡ []
-parts_tell true (Some payload) released frames = release_tells released frames
-parts_tell true None released frames = release_tells released frames
-parts_tell false (Some payload) released frames = release_tells released frames
-parts_tell false None released frames = release_tells released frames
+run_tells : (more : List (List ℕ)) (released : Option Release) (frames : List (List ℕ))
+    → told_effects ((map Arrived more ++ if_released released) ++ map Frame frames) ≡ []
+run_tells [] released frames = release_tells released frames
+run_tells (payload ∷ more) released frames = run_tells more released frames
+
+parts_tell : (up : Bool) (payload : Option (List ℕ)) (more : List (List ℕ)) (released : Option Release) (frames : List (List ℕ))
+    → told_effects (((if_up up ++ (if_arrived payload ++ map Arrived more)) ++ if_released released) ++ map Frame frames) ≡ []
+parts_tell true (Some payload) more released frames = run_tells more released frames
+parts_tell true None more released frames = run_tells more released frames
+parts_tell false (Some payload) more released frames = run_tells more released frames
+parts_tell false None more released frames = run_tells more released frames
 
 call_tells : (s : Station) → told_effects (told_by s) ≡ []
-call_tells s = parts_tell s.deed.up s.deed.payload s.deed.released (said_octets s)
+call_tells s = parts_tell s.deed.up s.deed.payload s.deed.more s.deed.released (said_octets s)
 
-frames_heard_tell : (moment : ℕ) (vs : List Verdict) (s : Station) → told_effects (frames_heard moment vs s).1 ≡ []
-frames_heard_tell moment [] s = refl
-frames_heard_tell moment (v ∷ vs) s =
-    let u : Station = finishes (receives moment v s) in
-    told_append (told_by u) (frames_heard moment vs (settled u)).1
-    ∙ ap₂ (λ (xs ys : List Effect). xs ++ ys) (call_tells u) (frames_heard_tell moment vs (settled u))
+frames_heard_tell : (selective : Bool) (moment : ℕ) (vs : List Verdict) (s : Station) → told_effects (frames_heard selective moment vs s).1 ≡ []
+frames_heard_tell selective moment [] s = refl
+frames_heard_tell selective moment (v ∷ vs) s =
+    let u : Station = finishes (receives_as selective moment v s) in
+    told_append (told_by u) (frames_heard selective moment vs (settled u)).1
+    ∙ ap₂ (λ (xs ys : List Effect). xs ++ ys) (call_tells u) (frames_heard_tell selective moment vs (settled u))
 
 if_tells : (b : Bool) (x y : Station × List Outcome) → told_effects x.1 ≡ [] → told_effects y.1 ≡ [] → told_effects (if b then x else y).1 ≡ []
 if_tells true x y hx hy = hx
@@ -197,7 +203,7 @@ IsQuiet event.Tick = ⊥
 -- whether a timer is found expired
 abbrev finds : (moment : ℕ) → End → Bool
 finds moment (OfSafe s) = false
-finds moment (OfStation s stream) = is_due s.timer (max s.moment moment)
+finds moment (OfStation selective s stream) = is_due s.timer (max s.moment moment)
 finds moment (OfStack m) = finds_expired (begins_at model moment m.core)
 
 expired_tells : (b : Bool) (os : List Outcome) → told_effects os ≡ [] → told_effects (if_expired b ++ os) ≡ (if b then Expires ∷ [] else [])
@@ -224,12 +230,12 @@ module _ (only : StepsOnly) where
   end_quiet key_of moment (OfSafe s) event.Take quiet = refl
   end_quiet key_of moment (OfSafe s) (event.Release sub) quiet = safe_quiet key_of s (DisconnectRequest sub) (λ user e. cc)
   end_quiet key_of moment (OfSafe s) event.Tick quiet = absurd quiet
-  end_quiet key_of moment (OfStation s stream) event.Start quiet = call_tells (finishes (station_starts moment s))
-  end_quiet key_of moment (OfStation s stream) (event.Receive octets) quiet = frames_heard_tell moment (station_news stream octets) s
-  end_quiet key_of moment (OfStation s stream) (event.Send octets) quiet = absurd quiet
-  end_quiet key_of moment (OfStation s stream) event.Take quiet = refl
-  end_quiet key_of moment (OfStation s stream) (event.Release sub) quiet = release_station sub s
-  end_quiet key_of moment (OfStation s stream) event.Tick quiet = absurd quiet
+  end_quiet key_of moment (OfStation selective s stream) event.Start quiet = call_tells (finishes (station_starts moment s))
+  end_quiet key_of moment (OfStation selective s stream) (event.Receive octets) quiet = frames_heard_tell selective moment (station_news stream octets) s
+  end_quiet key_of moment (OfStation selective s stream) (event.Send octets) quiet = absurd quiet
+  end_quiet key_of moment (OfStation selective s stream) event.Take quiet = refl
+  end_quiet key_of moment (OfStation selective s stream) (event.Release sub) quiet = release_station sub s
+  end_quiet key_of moment (OfStation selective s stream) event.Tick quiet = absurd quiet
   end_quiet key_of moment (OfStack m) event.Start quiet = kept_tells m.core.upper.used [] (starts model moment m.core) (starts_keep only moment m.core)
   end_quiet key_of moment (OfStack m) (event.Receive octets) quiet =
       stack_heard_tells (λ now. key_of) moment (station_events.news m.stream octets) (begins_at model moment m.core)
@@ -243,14 +249,14 @@ module _ (only : StepsOnly) where
   end_sends : (key_of : ℕ → ℕ → Option TripleKey) (moment : ℕ) (end : End) (octets : List ℕ)
       → SendsOrNot octets (told_effects (end_step key_of moment end (event.Send octets)).1)
   end_sends key_of moment (OfSafe s) octets = safe_sends s s.phase octets
-  end_sends key_of moment (OfStation s stream) octets = handed_tells (station.refusal_of s octets s.released) moment octets s
+  end_sends key_of moment (OfStation selective s stream) octets = handed_tells (station.refusal_of s octets s.released) moment octets s
   end_sends key_of moment (OfStack m) octets = stack_send_tells moment octets m.core (refusal_of model octets m.core) refl
 
   end_ticks : (key_of : ℕ → ℕ → Option TripleKey) (moment : ℕ) (end : End)
       → told_effects (end_step key_of moment end event.Tick).1 ≡ (if finds moment end then Expires ∷ [] else [])
   end_ticks key_of moment (OfSafe s) = refl
-  end_ticks key_of moment (OfStation s stream) =
-      expired_tells (finds moment (OfStation s stream)) (told_by (finishes (station_ticks moment s))) (call_tells (finishes (station_ticks moment s)))
+  end_ticks key_of moment (OfStation selective s stream) =
+      expired_tells (finds moment (OfStation selective s stream)) (told_by (finishes (station_ticks moment s))) (call_tells (finishes (station_ticks moment s)))
   end_ticks key_of moment (OfStack m) =
       expired_tells (finds moment (OfStack m)) (told_at (ticks model moment m.core))
       (kept_tells m.core.upper.used [] (ticks model moment m.core) (ticks_keep only moment m.core))
@@ -267,10 +273,10 @@ module _ (only : StepsOnly) where
   pub opened_effects : (settings : Settings) (moment : ℕ) (opening : LinkOpening) → effects_in (opened settings moment opening).1 ≡ []
   opened_effects settings moment (OfPair (OfFixed engine rbc ke kr)) = refl
   opened_effects settings moment (OfPair (OfKeys engine rbc ke kr ra rb)) = give_quiet (joined_pair (OfKeys engine rbc ke kr ra rb) moment) E event.Start tt
-  opened_effects settings moment OfStations =
+  opened_effects settings moment (OfStations selective) =
       give_quiet
-      (joined OfStations moment (OfStation (made true (settings.modulo == 128) settings.window settings.n2 settings.t1) [])
-      (OfStation (made false (settings.modulo == 128) settings.window settings.n2 settings.t1) []))
+      (joined (OfStations selective) moment (OfStation selective (made true (settings.modulo == 128) settings.window settings.n2 settings.t1) [])
+      (OfStation selective (made false (settings.modulo == 128) settings.window settings.n2 settings.t1) []))
       E event.Start tt
   opened_effects settings moment (OfStacks engine rbc ke kr ra rb) =
       give_quiet
@@ -398,13 +404,13 @@ module _ (released : Option Release) (timer : Option ℕ) (now : ℕ) (phase : P
 
 finds_ran : (moment : ℕ) (end : End) → finds moment end ≡ true → HasRunOut moment end
 finds_ran moment (OfSafe s) found = absurd cc
-finds_ran moment (OfStation s stream) found = due_ran_out s.timer (max s.moment moment) found
+finds_ran moment (OfStation selective s stream) found = due_ran_out s.timer (max s.moment moment) found
 finds_ran moment (OfStack m) found =
     found_ran m.core.released m.core.line.timer (max m.core.line.moment (max m.core.moment moment)) m.core.safe.safety.phase m.core.limit (max m.core.moment moment) found
 
 ran_finds : (moment : ℕ) (end : End) → HasRunOut moment end → finds moment end ≡ true
 ran_finds moment (OfSafe s) ran = absurd ran
-ran_finds moment (OfStation s stream) ran = ran_out_due s.timer (max s.moment moment) ran
+ran_finds moment (OfStation selective s stream) ran = ran_out_due s.timer (max s.moment moment) ran
 ran_finds moment (OfStack m) ran =
     ran_found m.core.released m.core.line.timer (max m.core.line.moment (max m.core.moment moment)) m.core.safe.safety.phase m.core.limit (max m.core.moment moment) ran
 

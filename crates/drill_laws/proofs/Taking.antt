@@ -21,7 +21,8 @@ use Rattle.safe_pair.specs.Facts.{Fact, is_side, heard_in, facts_of}
 use Rattle.safe_pair.specs.Openings.{OfFixed, OfKeys}
 use Rattle.station_model.specs.Stations.{Station, made, settled, is_down}
 use Rattle.station_model.specs.Sending.{is_due}
-use Rattle.station_model.specs.Calls.{receives, finishes, starts as station_starts, hands as station_hands, ticks as station_ticks}
+use Rattle.station_model.specs.Selective.{receives_as}
+use Rattle.station_model.specs.Calls.{finishes, starts as station_starts, hands as station_hands, ticks as station_ticks}
 use Rattle.station_model.specs.Events.{news, said_octets, news as station_news, quits}
 use Rattle.station_model.specs.Lines.{IsPrefix, altered}
 use Rattle.end_model.specs.Outcomes.{SendRefusal}
@@ -29,7 +30,7 @@ use Rattle.end_model.specs.Layers.{Spoken, Core, model}
 use Rattle.end_model.specs.Steps.{Finds, begins_at, starts, comes, refusal_of, sends_unless, uses, leaves, ticks}
 use Rattle.end_model.specs.Ends.{End as Stack, Event, Start, Come, Send as SendEvent, Take as TakeEvent, Leave, Tick as TickEvent, hears_each, step, finds_expired}
 use Rattle.end_model.specs.Ends as stacks
-use Rattle.drill_model.specs.Outcomes.{Outcome, OfSafety, Frame, UserReleased, Passed, NothingWaits, IsShort, Altered, Occurrence, at_end}
+use Rattle.drill_model.specs.Outcomes.{Outcome, OfSafety, Arrived, Frame, UserReleased, Passed, NothingWaits, IsShort, Altered, Occurrence, at_end}
 use Rattle.drill_model.specs.Outcomes as came
 use Rattle.drill_model.specs.StationEnds.{if_up, if_arrived, if_released, if_expired, told_by, called, frames_heard, handed_unless}
 use Rattle.drill_model.specs.StationEnds as station
@@ -69,22 +70,27 @@ release_takes : (released : Option Release) (frames : List (List ℕ)) → told_
 release_takes None frames = frames_take frames
 release_takes (Some release) frames = frames_take frames
 
-parts_take : (up : Bool) (payload : Option (List ℕ)) (released : Option Release) (frames : List (List ℕ))
-    → told_taken (((if_up up ++ if_arrived payload) ++ if_released released) ++ map Frame frames) ≡ []
-parts_take true (Some payload) released frames = release_takes released frames
-parts_take true None released frames = release_takes released frames
-parts_take false (Some payload) released frames = release_takes released frames
-parts_take false None released frames = release_takes released frames
+run_takes : (more : List (List ℕ)) (released : Option Release) (frames : List (List ℕ))
+    → told_taken ((map Arrived more ++ if_released released) ++ map Frame frames) ≡ []
+run_takes [] released frames = release_takes released frames
+run_takes (payload ∷ more) released frames = run_takes more released frames
+
+parts_take : (up : Bool) (payload : Option (List ℕ)) (more : List (List ℕ)) (released : Option Release) (frames : List (List ℕ))
+    → told_taken (((if_up up ++ (if_arrived payload ++ map Arrived more)) ++ if_released released) ++ map Frame frames) ≡ []
+parts_take true (Some payload) more released frames = run_takes more released frames
+parts_take true None more released frames = run_takes more released frames
+parts_take false (Some payload) more released frames = run_takes more released frames
+parts_take false None more released frames = run_takes more released frames
 
 call_takes : (s : Station) → told_taken (told_by s) ≡ []
-call_takes s = parts_take s.deed.up s.deed.payload s.deed.released (said_octets s)
+call_takes s = parts_take s.deed.up s.deed.payload s.deed.more s.deed.released (said_octets s)
 
-heard_take : (moment : ℕ) (vs : List Verdict) (s : Station) → told_taken (frames_heard moment vs s).1 ≡ []
-heard_take moment [] s = refl
-heard_take moment (v ∷ vs) s =
-    let u : Station = finishes (receives moment v s) in
-    taken_append (told_by u) (frames_heard moment vs (settled u)).1
-    ∙ ap₂ (λ (xs ys : List (List ℕ)). xs ++ ys) (call_takes u) (heard_take moment vs (settled u))
+heard_take : (selective : Bool) (moment : ℕ) (vs : List Verdict) (s : Station) → told_taken (frames_heard selective moment vs s).1 ≡ []
+heard_take selective moment [] s = refl
+heard_take selective moment (v ∷ vs) s =
+    let u : Station = finishes (receives_as selective moment v s) in
+    taken_append (told_by u) (frames_heard selective moment vs (settled u)).1
+    ∙ ap₂ (λ (xs ys : List (List ℕ)). xs ++ ys) (call_takes u) (heard_take selective moment vs (settled u))
 
 if_takes : (b : Bool) (x y : Station × List Outcome) → told_taken x.1 ≡ [] → told_taken y.1 ≡ [] → told_taken (if b then x else y).1 ≡ []
 if_takes true x y hx hy = hx
@@ -144,10 +150,10 @@ record StackTakes (m : Stack) (taken accepted : List (List ℕ)) : Type 0 where
   pub taken_is : taken ≡ take m.core.upper.used m.core.upper.accepted
   pub within : m.core.upper.used ≤ length m.core.upper.accepted
 
--- what is taken at levels safe and link counts as taken at once, and is not told
+-- what is taken at levels safe, link and link-sr counts as taken at once, and is not told
 abbrev TakesAt : End → (taken accepted : List (List ℕ)) → Type 0
 TakesAt (OfSafe s) taken accepted = taken ≡ []
-TakesAt (OfStation s stream) taken accepted = taken ≡ []
+TakesAt (OfStation selective s stream) taken accepted = taken ≡ []
 TakesAt (OfStack m) taken accepted = StackTakes m taken accepted
 
 none_more : (taken more : List (List ℕ)) → taken ≡ [] → more ≡ [] → taken ++ more ≡ []
@@ -272,14 +278,14 @@ module _ (only : StepsOnly) (reports : CallsReport) where
   end_takes key_of moment (OfSafe s) event.Take taken accepted h = none_more taken [] h refl
   end_takes key_of moment (OfSafe s) (event.Release sub) taken accepted h = none_more taken _ h (safe_takes key_of s (safety.DisconnectRequest sub))
   end_takes key_of moment (OfSafe s) event.Tick taken accepted h = none_more taken [] h refl
-  end_takes key_of moment (OfStation s stream) event.Start taken accepted h = none_more taken _ h (call_takes (finishes (station_starts moment s)))
-  end_takes key_of moment (OfStation s stream) (event.Receive octets) taken accepted h = none_more taken _ h (heard_take moment (station_news stream octets) s)
-  end_takes key_of moment (OfStation s stream) (event.Send octets) taken accepted h =
+  end_takes key_of moment (OfStation selective s stream) event.Start taken accepted h = none_more taken _ h (call_takes (finishes (station_starts moment s)))
+  end_takes key_of moment (OfStation selective s stream) (event.Receive octets) taken accepted h = none_more taken _ h (heard_take selective moment (station_news stream octets) s)
+  end_takes key_of moment (OfStation selective s stream) (event.Send octets) taken accepted h =
       none_more taken _ h (handed_takes (station.refusal_of s octets s.released) moment octets s)
-  end_takes key_of moment (OfStation s stream) event.Take taken accepted h = none_more taken [] h refl
-  end_takes key_of moment (OfStation s stream) (event.Release sub) taken accepted h =
+  end_takes key_of moment (OfStation selective s stream) event.Take taken accepted h = none_more taken [] h refl
+  end_takes key_of moment (OfStation selective s stream) (event.Release sub) taken accepted h =
       none_more taken _ h (if_takes (is_down s.phase) (s, []) (called (quits sub s)) refl (call_takes (quits sub s)))
-  end_takes key_of moment (OfStation s stream) event.Tick taken accepted h =
+  end_takes key_of moment (OfStation selective s stream) event.Tick taken accepted h =
       let u : Station = finishes (station_ticks moment s) in
       none_more taken _ h (expired_takes (is_due s.timer (max s.moment moment)) (told_by u) ∙ call_takes u)
   end_takes key_of moment (OfStack m) given taken accepted h = stack_takes key_of moment m given taken accepted h
@@ -417,10 +423,10 @@ module _ (only : StepsOnly) (reports : CallsReport) where
     opened_takes settings moment (OfPair (OfFixed engine rbc ke kr)) = (refl, refl)
     opened_takes settings moment (OfPair (OfKeys engine rbc ke kr ra rb)) =
         give_takes (joined_pair (OfKeys engine rbc ke kr ra rb) moment) [] E event.Start (refl, refl)
-    opened_takes settings moment OfStations =
+    opened_takes settings moment (OfStations selective) =
         give_takes
-        (joined OfStations moment (OfStation (made true (settings.modulo == 128) settings.window settings.n2 settings.t1) [])
-        (OfStation (made false (settings.modulo == 128) settings.window settings.n2 settings.t1) []))
+        (joined (OfStations selective) moment (OfStation selective (made true (settings.modulo == 128) settings.window settings.n2 settings.t1) [])
+        (OfStation selective (made false (settings.modulo == 128) settings.window settings.n2 settings.t1) []))
         [] E event.Start (refl, refl)
     opened_takes settings moment (OfStacks engine rbc ke kr ra rb) =
         give_takes
@@ -438,7 +444,7 @@ module _ (only : StepsOnly) (reports : CallsReport) where
     -- what an end took is a beginning of what it accepted
     end_prefix : (end : End) (taken accepted : List (List ℕ)) → TakesAt end taken accepted → IsPrefix taken accepted
     end_prefix (OfSafe s) taken accepted h = rw h refl
-    end_prefix (OfStation s stream) taken accepted h = rw h refl
+    end_prefix (OfStation selective s stream) taken accepted h = rw h refl
     end_prefix (OfStack m) taken accepted h =
         let whole : taken ≡ take m.core.upper.used accepted =
         h.taken_is ∙ ap (λ (xs : List (List ℕ)). take m.core.upper.used xs) h.accepted_is in

@@ -201,14 +201,14 @@ module _ (grow : FactsGrow) where
   module _ (laws : StationLaws) (settings : Settings) where
     opens_lawfully : (moment : ℕ) (opening : LinkOpening) → Either settings Speaks (opened settings moment opening).0 (opened settings moment opening).1
     opens_lawfully moment (OfPair opening) = inl (inl (opened_talks opening moment))
-    opens_lawfully moment OfStations = inr (wired_opens laws settings moment)
+    opens_lawfully moment (OfStations selective) = inr (selective, wired_opens laws settings moment selective)
     opens_lawfully moment (OfStacks engine rbc ke kr ra rb) = inl (inr (opened_stack_talks grow settings moment engine rbc ke kr ra rb))
 
     talks_keep : Keeps settings (λ o. Unit {0}) (λ s. Unit {0}) (Either settings Speaks)
     talks_keep =
         record {
           opens = λ moment opening fit. opens_lawfully moment opening;
-          steps = λ l history s fit h. elim h [ inl t ↦ inl (speaks_on l history s t) | inr w ↦ inr (wired_steps laws settings l history s w) ];
+          steps = λ l history s fit h. elim h [ inl t ↦ inl (speaks_on l history s t) | inr w ↦ inr (w.0, wired_steps laws settings w.0 l history s w.1) ];
           others = λ s none. tt;
         }
 
@@ -248,7 +248,7 @@ lawful_at law facts settings None history none = none
 lawful_at law facts settings (Some l) history (inl (inl t)) = rw t.opening_is (law t.opening (facts_in history) t.pair t.talks)
 lawful_at law facts settings (Some l) history (inl (inr t)) =
     rw t.opening_is (law (OfKeys t.engine t.rbc t.ke t.kr t.ra t.rb) (facts_in history) (record { e = t.e.core.safe.safety; r = t.r.core.safe.safety }) t.talks)
-lawful_at law facts settings (Some l) history (inr w) = rw w.sees.opening_is w.sees.facts
+lawful_at law facts settings (Some l) history (inr w) = rw w.1.sees.opening_is w.1.sees.facts
 
 pub lawful_always : StationLaws → TalksAreAuthentic → FactsGrow → HistoryGrows → HistoryOfOwn → HistoryOfOther → LawfulAlways
 lawful_always laws law facts grow own other plan steps n = lawful_at law facts plan.settings _ _ (world_stands laws facts grow own other plan steps n)

@@ -1,5 +1,5 @@
 -- What an event at a station tells: what it was handed, what it took, and why it was released, as its outcomes say it.
-use Rattle.std.proofs.Common.{◌≡◌, ◌⊎◌, inl, inr, ℕ, ◌+◌, Bool, true, false, ◌||◌, List, [], ◌∷◌, ◌++◌, length, map, Option, Some, None, refl, sym, ap, ap₂, subst, ◌∙◌, append-nil, append_assoc, length-append}
+use Rattle.std.proofs.Common.{◌≡◌, ◌⊎◌, inl, inr, ℕ, zero, suc, ◌+◌, nat_lt, Bool, true, false, ◌||◌, List, [], ◌∷◌, ◌++◌, length, map, Option, Some, None, refl, sym, ap, ap₂, subst, ◌∙◌, append-nil, append_assoc, length-append}
 use Rattle.std.specs.List.{flat_map, list_any, AllByRecursion}
 use Rattle.std.specs.Option.{option_to_list}
 use Rattle.std.proofs.lemmas.Bool.{cond_both}
@@ -7,18 +7,20 @@ use Rattle.std.proofs.lemmas.List.Concat.{flat_map-append}
 use Rattle.std.proofs.lemmas.List.Folds.{list_any-append}
 use Rattle.er_base.specs.declared.release.Release.{Release}
 use Rattle.er_base.specs.declared.side.Side.{Side}
-use Rattle.er_base.specs.declared.cause.Cause.TheVariants.{User}
+use Rattle.er_base.specs.declared.cause.Cause.TheVariants.{User, SetUpUnanswered, NoProgress}
 use Rattle.er_base.specs.Causes.{release_of}
 use Rattle.hdlc_frames.specs.Framing.{Verdict}
 use Rattle.station_model.specs.declared.phase.Phase.{Phase}
 use Rattle.station_model.specs.declared.phase.Phase.TheVariants.{Idle, Setting, Up as PhaseUp, Down}
 use Rattle.station_model.specs.Frames.{SetUp}
-use Rattle.station_model.specs.Sending.{starts_timer}
+use Rattle.station_model.specs.Sending.{starts_timer, can_send, sends_up_to, sends_next, waiting, sends_waiting, is_due, gives_up, expires_at, expires, expires_if_due, sends_again, counts_expiry}
 use Rattle.station_model.specs.Stations.{sees, puts, Station, Deed, made, no_deed, settled, is_down}
-use Rattle.station_model.specs.Calls.{starts_at, starts, receives, hands, finishes, ticks, closes}
-use Rattle.station_model.specs.Laws.{LeavesPayloads, Received, Ticked, ReceivesGive, TicksGive, HandsKeep, OthersKeep, ReleasedAreInert}
+use Rattle.station_model.specs.Calls.{starts_at, starts, hands, finishes, ticks, closes}
+use Rattle.station_model.specs.Selective.{receives_as}
+use Rattle.station_model.specs.Laws.{LeavesPayloads, Ticked, TicksGive, HandsKeep, OthersKeep, ReleasedAreInert}
 use Rattle.station_model.specs.Reports.{TellsRelease, ReleasesAreTold, FinishKeepsRelease, newer, is_release}
 use Rattle.station_model.specs.Events.{said_octets, quits, is_late}
+use Rattle.station_pair.specs.Keeping.{Gives, FramesGive}
 use Rattle.safe_pair.specs.Facts.{SideFact}
 use Rattle.drill_model.specs.Outcomes.{Outcome, SendRefusal, Handed, Arrived, Up, Refused, Released, Frame, Expired, at_end, facts_at, facts_in, frames_of, frames_in}
 use Rattle.drill_model.specs.StationEnds.{if_up, if_arrived, if_released, told_by, called, frames_heard, refusal_of, handed_unless, user_sends, user_releases, if_expired, time_goes_on, begins}
@@ -83,19 +85,32 @@ says_released : (released : Option Release) (frames : List (List ℕ)) → Says 
 says_released None frames = says_frames frames
 says_released (Some release) frames = says_more (Released release) (map Frame frames) [] [] [] false false 0 (λ side. refl) (says_frames frames)
 
-says_deed : (up : Bool) (payload : Option (List ℕ)) (released : Option Release) (frames : List (List ℕ))
-    → Says (((if_up up ++ if_arrived payload) ++ if_released released) ++ map Frame frames) [] (option_to_list payload) (option_to_list released) false false 0
-says_deed true (Some p) released frames =
-    says_more Up (Arrived p ∷ (if_released released ++ map Frame frames)) [] (p ∷ []) (option_to_list released) false false 0 (λ side. refl)
-    (says_more (Arrived p) (if_released released ++ map Frame frames) [] [] (option_to_list released) false false 0 (λ side. refl) (says_released released frames))
-says_deed true None released frames =
-    says_more Up (if_released released ++ map Frame frames) [] [] (option_to_list released) false false 0 (λ side. refl) (says_released released frames)
-says_deed false (Some p) released frames =
-    says_more (Arrived p) (if_released released ++ map Frame frames) [] [] (option_to_list released) false false 0 (λ side. refl) (says_released released frames)
-says_deed false None released frames = says_released released frames
+-- the payloads that were taken behind the first one
+says_run : (more : List (List ℕ)) (released : Option Release) (frames : List (List ℕ))
+    → Says ((map Arrived more ++ if_released released) ++ map Frame frames) [] more (option_to_list released) false false 0
+says_run [] released frames = says_released released frames
+says_run (p ∷ more) released frames =
+    says_more (Arrived p) ((map Arrived more ++ if_released released) ++ map Frame frames) [] more (option_to_list released) false false 0 (λ side. refl)
+    (says_run more released frames)
 
-pub says_told : (t : Station) → Says (told_by t) [] (option_to_list t.deed.payload) (option_to_list t.deed.released) false false 0
-says_told t = says_deed t.deed.up t.deed.payload t.deed.released (said_octets t)
+says_deed : (up : Bool) (payload : Option (List ℕ)) (more : List (List ℕ)) (released : Option Release) (frames : List (List ℕ))
+    → Says (((if_up up ++ (if_arrived payload ++ map Arrived more)) ++ if_released released) ++ map Frame frames) [] (option_to_list payload ++ more) (option_to_list released)
+    false false 0
+says_deed true (Some p) more released frames =
+    says_more Up (Arrived p ∷ ((map Arrived more ++ if_released released) ++ map Frame frames)) [] (p ∷ more) (option_to_list released) false false 0 (λ side. refl)
+    (says_run (p ∷ more) released frames)
+says_deed true None more released frames =
+    says_more Up ((map Arrived more ++ if_released released) ++ map Frame frames) [] more (option_to_list released) false false 0 (λ side. refl)
+    (says_run more released frames)
+says_deed false (Some p) more released frames = says_run (p ∷ more) released frames
+says_deed false None more released frames = says_run more released frames
+
+-- the payloads that a call took
+abbrev pub all_taken : Deed → List (List ℕ)
+all_taken d = option_to_list d.payload ++ d.more
+
+pub says_told : (t : Station) → Says (told_by t) [] (all_taken t.deed) (option_to_list t.deed.released) false false 0
+says_told t = says_deed t.deed.up t.deed.payload t.deed.more t.deed.released (said_octets t)
 
 -- the frames among them
 frames_of_frames : (frames : List (List ℕ)) → frames_in (map Frame frames) ≡ frames
@@ -106,15 +121,19 @@ pub frames_released : (released : Option Release) (frames : List (List ℕ)) →
 frames_released None frames = frames_of_frames frames
 frames_released (Some release) frames = frames_of_frames frames
 
-frames_deed : (up : Bool) (payload : Option (List ℕ)) (released : Option Release) (frames : List (List ℕ))
-    → frames_in (((if_up up ++ if_arrived payload) ++ if_released released) ++ map Frame frames) ≡ frames
-frames_deed true (Some p) released frames = frames_released released frames
-frames_deed true None released frames = frames_released released frames
-frames_deed false (Some p) released frames = frames_released released frames
-frames_deed false None released frames = frames_released released frames
+frames_run : (more : List (List ℕ)) (released : Option Release) (frames : List (List ℕ)) → frames_in ((map Arrived more ++ if_released released) ++ map Frame frames) ≡ frames
+frames_run [] released frames = frames_released released frames
+frames_run (p ∷ more) released frames = frames_run more released frames
+
+frames_deed : (up : Bool) (payload : Option (List ℕ)) (more : List (List ℕ)) (released : Option Release) (frames : List (List ℕ))
+    → frames_in (((if_up up ++ (if_arrived payload ++ map Arrived more)) ++ if_released released) ++ map Frame frames) ≡ frames
+frames_deed true (Some p) more released frames = frames_run more released frames
+frames_deed true None more released frames = frames_run more released frames
+frames_deed false (Some p) more released frames = frames_run more released frames
+frames_deed false None more released frames = frames_run more released frames
 
 pub frames_told : (t : Station) → frames_in (told_by t) ≡ said_octets t
-frames_told t = frames_deed t.deed.up t.deed.payload t.deed.released (said_octets t)
+frames_told t = frames_deed t.deed.up t.deed.payload t.deed.more t.deed.released (said_octets t)
 
 pub frames_append : (xs ys : List Outcome) → frames_in (xs ++ ys) ≡ frames_in xs ++ frames_in ys
 frames_append xs ys = flat_map-append frames_of xs ys
@@ -232,18 +251,18 @@ ready_of s t h (inl a) =
 ready_of s t h (inr a) = record { quiet = refl; live = λ none. absurd (none_some a.release t.released a.released none); down = λ release is. a.down }
 
 call_went : (s t : Station) (first : List Outcome) (more : List (List ℕ)) (late : Bool) → Says first more [] [] false late 0 → Ready s → t.handed ≡ s.handed ++ more
-    → t.taken ≡ s.taken ++ option_to_list t.deed.payload → (LeavesRelease s t ⊎ GivesRelease t) → (is_down s.phase ≡ true → t.released ≡ s.released)
+    → t.taken ≡ s.taken ++ all_taken t.deed → (LeavesRelease s t ⊎ GivesRelease t) → (is_down s.phase ≡ true → t.released ≡ s.released)
     → Went s (settled t, first ++ told_by t) late
 call_went s t first more late says ready handed taken releases inert =
     let told = says_told t in
     let or_false : (late || false) ≡ late = or_none late in
     record {
       handed = more;
-      taken = option_to_list t.deed.payload;
+      taken = all_taken t.deed;
       releases = option_to_list t.deed.released;
-      says = subst (λ (b : Bool). Says (first ++ told_by t) more (option_to_list t.deed.payload) (option_to_list t.deed.released) false b 0) or_false
-          (subst (λ (xs : List (List ℕ)). Says (first ++ told_by t) xs (option_to_list t.deed.payload) (option_to_list t.deed.released) false (late || false) 0) (append-nil more)
-          (says_append first (told_by t) more [] [] (option_to_list t.deed.payload) [] (option_to_list t.deed.released) false false late false 0 0 says told));
+      says = subst (λ (b : Bool). Says (first ++ told_by t) more (all_taken t.deed) (option_to_list t.deed.released) false b 0) or_false
+          (subst (λ (xs : List (List ℕ)). Says (first ++ told_by t) xs (all_taken t.deed) (option_to_list t.deed.released) false (late || false) 0) (append-nil more)
+          (says_append first (told_by t) more [] [] (all_taken t.deed) [] (option_to_list t.deed.released) false false late false 0 0 says told));
       ready = ready_of s t ready releases;
       handed_is = handed;
       taken_is = taken;
@@ -258,7 +277,7 @@ call_went s t first more late says ready handed taken releases inert =
 -- ---- the events
 
 pub record StationLaws : Type 0 where
-  pub receives_give : ReceivesGive
+  pub frames_give : FramesGive
   pub ticks_give : TicksGive
   pub hands_keep : HandsKeep
   pub others_keep : OthersKeep
@@ -277,39 +296,38 @@ module _ (laws : StationLaws) where
         | inr a ↦ inr (record { release = a.release; released = f.released ∙ a.released; down = ap is_down f.phase ∙ a.down; told = told ∙ a.told })
       ]
 
-  finished_payload : (u : Station) → (finishes u).deed.payload ≡ u.deed.payload
-  finished_payload u = ap (λ (d : Deed). d.payload) (laws.finish u).deed
+  finished_taken : (u : Station) → all_taken (finishes u).deed ≡ all_taken u.deed
+  finished_taken u = ap all_taken (laws.finish u).deed
 
   -- a call, and the answer
   finish_went : (s u : Station) (first : List Outcome) (more : List (List ℕ)) (late : Bool) → Says first more [] [] false late 0 → Ready s → u.handed ≡ s.handed ++ more
-      → u.taken ≡ s.taken ++ option_to_list u.deed.payload → (LeavesRelease s u ⊎ GivesRelease u) → (is_down s.phase ≡ true → u ≡ s)
+      → u.taken ≡ s.taken ++ all_taken u.deed → (LeavesRelease s u ⊎ GivesRelease u) → (is_down s.phase ≡ true → u ≡ s)
       → Went s (settled (finishes u), first ++ told_by (finishes u)) late
   finish_went s u first more late says ready handed taken releases inert =
       let keeps : LeavesPayloads u (finishes u) = (laws.others_keep 0 u).1 in
       call_went s (finishes u) first more late says ready (keeps.0 ∙ handed)
-      (keeps.1 ∙ taken ∙ ap (λ (o : Option (List ℕ)). s.taken ++ option_to_list o) (sym (finished_payload u))) (finished s u releases)
+      (keeps.1 ∙ taken ∙ ap (λ (xs : List (List ℕ)). s.taken ++ xs) (sym (finished_taken u))) (finished s u releases)
       (λ down. (laws.finish u).released ∙ ap (λ (t : Station). t.released) (inert down))
 
-  pub heard_went : (moment : ℕ) (v : Verdict) (s : Station) → Ready s → Went s (called (finishes (receives moment v s))) false
-  heard_went moment v s ready =
-      let got : Received s (receives moment v s) = laws.receives_give moment v s ready.quiet in
-      finish_went s (receives moment v s) [] [] false says_nothing ready (got.handed ∙ sym (append-nil s.handed)) got.taken
-      (either_of s (receives moment v s) ((laws.releases moment s ready.quiet).0 v)) (λ down. (laws.inert s down).receives moment v)
+  pub heard_went : (selective : Bool) (moment : ℕ) (v : Verdict) (s : Station) → Ready s → Went s (called (finishes (receives_as selective moment v s))) false
+  heard_went selective moment v s ready =
+      let u : Station = receives_as selective moment v s in
+      let got : Gives s u = laws.frames_give selective moment v s ready.quiet in
+      finish_went s u [] [] false says_nothing ready (got.handed ∙ sym (append-nil s.handed)) got.taken (either_of s u got.release) got.inert
 
-  pub frames_went : (moment : ℕ) (vs : List Verdict) (s : Station) → Ready s → Went s (frames_heard moment vs s) false
-  frames_went moment [] s ready = stays s ready
-  frames_went moment (v ∷ vs) s ready =
-      let a : Station × List Outcome = called (finishes (receives moment v s)) in
-      let first : Went s a false = heard_went moment v s ready in
-      then_went s a (frames_heard moment vs a.0) false false first (frames_went moment vs a.0 first.ready)
+  pub frames_went : (selective : Bool) (moment : ℕ) (vs : List Verdict) (s : Station) → Ready s → Went s (frames_heard selective moment vs s) false
+  frames_went selective moment [] s ready = stays s ready
+  frames_went selective moment (v ∷ vs) s ready =
+      let a : Station × List Outcome = called (finishes (receives_as selective moment v s)) in
+      let first : Went s a false = heard_went selective moment v s ready in
+      then_went s a (frames_heard selective moment vs a.0) false false first (frames_went selective moment vs a.0 first.ready)
 
   -- nothing is told of a payload
-  nothing_taken : (s u : Station) → Ready s → u.taken ≡ s.taken → u.deed.payload ≡ None → u.taken ≡ s.taken ++ option_to_list u.deed.payload
-  nothing_taken s u ready taken none =
-      taken ∙ sym (append-nil s.taken) ∙ ap (λ (o : Option (List ℕ)). s.taken ++ option_to_list o) (sym none)
+  nothing_taken : (s u : Station) → u.taken ≡ s.taken → all_taken u.deed ≡ [] → u.taken ≡ s.taken ++ all_taken u.deed
+  nothing_taken s u taken none = taken ∙ sym (append-nil s.taken) ∙ ap (λ (xs : List (List ℕ)). s.taken ++ xs) (sym none)
 
-  no_payload : (s : Station) → Ready s → s.deed.payload ≡ None
-  no_payload s ready = ap (λ (d : Deed). d.payload) ready.quiet
+  no_payload : (s : Station) → Ready s → all_taken s.deed ≡ []
+  no_payload s ready = ap all_taken ready.quiet
 
   refused_went : (s : Station) (refusal : SendRefusal) → Ready s → Went s (s, Refused refusal ∷ []) false
   refused_went s refusal ready =
@@ -333,7 +351,7 @@ module _ (laws : StationLaws) where
       let grew : (hands moment payload s).handed ≡ s.handed ++ payload ∷ [] = elim keeps.0 [ inl down ↦ absurd (both_ways (is_down s.phase) down live) | inr more ↦ more ] in
       finish_went s (hands moment payload s) (Handed payload ∷ []) (payload ∷ []) false
       (says_more (Handed payload) [] [] [] [] false false 0 (λ side. refl) says_nothing) ready grew
-      (nothing_taken s (hands moment payload s) ready keeps.1 (ap (λ (d : Deed). d.payload) keeps.2 ∙ no_payload s ready))
+      (nothing_taken s (hands moment payload s) keeps.1 (ap all_taken keeps.2 ∙ no_payload s ready))
       (either_of s (hands moment payload s) ((laws.releases moment s ready.quiet).3 payload)) (λ down. absurd (both_ways (is_down s.phase) down live))
     where
       both_ways : (b : Bool) → b ≡ true → b ≡ false → ⊥
@@ -366,11 +384,35 @@ module _ (laws : StationLaws) where
   says_expired true = says_more Expired [] [] [] [] false false 0 (λ side. refl) says_nothing
   says_expired false = says_nothing
 
+  -- time takes nothing
+  sent_deed : (n : ℕ) (s : Station) → (sends_up_to n s).deed ≡ s.deed
+  sent_deed zero s = refl
+  sent_deed (suc n) s = cond_both (can_send s) (sends_up_to n (sends_next s)) s (λ (t : Station). t.deed ≡ s.deed) (λ e. sent_deed n (sends_next s)) (λ e. refl)
+
+  given_up : (phase : Phase) (s : Station) → all_taken s.deed ≡ [] → all_taken (expires_at phase s).deed ≡ []
+  given_up Idle s none = none
+  given_up Setting s none =
+      cond_both (nat_lt s.n2 (s.expiries + 1)) (gives_up SetUpUnanswered s) (starts_timer (puts SetUp (counts_expiry s))) (λ (t : Station). all_taken t.deed ≡ []) (λ e. refl)
+      (λ e. none)
+  given_up PhaseUp s none =
+      cond_both (nat_lt s.n2 (s.expiries + 1)) (gives_up NoProgress s) (starts_timer (sends_again (counts_expiry s))) (λ (t : Station). all_taken t.deed ≡ []) (λ e. refl)
+      (λ e. none)
+  given_up Down s none = none
+
+  expired_taken : (s : Station) → all_taken s.deed ≡ [] → all_taken (expires_if_due s).deed ≡ []
+  expired_taken s none = cond_both (is_due s.timer s.moment) (expires s) s (λ (t : Station). all_taken t.deed ≡ []) (λ e. given_up s.phase s none) (λ e. none)
+
+  ticked_taken : (moment : ℕ) (s : Station) → Ready s → all_taken (ticks moment s).deed ≡ []
+  ticked_taken moment s ready =
+      let t : Station = expires_if_due (sees moment s) in
+      cond_both (is_down s.phase) s (sends_waiting t) (λ (u : Station). all_taken u.deed ≡ []) (λ e. no_payload s ready)
+      (λ e. ap all_taken (sent_deed (waiting t) t) ∙ expired_taken (sees moment s) (no_payload s ready))
+
   pub ticks_went : (moment : ℕ) (s : Station) → Ready s → Went s (time_goes_on moment s) (is_late moment s)
   ticks_went moment s ready =
       let got : Ticked s (ticks moment s) = laws.ticks_give moment s ready.quiet in
       finish_went s (ticks moment s) (if_expired (is_late moment s)) [] (is_late moment s) (says_expired (is_late moment s)) ready
-      (got.payloads.0 ∙ sym (append-nil s.handed)) (nothing_taken s (ticks moment s) ready got.payloads.1 (got.told.1 ∙ no_payload s ready))
+      (got.payloads.0 ∙ sym (append-nil s.handed)) (nothing_taken s (ticks moment s) got.payloads.1 (ticked_taken moment s ready))
       (either_of s (ticks moment s) (laws.releases moment s ready.quiet).1) (λ down. (laws.inert s down).ticks moment)
 
   begun_at : (p : Phase) (s : Station) → (starts_at p s).deed ≡ s.deed
@@ -386,7 +428,7 @@ module _ (laws : StationLaws) where
   begins_went moment s ready =
       let keeps : LeavesPayloads s (starts moment s) = (laws.others_keep moment s).0 in
       finish_went s (starts moment s) [] [] false says_nothing ready (keeps.0 ∙ sym (append-nil s.handed))
-      (nothing_taken s (starts moment s) ready keeps.1 (ap (λ (d : Deed). d.payload) (started_deed moment s) ∙ no_payload s ready))
+      (nothing_taken s (starts moment s) keeps.1 (ap all_taken (started_deed moment s) ∙ no_payload s ready))
       (either_of s (starts moment s) (laws.releases moment s ready.quiet).2) (λ down. (laws.inert s down).starts moment)
 
 pub ready_made : (calling extended : Bool) (window n2 t1 : ℕ) → Ready (made calling extended window n2 t1)

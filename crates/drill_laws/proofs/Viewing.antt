@@ -444,7 +444,7 @@ module _ (grow : FactsGrow) where
 
   abbrev pub FitsLinkOpening : LinkOpening → Type 0
   FitsLinkOpening (OfPair opening) = FitsOpening opening
-  FitsLinkOpening OfStations = Unit {0}
+  FitsLinkOpening (OfStations selective) = Unit {0}
   FitsLinkOpening (OfStacks engine rbc ke kr ra rb) = FitsOpening (OfKeys engine rbc ke kr ra rb)
 
   -- a link of level full
@@ -522,7 +522,7 @@ module _ (grow : FactsGrow) where
         → Either settings Flowing (opened settings moment opening).0 (opened settings moment opening).1
     opens_flowing moment (OfPair opening) fit =
         inl (inl (record { fit = subst FitsLinkOpening (sym (opened_opening opening moment)) fit; flow = λ u. opened_flow opening moment }))
-    opens_flowing moment OfStations fit = inr (wired_opens laws settings moment)
+    opens_flowing moment (OfStations selective) fit = inr (selective, wired_opens laws settings moment selective)
     opens_flowing moment (OfStacks engine rbc ke kr ra rb) fit =
         inl (inr (record { engine = engine; rbc = rbc; ke = ke; kr = kr; ra = ra; rb = rb; opening_is = refl }))
 
@@ -530,6 +530,6 @@ module _ (grow : FactsGrow) where
     flow_keeps =
         record {
           opens = opens_flowing;
-          steps = λ l history s fit h. elim h [ inl f ↦ inl (flowing_on l history s fit f) | inr w ↦ inr (wired_steps laws settings l history s w) ];
+          steps = λ l history s fit h. elim h [ inl f ↦ inl (flowing_on l history s fit f) | inr w ↦ inr (w.0, wired_steps laws settings w.0 l history s w.1) ];
           others = no_send_fits;
         }

@@ -1,11 +1,15 @@
 -- Each step of a link of two stations is steps of its pair.
-use Rattle.std.proofs.Common.{if◌then◌else◌, ◌≡◌, ◌⊎◌, ℕ, ◌+◌, ◌==◌, nat_lt, max, Bool, true, false, not, ◌&&◌, ◌||◌, List, [], ◌∷◌, ◌++◌, length, map, refl, sym, ap, ap₂, subst, ◌∙◌, append_assoc, arith}
+use Rattle.std.proofs.Common.{if◌then◌else◌, ◌≡◌, ◌⊎◌, ℕ, zero, suc, ◌+◌, ◌==◌, nat_lt, max, Bool, true, false, not, ◌&&◌, ◌||◌, List, [], ◌∷◌, ◌++◌, length, map, refl, sym, ap, ap₂, subst, ◌∙◌, append_assoc, arith}
+use Rattle.std.specs.Prelude.{Option, Some, None}
+use Rattle.std.proofs.lemmas.Bool.{cond_both}
 use Rattle.er_base.specs.declared.side.Side.{Side}
 use Rattle.er_base.specs.declared.side.Side.TheVariants.{E, R}
 use Rattle.er_base.specs.Sides.{other}
 use Rattle.er_settings.specs.declared.settings.Settings.{Settings}
 use Rattle.station_model.specs.Stations.{Station, made, settled, is_down}
-use Rattle.station_model.specs.Calls.{starts, finishes, ticks}
+use Rattle.hdlc_frames.specs.Framing.{Verdict}
+use Rattle.station_model.specs.Calls.{starts, hands, finishes, ticks}
+use Rattle.station_model.specs.Selective.{receives_as}
 use Rattle.station_model.specs.Events.{said_octets, news, quits, is_late}
 use Rattle.station_pair.specs.Links.{Came, Link as Pair, station_of, line_of, with_line, read_of, tells, did, hears_each, reads}
 use Rattle.station_pair.specs.Links as pair
@@ -16,7 +20,7 @@ use Rattle.drill_model.specs.Outcomes.{Outcome, UserReleased, Passed, Lost, Repe
 use Rattle.drill_model.specs.StationEnds.{told_by, called, frames_heard, user_sends, user_releases, time_goes_on, begins, if_expired}
 use Rattle.drill_model.specs.Ends.{End, OfStation, EndEvent, Start, station_end, station_end_step}
 use Rattle.drill_model.specs.Ends as event
-use Rattle.station_model.specs.Lines.{altered}
+use Rattle.station_model.specs.Lines.{altered, next_of}
 use Rattle.drill_model.specs.Waiting.{LineChange, Lose, Repeat, Alter, Put, changes}
 use Rattle.drill_model.specs.Links.{Link, OfStations, waiting_of, with_waiting, answered, give, joined, opened_stations, LinkStep, Send, Pass, Change, Take, Release as ReleaseStep, Tick, pass, link_step}
 use Rattle.drill_model.specs.Kinds.{deliveries}
@@ -71,10 +75,10 @@ pub record Acts (history : List Occurrence) (p : Pair) (a : Link × List Occurre
   pub none : deliveries a.1 ≡ 0
 
 acts : (l : Link) (history : List Occurrence) (q : Pair) (side : Side) (event : EndEvent) (stream : List ℕ) (a : Station × List Outcome) (late free : Bool) (q' : Pair)
-    → Sees l history q → station_end_step q.moment (station_of q side) (read_of q side) event ≡ station_end stream a → Went (station_of q side) a late
+    → Sees l history q → station_end_step q.selective q.moment (station_of q side) (read_of q side) event ≡ station_end q.selective stream a → Went (station_of q side) a late
     → free ≡ (q.loss_free && not late) → Like q' (acted side stream a free q) → Acts history q' (give l side event)
 acts l history q side event stream a late free q' v is w free_is like =
-    let x : Link × List Occurrence = answered l side (station_end stream a) in
+    let x : Link × List Occurrence = answered l side (station_end q.selective stream a) in
     let given : give l side event ≡ x = gives_stationed l history q side event v ∙ ap (answered l side) is in
     let there : SeesAt history q' x = like_sees x.0 (history ++ x.1) q' (acted side stream a free q) like (acted_sees l history q side stream a late free v w free_is) in
     let none : deliveries x.1 ≡ 0 = passes_of side a.1 w.handed w.taken w.releases false late 0 w.says in
@@ -99,19 +103,105 @@ GoesAt history p a = Goes a.0 (history ++ a.1) p (deliveries a.1)
 
 -- ---- a link from its opening on
 
--- the pair that was opened with these settings
-abbrev pub wired : Settings → (moment : ℕ) → Pair
-wired settings moment = pair.opened (settings.modulo == 128) settings.window settings.n2 settings.t1 moment
+-- the pair of this kind that was opened with these settings
+abbrev pub wired : Settings → (selective : Bool) → (moment : ℕ) → Pair
+wired settings selective moment = pair.opened selective (settings.modulo == 128) settings.window settings.n2 settings.t1 moment
 
-pub record IsWired (settings : Settings) (l : Link) (history : List Occurrence) : Type 0 where
+pub record IsWired (settings : Settings) (selective : Bool) (l : Link) (history : List Occurrence) : Type 0 where
   pub moment : ℕ
   pub steps : List on_pair.LinkStep
-  pub sees : Sees l history (run (wired settings moment) steps)
-  pub count : laws_of_pair.deliveries (wired settings moment) steps ≡ deliveries history
+  pub sees : Sees l history (run (wired settings selective moment) steps)
+  pub count : laws_of_pair.deliveries (wired settings selective moment) steps ≡ deliveries history
 
--- what holds of a link of two sides, or that it is a pair of stations
+-- what holds of a link of two sides, or that it is a pair of stations of one kind
 abbrev pub Either : Settings → (Link → List Occurrence → Type 0) → Link → List Occurrence → Type 0
-Either settings P l history = P l history ⊎ IsWired settings l history
+Either settings P l history = P l history ⊎ ((selective : Bool) × IsWired settings selective l history)
+
+-- ---- the kind of a pair stays
+
+did_kind : (side : Side) (s : Station) (p : Pair) → (did side s p).selective ≡ p.selective
+did_kind E s p = refl
+did_kind R s p = refl
+
+line_kind : (side : Side) (frames : List (List ℕ)) (p : Pair) → (with_line side frames p).selective ≡ p.selective
+line_kind E frames p = refl
+line_kind R frames p = refl
+
+hears_kind : (side : Side) (verdicts : List Verdict) (p : Pair) → (hears_each side verdicts p).selective ≡ p.selective
+hears_kind side [] p = refl
+hears_kind side (verdict ∷ verdicts) p =
+    let t : Station = finishes (receives_as p.selective p.moment verdict (station_of p side)) in
+    hears_kind side verdicts (did side t p) ∙ did_kind side t p
+
+reads_kind : (side : Side) (octets : List ℕ) (p : Pair) → (reads side octets p).selective ≡ p.selective
+reads_kind E octets p = hears_kind E (news p.read_e octets) (record p { read_e = p.read_e ++ octets })
+reads_kind R octets p = hears_kind R (news p.read_r octets) (record p { read_r = p.read_r ++ octets })
+
+send_kind : (refused : Option Came) (side : Side) (payload : List ℕ) (p : Pair) → (send_unless refused side payload p).selective ≡ p.selective
+send_kind (Some came) side payload p = refl
+send_kind None side payload p = did_kind side (finishes (hands p.moment payload (station_of p side))) p
+
+pass_kind : (side : Side) (frames : List (List ℕ)) (p : Pair) → (on_pair.pass side frames p).selective ≡ p.selective
+pass_kind side [] p = refl
+pass_kind side (frame ∷ frames) p =
+    let q : Pair = record p { passes = counted p.passes } in
+    reads_kind (other side) frame (with_line side frames q) ∙ line_kind side frames q
+
+lose_kind : (side : Side) (frames : List (List ℕ)) (p : Pair) → (on_pair.lose side frames p).selective ≡ p.selective
+lose_kind side [] p = refl
+lose_kind side (frame ∷ frames) p = line_kind side frames (record p { loss_free = false })
+
+repeat_kind : (side : Side) (frames : List (List ℕ)) (p : Pair) → (on_pair.repeat side frames p).selective ≡ p.selective
+repeat_kind side [] p = refl
+repeat_kind side (frame ∷ frames) p = line_kind side (frame ∷ frame ∷ frames) (record p { loss_free = false })
+
+alter_kind : (side : Side) (place mask : ℕ) (frames : List (List ℕ)) (p : Pair) → (on_pair.alter side place mask frames p).selective ≡ p.selective
+alter_kind side place mask [] p = refl
+alter_kind side place mask (frame ∷ frames) p =
+    let q : Pair = with_line side (altered frame place mask ∷ frames) (record p { order_kept = false; loss_free = false }) in
+    cond_both (nat_lt place (length frame)) (if mask == 0 then p else q) (tells (pair.IsShort side (length frame) ∷ []) p) (λ (t : Pair). t.selective ≡ p.selective)
+    (λ e. cond_both (mask == 0) p q (λ (t : Pair). t.selective ≡ p.selective) (λ e. refl)
+    (λ e. line_kind side (altered frame place mask ∷ frames) (record p { order_kept = false; loss_free = false })))
+    (λ e. refl)
+
+release_kind : (side : Side) (sub : ℕ) (p : Pair) → (on_pair.release side sub p).selective ≡ p.selective
+release_kind side sub p =
+    let q : Pair = record p { loss_free = false } in
+    cond_both (is_down (station_of p side).phase) q (did side (quits sub (station_of p side)) q) (λ (t : Pair). t.selective ≡ p.selective) (λ e. refl)
+    (λ e. did_kind side (quits sub (station_of p side)) q)
+
+next_kind : (next : Option Side) (overfull : Bool) (d : on_pair.Draining) → (on_pair.pass_next next overfull d).link.selective ≡ d.link.selective
+next_kind None overfull d = refl
+next_kind (Some side) true d = refl
+next_kind (Some side) false d = pass_kind side (line_of d.link side) d.link
+
+drained_kind : (most : ℕ) (d : on_pair.Draining) → (on_pair.drained most d).link.selective ≡ d.link.selective
+drained_kind zero d = refl
+drained_kind (suc most) d =
+    let next : Option Side = next_of d.link.from_e d.link.from_r in
+    drained_kind most (on_pair.pass_next next (on_pair.is_overfull d.link) d) ∙ next_kind next (on_pair.is_overfull d.link) d
+
+tick_kind : (moment : ℕ) (p : Pair) → (on_pair.tick moment p).selective ≡ p.selective
+tick_kind moment p = refl
+
+step_kind : (s : on_pair.LinkStep) (p : Pair) → (on_pair.step s p).selective ≡ p.selective
+step_kind (on_pair.Send side payload) p = send_kind (refusal_at side (station_of p side) payload (station_of p side).released) side payload p
+step_kind (on_pair.Pass side) p = pass_kind side (line_of p side) p
+step_kind (on_pair.Lose side) p = lose_kind side (line_of p side) p
+step_kind (on_pair.Repeat side) p = repeat_kind side (line_of p side) p
+step_kind (on_pair.Alter side place mask) p = alter_kind side place mask (line_of p side) p
+step_kind (on_pair.Put side octets) p = line_kind side (octets ∷ line_of p side) (record p { order_kept = false; loss_free = false })
+step_kind (on_pair.UserRelease side sub) p = release_kind side sub p
+step_kind (on_pair.Drain most) p = drained_kind most (record { link = p; passes = 0 })
+step_kind (on_pair.Tick moment) p = tick_kind moment p
+
+run_kind : (p : Pair) (steps : List on_pair.LinkStep) → (run p steps).selective ≡ p.selective
+run_kind p [] = refl
+run_kind p (s ∷ steps) = run_kind (happens s p) steps ∙ step_kind s (cleared p)
+
+-- so the link was opened as one of this kind
+pub kind_of : (settings : Settings) (selective : Bool) (l : Link) (history : List Occurrence) → IsWired settings selective l history → l.opening ≡ OfStations selective
+kind_of settings selective l history w = w.sees.opening_is ∙ ap OfStations (run_kind (wired settings selective w.moment) w.steps)
 
 module _ (laws : StationLaws) where
   -- ---- the users
@@ -204,8 +294,8 @@ module _ (laws : StationLaws) where
       let to : Side = other side in
       let x : Link × List Occurrence = give m to (event.Receive frame) in
       let done : Acts (history ++ first) (reads to frame r) x =
-      acts m (history ++ first) r to (event.Receive frame) (read_of r to ++ frame) (frames_heard r.moment (news (read_of r to) frame) (station_of r to)) false r.loss_free
-      (reads to frame r) u refl (frames_went laws r.moment (news (read_of r to) frame) (station_of r to) (ready_at m (history ++ first) r to u)) (and_true r.loss_free)
+      acts m (history ++ first) r to (event.Receive frame) (read_of r to ++ frame) (frames_heard r.selective r.moment (news (read_of r to) frame) (station_of r to)) false r.loss_free
+      (reads to frame r) u refl (frames_went laws r.selective r.moment (news (read_of r to) frame) (station_of r to) (ready_at m (history ++ first) r to u)) (and_true r.loss_free)
       (reads_like to frame r) in
       let there : Sees x.0 (history ++ (first ++ x.1)) (reads to frame r) = subst (λ (h : List Occurrence). Sees x.0 h (reads to frame r)) (append_assoc history first x.1) done.sees in
       let Q : List (List ℕ) → Type 0 = λ fs. Sees x.0 (history ++ (first ++ x.1)) (on_pair.pass side fs q) in
@@ -394,10 +484,10 @@ module _ (laws : StationLaws) where
   count_append p [] ys = omega arith
   count_append p (s ∷ xs) ys = omega (arith, count_append (happens s p) xs ys)
 
-  pub wired_steps : (settings : Settings) (l : Link) (history : List Occurrence) (s : LinkStep) → IsWired settings l history
-      → IsWired settings (link_step l s).0 (history ++ (link_step l s).1)
-  wired_steps settings l history s t =
-      let w : Pair = wired settings t.moment in
+  pub wired_steps : (settings : Settings) (selective : Bool) (l : Link) (history : List Occurrence) (s : LinkStep) → IsWired settings selective l history
+      → IsWired settings selective (link_step l s).0 (history ++ (link_step l s).1)
+  wired_steps settings selective l history s t =
+      let w : Pair = wired settings selective t.moment in
       let g = step_goes l history (run w t.steps) s t.sees in
       record {
         moment = t.moment;
@@ -406,12 +496,14 @@ module _ (laws : StationLaws) where
         count = count_append w t.steps g.steps ∙ ap₂ (λ (i j : ℕ). i + j) t.count g.count ∙ sym (deliveries_grow history (link_step l s).1);
       }
 
-  pub wired_opens : (settings : Settings) (moment : ℕ) → IsWired settings (opened_stations settings moment).0 (opened_stations settings moment).1
-  wired_opens settings moment =
+  pub wired_opens : (settings : Settings) (moment : ℕ) (selective : Bool)
+      → IsWired settings selective (opened_stations settings moment selective).0 (opened_stations settings moment selective).1
+  wired_opens settings moment selective =
       let extended : Bool = settings.modulo == 128 in
       let e : Station = made true extended settings.window settings.n2 settings.t1 in
       let r : Station = made false extended settings.window settings.n2 settings.t1 in
       let p : Pair = record {
+        selective = selective;
         e = e;
         r = r;
         from_e = [];
@@ -424,7 +516,7 @@ module _ (laws : StationLaws) where
         loss_free = true;
         came = [];
       } in
-      let l : Link = joined OfStations moment (OfStation e []) (OfStation r []) in
+      let l : Link = joined (OfStations selective) moment (OfStation selective e []) (OfStation selective r []) in
       let v : Sees l [] p = record {
         opening_is = refl;
         e_is = refl;

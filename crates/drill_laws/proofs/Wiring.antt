@@ -11,7 +11,8 @@ use Rattle.er_base.specs.Sides.{other}
 use Rattle.hdlc_frames.specs.Framing.{Verdict}
 use Rattle.station_model.specs.Stations.{Station, settled}
 use Rattle.station_model.specs.Sending.{waiting}
-use Rattle.station_model.specs.Calls.{receives, hands, finishes}
+use Rattle.station_model.specs.Calls.{hands, finishes}
+use Rattle.station_model.specs.Selective.{receives_as}
 use Rattle.station_model.specs.Events.{said_octets, news}
 use Rattle.station_pair.specs.Links.{Came, Link as Pair, station_of, line_of, with_line, read_of, tells, did, hears_each, reads}
 use Rattle.station_pair.specs.Links as pair
@@ -146,9 +147,9 @@ abbrev pub IsOfPair : Pair → Release → Type 0
 IsOfPair p release = (p.e.released ≡ Some release) ⊎ (p.r.released ≡ Some release)
 
 pub record Sees (l : Link) (history : List Occurrence) (p : Pair) : Type 0 where
-  pub opening_is : l.opening ≡ OfStations
-  pub e_is : l.e ≡ OfStation p.e p.read_e
-  pub r_is : l.r ≡ OfStation p.r p.read_r
+  pub opening_is : l.opening ≡ OfStations p.selective
+  pub e_is : l.e ≡ OfStation p.selective p.e p.read_e
+  pub r_is : l.r ≡ OfStation p.selective p.r p.read_r
   pub from_e_is : l.from_e ≡ p.from_e
   pub from_r_is : l.from_r ≡ p.from_r
   pub moment_is : l.moment ≡ p.moment
@@ -240,7 +241,7 @@ abbrev pub SeesAt : List Occurrence → Pair → Link × List Occurrence → Typ
 SeesAt history p a = Sees a.0 (history ++ a.1) p
 
 pub acted_sees : (l : Link) (history : List Occurrence) (p : Pair) (side : Side) (stream : List ℕ) (a : Station × List Outcome) (late free : Bool) → Sees l history p
-    → Went (station_of p side) a late → free ≡ (p.loss_free && not late) → SeesAt history (acted side stream a free p) (answered l side (station_end stream a))
+    → Went (station_of p side) a late → free ≡ (p.loss_free && not late) → SeesAt history (acted side stream a free p) (answered l side (station_end p.selective stream a))
 acted_sees l history p E stream a late free v w is =
     let g = grows_of E history a.1 w.handed w.taken w.releases false late 0 w.says in
     let q : Pair = acted E stream a free p in
@@ -339,7 +340,7 @@ lined_sees l history p R os frames disorder disturbed order free n passes v says
 
 -- what an end of such a link answers
 pub gives_stationed : (l : Link) (history : List Occurrence) (p : Pair) (side : Side) (event : EndEvent) → Sees l history p
-    → give l side event ≡ answered l side (station_end_step p.moment (station_of p side) (read_of p side) event)
+    → give l side event ≡ answered l side (station_end_step p.selective p.moment (station_of p side) (read_of p side) event)
 gives_stationed l history p E event v = rw (v.opening_is, v.e_is, v.moment_is) refl
 gives_stationed l history p R event v = rw (v.opening_is, v.r_is, v.moment_is) refl
 
@@ -359,20 +360,20 @@ did_like R t p =
 
 -- frames that are closed, one after the other
 hears_like : (side : Side) (vs : List Verdict) (p : Pair)
-    → Like (hears_each side vs p) (acted side (read_of p side) (frames_heard p.moment vs (station_of p side)) p.loss_free p)
+    → Like (hears_each side vs p) (acted side (read_of p side) (frames_heard p.selective p.moment vs (station_of p side)) p.loss_free p)
 hears_like E [] p = (p.came, ap (λ (fs : List (List ℕ)). record p { from_e = fs }) (sym (append-nil p.from_e)))
 hears_like R [] p = (p.came, ap (λ (fs : List (List ℕ)). record p { from_r = fs }) (sym (append-nil p.from_r)))
 hears_like E (v ∷ vs) p =
-    let t : Station = finishes (receives p.moment v p.e) in
-    let b : Station × List Outcome = frames_heard p.moment vs (settled t) in
+    let t : Station = finishes (receives_as p.selective p.moment v p.e) in
+    let b : Station × List Outcome = frames_heard p.selective p.moment vs (settled t) in
     let more = hears_like E vs (did E t p) in
     let fs : (p.from_e ++ said_octets t) ++ frames_in b.1 ≡ p.from_e ++ frames_in (told_by t ++ b.1) =
     append_assoc p.from_e (said_octets t) (frames_in b.1)
     ∙ ap (λ (xs : List (List ℕ)). p.from_e ++ xs) (ap (λ (xs : List (List ℕ)). xs ++ frames_in b.1) (sym (frames_told t)) ∙ sym (frames_append (told_by t) b.1)) in
     (more.0, more.1 ∙ ap (λ (xs : List (List ℕ)). record p { e = b.0; from_e = xs; came = more.0 }) fs)
 hears_like R (v ∷ vs) p =
-    let t : Station = finishes (receives p.moment v p.r) in
-    let b : Station × List Outcome = frames_heard p.moment vs (settled t) in
+    let t : Station = finishes (receives_as p.selective p.moment v p.r) in
+    let b : Station × List Outcome = frames_heard p.selective p.moment vs (settled t) in
     let more = hears_like R vs (did R t p) in
     let fs : (p.from_r ++ said_octets t) ++ frames_in b.1 ≡ p.from_r ++ frames_in (told_by t ++ b.1) =
     append_assoc p.from_r (said_octets t) (frames_in b.1)
@@ -381,7 +382,7 @@ hears_like R (v ∷ vs) p =
 
 -- octets are read
 pub reads_like : (side : Side) (octets : List ℕ) (p : Pair)
-    → Like (reads side octets p) (acted side (read_of p side ++ octets) (frames_heard p.moment (news (read_of p side) octets) (station_of p side)) p.loss_free p)
+    → Like (reads side octets p) (acted side (read_of p side ++ octets) (frames_heard p.selective p.moment (news (read_of p side) octets) (station_of p side)) p.loss_free p)
 reads_like E octets p = hears_like E (news p.read_e octets) (record p { read_e = p.read_e ++ octets })
 reads_like R octets p = hears_like R (news p.read_r octets) (record p { read_r = p.read_r ++ octets })
 

@@ -1,8 +1,9 @@
 //! The laws of every list of steps.
 
 ghost use Rattle.std.specs.Prelude.{List};
-ghost use Rattle.station_model.specs.Laws.{ReceivesGive, TicksGive, HandsKeep, OthersKeep, ReleasedAreInert};
+ghost use Rattle.station_model.specs.Laws.{TicksGive, HandsKeep, OthersKeep, ReleasedAreInert};
 ghost use Rattle.station_model.specs.Reports.{ReleasesAreTold, FinishKeepsRelease};
+ghost use Rattle.station_pair.specs.Keeping.{FramesGive};
 ghost use Rattle.safety_automaton.specs.Rules.{StepsOnly};
 ghost use Rattle.safe_pair.specs.Marks.{MarksGrow};
 ghost use Rattle.end_pair.specs.Laws.{Prefix, OneFrame, LosingLineReasons, InStep, Delivery, DeliveryBound, DrainEmpties};
@@ -17,9 +18,9 @@ ghost use Rattle.drill_model.specs.Headline.{LawfulAlways, OpensAlways, RoomAlwa
 ghost use Rattle.drill_model.specs.Printing.{PrintedAsMarked, LinesInOrder};
 ghost use Rattle.drill_laws.specs.Stacks.{StacksRun};
 
-// What each call of a station does to its lists and its release.
+// What each call of a station of either kind does to its lists and its release.
 fn station_laws()
-    ensures receives { ReceivesGive }
+    ensures frames { FramesGive }
     ensures ticks { TicksGive }
     ensures hands { HandsKeep }
     ensures others { OthersKeep }
@@ -27,7 +28,7 @@ fn station_laws()
     ensures finish { FinishKeepsRelease }
     ensures inert { ReleasedAreInert }
 {
-    station_model::laws::receives_give();
+    station_pair::laws::frames_give();
     station_model::laws::ticks_give();
     station_model::laws::others_keep();
     station_model::laws::releases_are_told();
@@ -59,8 +60,8 @@ fn stack_laws()
     safe_pair::laws::marks_grow();
 }
 
-/// What came at each link is lawful, whatever the steps: at levels safe and full, messages and peers are authentic; at level link nothing of a
-/// safety layer came. Nothing came at a number that wasn't opened.
+/// What came at each link is lawful, whatever the steps: at levels safe and full, messages and peers are authentic; at levels link and link-sr
+/// nothing of a safety layer came. Nothing came at a number that wasn't opened.
 pub fn lawful()
     ensures { LawfulAlways }
 {
@@ -79,8 +80,8 @@ pub fn printed()
     drill_model::laws::histories();
 }
 
-/// On a link of level link or full that keeps its order, whatever it loses and repeats, what an end accepted is a prefix of what the other
-/// sent, at each moment.
+/// On a link of level link, link-sr or full that keeps its order, whatever it loses and repeats, what an end accepted is a prefix of what the
+/// other sent, at each moment.
 pub fn in_order()
     ensures { InOrderAlways }
 {
@@ -158,8 +159,8 @@ pub fn takes()
     drill_model::laws::histories();
 }
 
-/// On a link of level link or full that keeps its order, whatever it loses and repeats, nothing is forged where the keys agree, also where an end is
-/// released.
+/// On a link of level link, link-sr or full that keeps its order, whatever it loses and repeats, nothing is forged where the keys agree, also where
+/// an end is released.
 pub fn order_is_unforged()
     ensures { (plan : Plan) (steps : List Step) → AllFit steps → AllAllowed plan.settings → OrderIsUnforged plan steps }
 {

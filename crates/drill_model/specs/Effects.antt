@@ -78,7 +78,7 @@ RanOut now (Some moment) = moment ≤ now
 -- A moment below the last one counts as the last one
 abbrev pub HasRunOut : (now : ℕ) → End → Type 0
 HasRunOut now (OfSafe side) = ⊥
-HasRunOut now (OfStation s stream) = RanOut (max s.moment now) s.timer
+HasRunOut now (OfStation selective s stream) = RanOut (max s.moment now) s.timer
 HasRunOut now (OfStack m) =
     (m.core.released ≡ None)
     × (RanOut (max m.core.line.moment (max m.core.moment now)) m.core.line.timer

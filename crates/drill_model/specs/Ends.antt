@@ -1,7 +1,7 @@
 -- The ends of a link, one kind a level, and what an end does with an event (this profile). At level safe an end is a side of a safe
--- connection, and what it sends is an SaPDU; at level link it is a station, at level full a stack of four layers, and what they send is a
+-- connection, and what it sends is an SaPDU; at levels link and link-sr it is a station, at level full a stack of four layers, and what they send is a
 -- frame from flag to flag.
-use Rattle.std.specs.Prelude.{ℕ, List, [], ◌∷◌, ◌++◌, Option, Some, None}
+use Rattle.std.specs.Prelude.{ℕ, Bool, List, [], ◌∷◌, ◌++◌, Option, Some, None}
 use Rattle.des_block.specs.declared.triple_key.TripleKey.{TripleKey}
 use Rattle.safety_automaton.specs.Safety.{Safety, SafetyEvent, ConnectRequest, Received, DataRequest, DisconnectRequest, Refusal, SafetyOutcome, SentAu1, SentAu2, SentAu3, SentAr, ReceivedAr, AcceptedDt, SentDt, ReleasedLocally, ReleasedByPeer, NothingDone}
 use Rattle.safety_automaton.specs.Safety as safety
@@ -31,8 +31,8 @@ pub data EndEvent : Type 0 where
 pub data End : Type 0 where
   -- level safe
   OfSafe : (side : Safety) → End
-  -- level link: a station, and the stream of all octets that it was given
-  OfStation : (station : Station) (stream : List ℕ) → End
+  -- levels link and link-sr: a station, whether it has selective reject, and the stream of all octets that it was given
+  OfStation : (selective : Bool) (station : Station) (stream : List ℕ) → End
   -- level full: a stack, with the stream of all octets that it was given
   OfStack : (stack : Stack) → End
 
@@ -74,20 +74,20 @@ safe_end_step key_of s (Some event) =
     let a = safety.step key_of s event in
     (OfSafe a.0, outcomes_by (heard_in event) a.1)
 
--- ---- level link
+-- ---- levels link and link-sr
 
 -- a station went on so, and this is all that it was given
-abbrev pub station_end : (stream : List ℕ) → Station × List Outcome → End × List Outcome
-station_end stream a = (OfStation a.0 stream, a.1)
+abbrev pub station_end : (selective : Bool) (stream : List ℕ) → Station × List Outcome → End × List Outcome
+station_end selective stream a = (OfStation selective a.0 stream, a.1)
 
 -- octets go on from the stream before them, so a frame may begin in one piece and close in another; a station has no messages to take
-abbrev pub station_end_step : (moment : ℕ) → Station → (stream : List ℕ) → EndEvent → End × List Outcome
-station_end_step moment s stream Start = station_end stream (begins moment s)
-station_end_step moment s stream (Receive octets) = station_end (stream ++ octets) (frames_heard moment (news stream octets) s)
-station_end_step moment s stream (Send payload) = station_end stream (user_sends moment payload s)
-station_end_step moment s stream Take = station_end stream (s, [])
-station_end_step moment s stream (Release sub) = station_end stream (user_releases sub s)
-station_end_step moment s stream Tick = station_end stream (time_goes_on moment s)
+abbrev pub station_end_step : (selective : Bool) (moment : ℕ) → Station → (stream : List ℕ) → EndEvent → End × List Outcome
+station_end_step selective moment s stream Start = station_end selective stream (begins moment s)
+station_end_step selective moment s stream (Receive octets) = station_end selective (stream ++ octets) (frames_heard selective moment (news stream octets) s)
+station_end_step selective moment s stream (Send payload) = station_end selective stream (user_sends moment payload s)
+station_end_step selective moment s stream Take = station_end selective stream (s, [])
+station_end_step selective moment s stream (Release sub) = station_end selective stream (user_releases sub s)
+station_end_step selective moment s stream Tick = station_end selective stream (time_goes_on moment s)
 
 -- ---- level full
 
@@ -109,5 +109,5 @@ stack_end_step key_of moment m Tick = stack_end (stack_ticks moment m)
 -- an end that looks KMACs up so is given an event at a moment: the end after it, and its outcomes in their order
 abbrev pub end_step : (ℕ → ℕ → Option TripleKey) → (moment : ℕ) → End → EndEvent → End × List Outcome
 end_step key_of moment (OfSafe s) event = safe_end_step key_of s (safety_event event)
-end_step key_of moment (OfStation s stream) event = station_end_step moment s stream event
+end_step key_of moment (OfStation selective s stream) event = station_end_step selective moment s stream event
 end_step key_of moment (OfStack m) event = stack_end_step key_of moment m event

@@ -1,5 +1,5 @@
 -- What is claimed of every list of steps, of each link of their world, by its level.
-use Rattle.std.specs.Prelude.{ℕ, ◌≡◌, ◌≤◌, ◌==◌, ◌&&◌, false, if◌then◌else◌, List, [], ◌∷◌, ◌++◌, length, Option, Some, None, option_map}
+use Rattle.std.specs.Prelude.{ℕ, ◌*◌, ◌≡◌, ◌≤◌, ◌==◌, ◌&&◌, true, false, if◌then◌else◌, List, [], ◌∷◌, ◌++◌, length, Option, Some, None, option_map}
 use Rattle.std.specs.List.{list_any, AllByRecursion}
 use Rattle.er_base.specs.declared.release.Release.{Release}
 use Rattle.er_base.specs.declared.side.Side.{Side}
@@ -28,10 +28,10 @@ use Rattle.drill_model.specs.Hearing.{HeardIsBrought}
 
 -- ---- authentic messages and peers
 
--- what came at a link is lawful: at levels safe and full, authentic; at level link there is no safety layer, so nothing came of it
+-- what came at a link is lawful: at levels safe and full, authentic; at levels link and link-sr there is no safety layer, so nothing came of it
 abbrev pub IsLawful : LinkOpening → List Occurrence → Type 0
 IsLawful (OfPair opening) history = Authentic opening (facts_in history)
-IsLawful OfStations history = facts_in history ≡ []
+IsLawful (OfStations selective) history = facts_in history ≡ []
 IsLawful (OfStacks engine rbc ke kr ra rb) history = Authentic (OfKeys engine rbc ke kr ra rb) (facts_in history)
 
 -- and nothing came at a number that wasn't opened
@@ -92,16 +92,18 @@ RoomAlways =
 
 -- ---- settings
 
--- two stations and two stacks ask for settings in their ranges
+-- two stations and two stacks ask for settings in their ranges; stations with selective reject besides for a window of at most half the
+-- modulo (ISO/IEC 13239)
 abbrev pub FitsSettings : Settings → LinkOpening → Type 0
 FitsSettings settings (OfPair opening) = Unit {0}
-FitsSettings settings OfStations = AllAllowed settings
+FitsSettings settings (OfStations true) = AllAllowed settings × (2 * settings.window ≤ settings.modulo)
+FitsSettings settings (OfStations false) = AllAllowed settings
 FitsSettings settings (OfStacks engine rbc ke kr ra rb) = AllAllowed settings
 
 -- at level full the users' texts are octets, and the numbers fit their fields
 abbrev pub FitsSteps : List Step → LinkOpening → Type 0
 FitsSteps steps (OfPair opening) = Unit {0}
-FitsSteps steps OfStations = Unit {0}
+FitsSteps steps (OfStations selective) = Unit {0}
 FitsSteps steps (OfStacks engine rbc ke kr ra rb) = AllFit steps
 
 -- ---- a line that only loses and repeats
@@ -119,12 +121,12 @@ InOrderAlways =
     → IsOrderKeeping l.opening (history_on n (world_run plan steps).1)
     → IsInOrder (history_on n (world_run plan steps).1)
 
--- why an end may be released there. At level link 0.x, its own user; 1.1, the set-up was never answered; 1.2, no progress; 1.4, the peer's
+-- why an end may be released there. At levels link and link-sr 0.x, its own user; 1.1, the set-up was never answered; 1.2, no progress; 1.4, the peer's
 -- DISC, DM or FRMR; each is told as a local one. At level full, where the radio block centre has the engine's KMAC, the same or 6.1, the time
 -- for the set-up was spent; each by the own end or by the peer
 abbrev pub IsLosingLineReason : LinkOpening → Release → Type 0
 IsLosingLineReason (OfPair opening) release = Unit {0}
-IsLosingLineReason OfStations release = lines.IsLosingLineReason release
+IsLosingLineReason (OfStations selective) release = lines.IsLosingLineReason release
 IsLosingLineReason (OfStacks engine rbc ke kr ra rb) release = kr ≡ Some ke → reasons.IsLosingLineReason release
 
 -- of each release that came
@@ -147,7 +149,7 @@ TakesInOrder plan steps =
 -- an end is connected; a station is up
 abbrev pub IsConnectedEnd : End → Type 0
 IsConnectedEnd (OfSafe s) = IsConnectedPhase s.phase
-IsConnectedEnd (OfStation s stream) = s.phase ≡ phase.Up
+IsConnectedEnd (OfStation selective s stream) = s.phase ≡ phase.Up
 IsConnectedEnd (OfStack m) = IsConnectedPhase m.core.safe.safety.phase
 
 -- both ends are connected, and each accepted all that the other sent, in order
@@ -165,25 +167,25 @@ pub record HasAllPayloads (history : List Occurrence) (l : Link) : Type 0 where
   pub at_r : accepted_by R history ≡ sent_by E history
   pub at_e : 1 ≤ length (sent_by E history) → accepted_by E history ≡ sent_by R history
 
--- the user of an end took every message that was accepted; at levels safe and link a message counts as taken at once
+-- the user of an end took every message that was accepted; at levels safe, link and link-sr a message counts as taken at once
 abbrev pub HasTakenAll : End → Type 0
 HasTakenAll (OfSafe s) = Unit {0}
-HasTakenAll (OfStation s stream) = Unit {0}
+HasTakenAll (OfStation selective s stream) = Unit {0}
 HasTakenAll (OfStack m) = m.core.upper.used ≡ length m.core.upper.accepted
 
 -- an empty link: no frame waits, and at level full every accepted message was taken
 abbrev pub IsEmpty : LinkOpening → Link → Type 0
 IsEmpty (OfPair opening) l = (l.from_e ≡ []) × (l.from_r ≡ [])
-IsEmpty OfStations l = (l.from_e ≡ []) × (l.from_r ≡ [])
+IsEmpty (OfStations selective) l = (l.from_e ≡ []) × (l.from_r ≡ [])
 IsEmpty (OfStacks engine rbc ke kr ra rb) l = (l.from_e ≡ []) × (l.from_r ≡ []) × HasTakenAll l.e × HasTakenAll l.r
 
 -- what is delivered on an empty link
 abbrev pub IsDelivered : LinkOpening → List Occurrence → Link → Type 0
 IsDelivered (OfPair opening) history l = HasAll history l
-IsDelivered OfStations history l = HasAllPayloads history l
+IsDelivered (OfStations selective) history l = HasAllPayloads history l
 IsDelivered (OfStacks engine rbc ke kr ra rb) history l = HasAll history l
 
--- nothing is forged: no text of a set-up that was verified, no connection and no accepted message; at level link there is no safety layer
+-- nothing is forged: no text of a set-up that was verified, no connection and no accepted message; at levels link and link-sr there is no safety layer
 abbrev pub IsUnforged : List Occurrence → Type 0
 IsUnforged history = list_any (λ f. f.forged) (marked (facts_in history)) ≡ false
 

@@ -13,11 +13,10 @@ use Rattle.end_model.specs.Layers.{model}
 use Rattle.end_model.specs.Steps.{begins_at}
 use Rattle.end_model.specs.Ends.{End as Stack, hears_each}
 use Rattle.station_model.specs.Events as station_events
-use Rattle.end_model.specs.Ends as stacks
 use Rattle.end_model.specs.Hearing.{IsTextOf}
 use Rattle.drill_model.specs.Outcomes.{OfSafety, Passed, Occurrence, at_end}
 use Rattle.drill_model.specs.Ends.{End, OfSafe, OfStation, OfStack}
-use Rattle.drill_model.specs.Links.{Link, LinkOpening, end_of, key_on, LinkStep, life}
+use Rattle.drill_model.specs.Links.{Link, end_of, key_on, LinkStep, life}
 use Rattle.drill_model.specs.Worlds.{Plan, link_at, history_on, world_run}
 use Rattle.drill_model.specs.Kinds.{passed_in, deliveries}
 
@@ -45,7 +44,7 @@ pub record IsMade (keys : (engine rbc : ℕ) → Option TripleKey) (moment : ℕ
 -- what an end hears of the octets that are passed to it; a station has no safety layer
 abbrev pub IsHeard : (keys : (engine rbc : ℕ) → Option TripleKey) (moment : ℕ) → End → (earlier octets heard : List ℕ) → Type 0
 IsHeard keys moment (OfSafe side) earlier octets heard = heard ≡ octets
-IsHeard keys moment (OfStation station stream) earlier octets heard = ⊥
+IsHeard keys moment (OfStation selective station stream) earlier octets heard = ⊥
 IsHeard keys moment (OfStack m) earlier octets heard = IsMade keys moment m earlier octets heard
 
 -- what was heard at a side of a link behind this history is what the newest pass brought it from the other side: the link's own steps up to that

@@ -192,10 +192,10 @@ is_disorder (IsShort found) = false
 abbrev pub is_disordered : List Occurrence → Bool
 is_disordered history = list_any (λ o. is_disorder o.outcome) history
 
--- the ends of a link number what they send: from level link on
+-- the ends of a link number what they send: at every level but safe
 abbrev pub IsNumbered : LinkOpening → Type 0
 IsNumbered (OfPair opening) = ⊥
-IsNumbered OfStations = Unit {0}
+IsNumbered (OfStations selective) = Unit {0}
 IsNumbered (OfStacks engine rbc ke kr ra rb) = Unit {0}
 
 -- order-keeping so far: frames may be lost and repeated
@@ -206,7 +206,7 @@ pub record IsOrderKeeping (opening : LinkOpening) (history : List Occurrence) : 
 -- the ends of a link agree; two stations always do, and two stacks where the radio block centre has the engine's KMAC
 abbrev pub EndsAgree : LinkOpening → Type 0
 EndsAgree (OfPair opening) = Agrees opening
-EndsAgree OfStations = Unit {0}
+EndsAgree (OfStations selective) = Unit {0}
 EndsAgree (OfStacks engine rbc ke kr ra rb) = kr ≡ Some ke
 
 -- loss-free so far
@@ -216,10 +216,10 @@ pub record IsLossFree (opening : LinkOpening) (history : List Occurrence) : Type
 
 -- ---- bounds
 
--- Bound: at level safe one delivery for each message that was sent, and four for a set-up; at level link two for each payload, its I frame and
+-- Bound: at level safe one delivery for each message that was sent, and four for a set-up; at levels link and link-sr two for each payload, its I frame and
 -- the answer, and two for the set-up frame and its answer; at level full four for each segment of a message, a DT and an AK with the answer of
 -- each, and fourteen for the set-up of the four layers
 abbrev pub bound : Settings → LinkOpening → List Occurrence → ℕ
 bound settings (OfPair opening) history = pair.set_up_sapdus opening + (length (sent_by E history) + length (sent_by R history))
-bound settings OfStations history = station_bound (length (sent_by E history)) (length (sent_by R history))
+bound settings (OfStations selective) history = station_bound (length (sent_by E history)) (length (sent_by R history))
 bound settings (OfStacks engine rbc ke kr ra rb) history = end_bound settings (sent_by E history) (sent_by R history)

@@ -68,14 +68,14 @@ known_late = refl
 
 -- so far this link is loss-free; one whose frames were lost and repeated keeps its order and isn't loss-free, and one with a frame that was put
 -- or changed doesn't keep it
-pub known_loss_free : IsLossFree OfStations (history ticking)
+pub known_loss_free : IsLossFree (OfStations false) (history ticking)
 unfolding drain ticks frames_of between_flags all_but_last cut verdict_on verdict_on_content checked_part check_number unescaped ends_in_escape spelling escaped escaped_octet content_of control_of fcs_of fcs_bits dividend remainder divided_once add_front sent_bits low_bits low_number
 known_loss_free = record { undisturbed = refl; agree = tt }
 
 abbrev losing : List Step
 losing = does.Wire 1 ∷ does.Repeat 1 E ∷ does.Lose 1 E ∷ []
 
-pub known_order : IsOrderKeeping OfStations (history losing)
+pub known_order : IsOrderKeeping (OfStations false) (history losing)
 unfolding spelling escaped escaped_octet content_of control_of fcs_of fcs_bits dividend remainder divided_once add_front sent_bits low_bits low_number
 known_order = record { numbered = tt; ordered = refl }
 

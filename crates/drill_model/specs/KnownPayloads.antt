@@ -1,4 +1,4 @@
--- Known answers, worked out by hand: what comes of short drills at level link.
+-- Known answers, worked out by hand: what comes of short drills at levels link and link-sr.
 use Rattle.std.specs.Prelude.{◌≡◌, ℕ, false, List, [], ◌∷◌, refl}
 use Rattle.bit_lists.specs.LowestFirst.{low_bits, low_number}
 use Rattle.hdlc_fcs.specs.FrameCheck.{fcs_of, fcs_bits, dividend, remainder, divided_once, add_front, sent_bits}
@@ -8,10 +8,10 @@ use Rattle.hdlc_frames.specs.Spelling.{escaped_octet, escaped, spelling}
 use Rattle.hdlc_frames.specs.ControlOctets.{control_of}
 use Rattle.er_base.specs.declared.side.Side.TheVariants.{E, R}
 use Rattle.er_settings.specs.Ranges.{usual_settings}
-use Rattle.er_scenario.specs.declared.level.Level.TheVariants.{Link}
+use Rattle.er_scenario.specs.declared.level.Level.TheVariants.{Link, LinkSr}
 use Rattle.er_scenario.specs.declared.step.Step.TheVariants as does
 use Rattle.drill_model.specs.Outcomes.{RefusedLength, RefusedFull, RefusedReleased, Handed, Arrived, Up, Refused, Released, Frame, Expired, UserReleased, Passed, Lost, Inserted, at_end}
-use Rattle.drill_model.specs.Worlds.{Plan, On, Drained, drain, ticks, world_run}
+use Rattle.drill_model.specs.Worlds.{Plan, Came, On, Drained, drain, ticks, world_run}
 
 abbrev plan : Plan
 plan = record { level = Link; settings = usual_settings; show = false }
@@ -138,3 +138,145 @@ pub known_full : (world_run plan (does.Wire 1 ∷ does.Send 1 E [] ∷ does.Send
     ∷ On 1 (at_end E (Refused (RefusedFull 16))) ∷ []
 unfolding drain ticks frames_of between_flags all_but_last cut verdict_on verdict_on_content checked_part check_number unescaped ends_in_escape spelling escaped escaped_octet content_of control_of fcs_of fcs_bits dividend remainder divided_once add_front sent_bits low_bits low_number
 known_full = refl
+
+-- ---- level link-sr
+
+-- the window is half the modulo
+abbrev selective_plan : Plan
+selective_plan = record { level = LinkSr; settings = record usual_settings { window = 4 }; show = false }
+
+-- I frames of the calling station with the numbers 0 to 3, each with one octet
+abbrev first_info : List ℕ
+first_info = (0x7e ∷ 0x01 ∷ 0x00 ∷ 0x01 ∷ 0x99 ∷ 0x8d ∷ 0x7e ∷ [])
+
+abbrev second_info : List ℕ
+second_info = (0x7e ∷ 0x01 ∷ 0x02 ∷ 0x02 ∷ 0xb2 ∷ 0x8c ∷ 0x7e ∷ [])
+
+abbrev third_info : List ℕ
+third_info = (0x7e ∷ 0x01 ∷ 0x04 ∷ 0x03 ∷ 0xeb ∷ 0xc9 ∷ 0x7e ∷ [])
+
+abbrev fourth_info : List ℕ
+fourth_info = (0x7e ∷ 0x01 ∷ 0x06 ∷ 0x04 ∷ 0xe4 ∷ 0x8e ∷ 0x7e ∷ [])
+
+-- SREJ with the numbers 0 and 2, and RR with 3 and 4, of the called station; RR with 2 stands above
+abbrev asks_first : List ℕ
+asks_first = (0x7e ∷ 0x01 ∷ 0x0d ∷ 0x7a ∷ 0xcd ∷ 0x7e ∷ [])
+
+abbrev asks_third : List ℕ
+asks_third = (0x7e ∷ 0x01 ∷ 0x4d ∷ 0x7d ∷ 0x5e ∷ 0x8f ∷ 0x7e ∷ [])
+
+abbrev ready_three : List ℕ
+ready_three = (0x7e ∷ 0x01 ∷ 0x61 ∷ 0x10 ∷ 0x64 ∷ 0x7e ∷ [])
+
+abbrev ready_four : List ℕ
+ready_four = (0x7e ∷ 0x01 ∷ 0x81 ∷ 0x1e ∷ 0x83 ∷ 0x7e ∷ [])
+
+-- what comes of a wire whose set-up frames are passed, and then of more
+abbrev behind_set_up : List Came → List Came
+behind_set_up more =
+    On 1 (at_end E (Frame set_up))
+    ∷ On 1 (at_end E (Passed set_up))
+    ∷ On 1 (at_end R Up)
+    ∷ On 1 (at_end R (Frame answer))
+    ∷ On 1 (at_end R (Passed answer))
+    ∷ On 1 (at_end E Up)
+    ∷ Drained 1 2 ∷ more
+
+-- the first of three I frames is lost: the two behind it are held, it alone is asked for and sent again, and all three are taken at once
+pub known_repair : (world_run selective_plan (does.Wire 1 ∷ does.Drain 1 4 ∷ does.Send 1 E (0x01 ∷ []) ∷ does.Send 1 E (0x02 ∷ []) ∷ does.Send 1 E (0x03 ∷ []) ∷ does.Lose 1 E ∷ does.Drain 1 20 ∷ [])).1
+    ≡ behind_set_up (
+    On 1 (at_end E (Handed (0x01 ∷ [])))
+    ∷ On 1 (at_end E (Frame first_info))
+    ∷ On 1 (at_end E (Handed (0x02 ∷ [])))
+    ∷ On 1 (at_end E (Frame second_info))
+    ∷ On 1 (at_end E (Handed (0x03 ∷ [])))
+    ∷ On 1 (at_end E (Frame third_info))
+    ∷ On 1 (at_end E Lost)
+    ∷ On 1 (at_end E (Passed second_info))
+    ∷ On 1 (at_end R (Frame asks_first))
+    ∷ On 1 (at_end E (Passed third_info))
+    ∷ On 1 (at_end R (Passed asks_first))
+    ∷ On 1 (at_end E (Frame first_info))
+    ∷ On 1 (at_end E (Passed first_info))
+    ∷ On 1 (at_end R (Arrived (0x01 ∷ [])))
+    ∷ On 1 (at_end R (Arrived (0x02 ∷ [])))
+    ∷ On 1 (at_end R (Arrived (0x03 ∷ [])))
+    ∷ On 1 (at_end R (Frame ready_three))
+    ∷ On 1 (at_end R (Passed ready_three))
+    ∷ Drained 1 5 ∷ []
+    )
+unfolding drain ticks frames_of between_flags all_but_last cut verdict_on verdict_on_content checked_part check_number unescaped ends_in_escape spelling escaped escaped_octet content_of control_of fcs_of fcs_bits dividend remainder divided_once add_front sent_bits low_bits low_number
+known_repair = refl
+
+-- the SREJ is lost too: no later frame asks again, and nothing moves until T1 expires; then all three are sent again, and RR answers the two that
+-- are old by then
+pub known_lost_request : (world_run selective_plan (does.Wire 1 ∷ does.Drain 1 4 ∷ does.Send 1 E (0x01 ∷ []) ∷ does.Send 1 E (0x02 ∷ []) ∷ does.Send 1 E (0x03 ∷ []) ∷ does.Lose 1 E ∷ does.Pass 1 E ∷ does.Lose 1 R ∷ does.Drain 1 20 ∷ does.Tick 999 ∷ does.Tick 1000 ∷ does.Drain 1 20 ∷ [])).1
+    ≡ behind_set_up (
+    On 1 (at_end E (Handed (0x01 ∷ [])))
+    ∷ On 1 (at_end E (Frame first_info))
+    ∷ On 1 (at_end E (Handed (0x02 ∷ [])))
+    ∷ On 1 (at_end E (Frame second_info))
+    ∷ On 1 (at_end E (Handed (0x03 ∷ [])))
+    ∷ On 1 (at_end E (Frame third_info))
+    ∷ On 1 (at_end E Lost)
+    ∷ On 1 (at_end E (Passed second_info))
+    ∷ On 1 (at_end R (Frame asks_first))
+    ∷ On 1 (at_end R Lost)
+    ∷ On 1 (at_end E (Passed third_info))
+    ∷ Drained 1 1
+    ∷ On 1 (at_end E Expired)
+    ∷ On 1 (at_end E (Frame first_info))
+    ∷ On 1 (at_end E (Frame second_info))
+    ∷ On 1 (at_end E (Frame third_info))
+    ∷ On 1 (at_end E (Passed first_info))
+    ∷ On 1 (at_end R (Arrived (0x01 ∷ [])))
+    ∷ On 1 (at_end R (Arrived (0x02 ∷ [])))
+    ∷ On 1 (at_end R (Arrived (0x03 ∷ [])))
+    ∷ On 1 (at_end R (Frame ready_three))
+    ∷ On 1 (at_end E (Passed second_info))
+    ∷ On 1 (at_end R (Frame ready_three))
+    ∷ On 1 (at_end E (Passed third_info))
+    ∷ On 1 (at_end R (Frame ready_three))
+    ∷ On 1 (at_end R (Passed ready_three))
+    ∷ On 1 (at_end R (Passed ready_three))
+    ∷ On 1 (at_end R (Passed ready_three))
+    ∷ Drained 1 6 ∷ []
+    )
+unfolding drain ticks frames_of between_flags all_but_last cut verdict_on verdict_on_content checked_part check_number unescaped ends_in_escape spelling escaped escaped_octet content_of control_of fcs_of fcs_bits dividend remainder divided_once add_front sent_bits low_bits low_number
+known_lost_request = refl
+
+-- the first and the third of four I frames are lost: each is asked for once and sent again once
+pub known_two_gaps : (world_run selective_plan (does.Wire 1 ∷ does.Drain 1 4 ∷ does.Send 1 E (0x01 ∷ []) ∷ does.Send 1 E (0x02 ∷ []) ∷ does.Send 1 E (0x03 ∷ []) ∷ does.Send 1 E (0x04 ∷ []) ∷ does.Lose 1 E ∷ does.Pass 1 E ∷ does.Lose 1 E ∷ does.Drain 1 20 ∷ [])).1
+    ≡ behind_set_up (
+    On 1 (at_end E (Handed (0x01 ∷ [])))
+    ∷ On 1 (at_end E (Frame first_info))
+    ∷ On 1 (at_end E (Handed (0x02 ∷ [])))
+    ∷ On 1 (at_end E (Frame second_info))
+    ∷ On 1 (at_end E (Handed (0x03 ∷ [])))
+    ∷ On 1 (at_end E (Frame third_info))
+    ∷ On 1 (at_end E (Handed (0x04 ∷ [])))
+    ∷ On 1 (at_end E (Frame fourth_info))
+    ∷ On 1 (at_end E Lost)
+    ∷ On 1 (at_end E (Passed second_info))
+    ∷ On 1 (at_end R (Frame asks_first))
+    ∷ On 1 (at_end E Lost)
+    ∷ On 1 (at_end E (Passed fourth_info))
+    ∷ On 1 (at_end R (Frame asks_third))
+    ∷ On 1 (at_end R (Passed asks_first))
+    ∷ On 1 (at_end E (Frame first_info))
+    ∷ On 1 (at_end E (Passed first_info))
+    ∷ On 1 (at_end R (Arrived (0x01 ∷ [])))
+    ∷ On 1 (at_end R (Arrived (0x02 ∷ [])))
+    ∷ On 1 (at_end R (Frame ready))
+    ∷ On 1 (at_end R (Passed asks_third))
+    ∷ On 1 (at_end E (Frame third_info))
+    ∷ On 1 (at_end E (Passed third_info))
+    ∷ On 1 (at_end R (Arrived (0x03 ∷ [])))
+    ∷ On 1 (at_end R (Arrived (0x04 ∷ [])))
+    ∷ On 1 (at_end R (Frame ready_four))
+    ∷ On 1 (at_end R (Passed ready))
+    ∷ On 1 (at_end R (Passed ready_four))
+    ∷ Drained 1 7 ∷ []
+    )
+unfolding drain ticks frames_of between_flags all_but_last cut verdict_on verdict_on_content checked_part check_number unescaped ends_in_escape spelling escaped escaped_octet content_of control_of fcs_of fcs_bits dividend remainder divided_once add_front sent_bits low_bits low_number
+known_two_gaps = refl

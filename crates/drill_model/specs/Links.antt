@@ -1,5 +1,5 @@
 -- A link: two ends, and in each direction the frames that wait. A step gives the next link and what came of it (this profile).
-use Rattle.std.specs.Prelude.{ℕ, ◌==◌, max, true, false, List, [], ◌∷◌, ◌++◌, map, Option, None}
+use Rattle.std.specs.Prelude.{ℕ, ◌==◌, max, Bool, true, false, List, [], ◌∷◌, ◌++◌, map, Option, None}
 use Rattle.er_base.specs.declared.side.Side.{Side}
 use Rattle.er_base.specs.declared.side.Side.TheVariants.{E, R}
 use Rattle.er_base.specs.Sides.{other}
@@ -18,8 +18,8 @@ use Rattle.drill_model.specs.Waiting.{LineChange, changes}
 pub data LinkOpening : Type 0 where
   -- level safe: two sides of a safe connection
   OfPair : (opening : PairOpening) → LinkOpening
-  -- level link: two stations
-  OfStations : LinkOpening
+  -- levels link and link-sr: two stations, both with go-back or both with selective reject
+  OfStations : (selective : Bool) → LinkOpening
   -- level full: two stacks of an engine that calls a radio block centre: the KMAC of each, if the radio block centre has one, and the random
   -- number of each, the radio block centre's first
   OfStacks : (engine rbc : ℕ) (ke : TripleKey) (kr : Option TripleKey) (ra rb : ℕ) → LinkOpening
@@ -56,7 +56,7 @@ with_waiting l R frames = record l { from_r = frames }
 -- the KMACs that the ends of a link find, at every moment
 abbrev pub key_on : LinkOpening → (engine rbc : ℕ) → Option TripleKey
 key_on (OfPair opening) = key_for opening
-key_on OfStations = λ engine rbc. None
+key_on (OfStations selective) = λ engine rbc. None
 key_on (OfStacks engine rbc ke kr ra rb) = key_for (OfKeys engine rbc ke kr ra rb)
 
 -- ---- an event at an end
@@ -91,13 +91,13 @@ abbrev pub opened_pair : PairOpening → (moment : ℕ) → Link × List Occurre
 opened_pair (OfFixed engine rbc ke kr) moment = (joined_pair (OfFixed engine rbc ke kr) moment, [])
 opened_pair (OfKeys engine rbc ke kr ra rb) moment = give (joined_pair (OfKeys engine rbc ke kr ra rb) moment) E Start
 
--- two stations with these settings, of which the calling one starts at once: its set-up frame waits
-abbrev pub opened_stations : Settings → (moment : ℕ) → Link × List Occurrence
-opened_stations settings moment =
+-- two stations of one kind with these settings, of which the calling one starts at once: its set-up frame waits
+abbrev pub opened_stations : Settings → (moment : ℕ) → (selective : Bool) → Link × List Occurrence
+opened_stations settings moment selective =
     give (
-    joined OfStations moment
-    (OfStation (made true (settings.modulo == 128) settings.window settings.n2 settings.t1) [])
-    (OfStation (made false (settings.modulo == 128) settings.window settings.n2 settings.t1) [])
+    joined (OfStations selective) moment
+    (OfStation selective (made true (settings.modulo == 128) settings.window settings.n2 settings.t1) [])
+    (OfStation selective (made false (settings.modulo == 128) settings.window settings.n2 settings.t1) [])
     ) E Start
 
 -- two stacks with these settings, of which the engine's starts at once; the time for the set-up runs from this moment
@@ -112,7 +112,7 @@ opened_stacks settings moment engine rbc ke kr ra rb =
 -- a link that was just opened with these settings, at this moment
 abbrev pub opened : Settings → (moment : ℕ) → LinkOpening → Link × List Occurrence
 opened settings moment (OfPair opening) = opened_pair opening moment
-opened settings moment OfStations = opened_stations settings moment
+opened settings moment (OfStations selective) = opened_stations settings moment selective
 opened settings moment (OfStacks engine rbc ke kr ra rb) = opened_stacks settings moment engine rbc ke kr ra rb
 
 -- ---- steps

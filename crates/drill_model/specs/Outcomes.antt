@@ -17,11 +17,11 @@ pub data SendRefusal : Type 0 where
 pub data Outcome : Type 0 where
   -- a fact of the safety layer: a send that was Ok, a sealed or verified text, a connection, an accepted message
   OfSafety : (fact : Fact) → Outcome
-  -- level link: a send that was Ok
+  -- levels link and link-sr: a send that was Ok
   Handed : (payload : List ℕ) → Outcome
-  -- level link: a payload was accepted
+  -- levels link and link-sr: a payload was accepted
   Arrived : (payload : List ℕ) → Outcome
-  -- level link: the station went up
+  -- levels link and link-sr: the station went up
   Up : Outcome
   -- a message was taken; none was there
   Took : (message : List ℕ) → Outcome

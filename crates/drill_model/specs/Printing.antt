@@ -1,6 +1,6 @@
 -- What is claimed of what is printed (this profile): each link's lines have the marks by which its facts are judged, and the lines of one event at an end
 -- come in the order of the table of lines.
-use Rattle.std.specs.Prelude.{ℕ, ◌≡◌, ◌≤◌, ◌==◌, if◌then◌else◌, List, [], ◌∷◌, Option}
+use Rattle.std.specs.Prelude.{ℕ, ◌≡◌, ◌≤◌, ◌==◌, Bool, if◌then◌else◌, List, [], ◌∷◌, Option}
 use Rattle.std.specs.List.{flat_map, AllByRecursion}
 use Rattle.des_block.specs.declared.triple_key.TripleKey.{TripleKey}
 use Rattle.station_model.specs.Stations.{Station}
@@ -10,7 +10,6 @@ use Rattle.drill_model.specs.Outcomes.{Outcome}
 use Rattle.end_model.specs.Layers.{model}
 use Rattle.end_model.specs.Steps.{begins_at}
 use Rattle.end_model.specs.Ends.{End as Stack}
-use Rattle.end_model.specs.Ends as stacks
 use Rattle.drill_model.specs.StationEnds.{heard_parts}
 use Rattle.drill_model.specs.StackEnds.{stack_parts}
 use Rattle.drill_model.specs.Ends.{End, OfSafe, OfStation, OfStack, EndEvent, station_end_step, stack_end_step, end_step}
@@ -38,13 +37,13 @@ IsRising (n ∷ []) = Unit {0}
 IsRising (n ∷ m ∷ more) = (n ≤ m) × IsRising (m ∷ more)
 
 -- the outcomes of an event at an end in parts: of octets in which several frames close, one part a frame
-abbrev pub station_parts : (moment : ℕ) → Station → (stream : List ℕ) → EndEvent → List (List Outcome)
-station_parts moment s stream event.Start = (station_end_step moment s stream event.Start).1 ∷ []
-station_parts moment s stream (event.Receive octets) = heard_parts moment (news stream octets) s
-station_parts moment s stream (event.Send payload) = (station_end_step moment s stream (event.Send payload)).1 ∷ []
-station_parts moment s stream event.Take = (station_end_step moment s stream event.Take).1 ∷ []
-station_parts moment s stream (event.Release sub) = (station_end_step moment s stream (event.Release sub)).1 ∷ []
-station_parts moment s stream event.Tick = (station_end_step moment s stream event.Tick).1 ∷ []
+abbrev pub station_parts : (selective : Bool) (moment : ℕ) → Station → (stream : List ℕ) → EndEvent → List (List Outcome)
+station_parts selective moment s stream event.Start = (station_end_step selective moment s stream event.Start).1 ∷ []
+station_parts selective moment s stream (event.Receive octets) = heard_parts selective moment (news stream octets) s
+station_parts selective moment s stream (event.Send payload) = (station_end_step selective moment s stream (event.Send payload)).1 ∷ []
+station_parts selective moment s stream event.Take = (station_end_step selective moment s stream event.Take).1 ∷ []
+station_parts selective moment s stream (event.Release sub) = (station_end_step selective moment s stream (event.Release sub)).1 ∷ []
+station_parts selective moment s stream event.Tick = (station_end_step selective moment s stream event.Tick).1 ∷ []
 
 abbrev pub parts_of_stack : (ℕ → ℕ → Option TripleKey) → (moment : ℕ) → Stack → EndEvent → List (List Outcome)
 parts_of_stack key_of moment m event.Start = (stack_end_step key_of moment m event.Start).1 ∷ []
@@ -57,7 +56,7 @@ parts_of_stack key_of moment m event.Tick = (stack_end_step key_of moment m even
 
 abbrev pub parts_of : (ℕ → ℕ → Option TripleKey) → (moment : ℕ) → End → EndEvent → List (List Outcome)
 parts_of key_of moment (OfSafe s) event = (end_step key_of moment (OfSafe s) event).1 ∷ []
-parts_of key_of moment (OfStation s stream) event = station_parts moment s stream event
+parts_of key_of moment (OfStation selective s stream) event = station_parts selective moment s stream event
 parts_of key_of moment (OfStack m) event = parts_of_stack key_of moment m event
 
 -- the parts are all that came of the event, and the lines of each come in the order of the table of lines

@@ -1,11 +1,13 @@
--- The end of a link at level link: a station in asynchronous balanced mode (ISO/IEC 13239), and what a call of it tells and sends. Each call
+-- The end of a link at levels link and link-sr: a station in asynchronous balanced mode (ISO/IEC 13239), with go-back or with selective
+-- reject, and what a call of it tells and sends. Each call
 -- is followed by the answer that is still owed.
 use Rattle.std.specs.Prelude.{ℕ, nat_le, nat_lt, Bool, true, false, ◌&&◌, if◌then◌else◌, List, [], ◌∷◌, ◌++◌, length, map, Option, Some, None}
 use Rattle.er_base.specs.declared.release.Release.{Release}
 use Rattle.hdlc_frames.specs.Framing.{Verdict}
-use Rattle.station_model.specs.Stations.{Station, settled, is_down}
+use Rattle.station_model.specs.Stations.{Station, Deed, settled, is_down}
 use Rattle.station_model.specs.Sending.{waiting}
-use Rattle.station_model.specs.Calls.{starts, receives, hands, finishes, ticks}
+use Rattle.station_model.specs.Calls.{starts, hands, finishes, ticks}
+use Rattle.station_model.specs.Selective.{receives_as}
 use Rattle.station_model.specs.Events.{said_octets, quits, is_late}
 use Rattle.drill_model.specs.Outcomes.{SendRefusal, RefusedReleased, RefusedLength, RefusedFull, Outcome, Handed, Arrived, Up, Refused, Released, Frame, Expired}
 
@@ -19,13 +21,17 @@ abbrev pub if_arrived : Option (List ℕ) → List Outcome
 if_arrived None = []
 if_arrived (Some payload) = Arrived payload ∷ []
 
+-- the payloads that a call took, in their order
+abbrev pub all_arrived : Deed → List Outcome
+all_arrived d = if_arrived d.payload ++ map Arrived d.more
+
 abbrev pub if_released : Option Release → List Outcome
 if_released None = []
 if_released (Some release) = Released release ∷ []
 
 -- what a call told, in the order of the table of lines, and then the frames that it sent
 abbrev pub told_by : Station → List Outcome
-told_by s = ((if_up s.deed.up ++ if_arrived s.deed.payload) ++ if_released s.deed.released) ++ map Frame (said_octets s)
+told_by s = ((if_up s.deed.up ++ all_arrived s.deed) ++ if_released s.deed.released) ++ map Frame (said_octets s)
 
 -- the station behind a call, and what came of it
 abbrev pub called : Station → Station × List Outcome
@@ -34,19 +40,19 @@ called s = (settled s, told_by s)
 -- ---- octets come
 
 -- each frame that they close is one event
-abbrev pub frames_heard : (moment : ℕ) → List Verdict → Station → Station × List Outcome
-frames_heard moment [] s = (s, [])
-frames_heard moment (verdict ∷ verdicts) s =
-    let a = called (finishes (receives moment verdict s)) in
-    let b = frames_heard moment verdicts a.0 in
+abbrev pub frames_heard : (selective : Bool) (moment : ℕ) → List Verdict → Station → Station × List Outcome
+frames_heard selective moment [] s = (s, [])
+frames_heard selective moment (verdict ∷ verdicts) s =
+    let a = called (finishes (receives_as selective moment verdict s)) in
+    let b = frames_heard selective moment verdicts a.0 in
     (b.0, a.1 ++ b.1)
 
 -- what came of each frame
-abbrev pub heard_parts : (moment : ℕ) → List Verdict → Station → List (List Outcome)
-heard_parts moment [] s = []
-heard_parts moment (verdict ∷ verdicts) s =
-    let a = called (finishes (receives moment verdict s)) in
-    a.1 ∷ heard_parts moment verdicts a.0
+abbrev pub heard_parts : (selective : Bool) (moment : ℕ) → List Verdict → Station → List (List Outcome)
+heard_parts selective moment [] s = []
+heard_parts selective moment (verdict ∷ verdicts) s =
+    let a = called (finishes (receives_as selective moment verdict s)) in
+    a.1 ∷ heard_parts selective moment verdicts a.0
 
 -- ---- the user sends
 

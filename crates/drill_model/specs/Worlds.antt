@@ -1,6 +1,6 @@
 -- The world of a drill: links of one level by their numbers, and a moment. A step gives the next world and what came of it; a list of
 -- steps gives one list of all that came (this profile).
-use Rattle.std.specs.Prelude.{ℕ, zero, suc, ◌+◌, ◌==◌, ◌&&◌, nat_lt, Bool, if◌then◌else◌, List, [], ◌∷◌, ◌++◌, length, map, Option, Some, None}
+use Rattle.std.specs.Prelude.{ℕ, zero, suc, ◌+◌, ◌==◌, ◌&&◌, nat_lt, Bool, true, false, if◌then◌else◌, List, [], ◌∷◌, ◌++◌, length, map, Option, Some, None}
 use Rattle.std.specs.List.{flat_map}
 use Rattle.er_base.specs.declared.side.Side.{Side}
 use Rattle.er_base.specs.declared.side.Side.TheVariants.{E, R}
@@ -75,16 +75,19 @@ went_on w n a = (with_link w n a.0, map (On n) a.1)
 abbrev pub fixed_opening : Level → (engine rbc : ℕ) (ke kr : TripleKey) → Option LinkOpening
 fixed_opening level.Safe engine rbc ke kr = Some (OfPair (OfFixed engine rbc ke kr))
 fixed_opening level.Link engine rbc ke kr = None
+fixed_opening level.LinkSr engine rbc ke kr = None
 fixed_opening level.Full engine rbc ke kr = None
 
 abbrev pub link_opening : Level → (engine rbc : ℕ) (ke : TripleKey) (kr : Option TripleKey) (ra rb : ℕ) → Option LinkOpening
 link_opening level.Safe engine rbc ke kr ra rb = Some (OfPair (OfKeys engine rbc ke kr ra rb))
 link_opening level.Link engine rbc ke kr ra rb = None
+link_opening level.LinkSr engine rbc ke kr ra rb = None
 link_opening level.Full engine rbc ke kr ra rb = Some (OfStacks engine rbc ke kr ra rb)
 
 abbrev pub wire_opening : Level → Option LinkOpening
 wire_opening level.Safe = None
-wire_opening level.Link = Some OfStations
+wire_opening level.Link = Some (OfStations false)
+wire_opening level.LinkSr = Some (OfStations true)
 wire_opening level.Full = None
 
 -- link n is opened, where it is the number of a link that wasn't

@@ -140,7 +140,7 @@ module _ (below : Below) (s : Opening) (c : Bool) (k : ℕ) (w : List Frame) (x 
 
   up_by : x.line.deed ≡ no_deed → line.deed.payload ≡ None → line.deed.up ≡ true → x.released ≡ None → Busy s c k w x (f ∷ fs) y → State s c k w (comes_up model x_line) fs y
   up_by quiet none came live b =
-      let t = below.receives x.moment (found y.line f) x.line quiet in
+      let t = below.receives false x.moment (found y.line f) x.line quiet in
       let up = t.came came in
       let u : Transport = x.upper.transport in
       cond_both (u.is_caller && is_new u.stage && is_ready x.safe.safety.phase)
@@ -157,7 +157,7 @@ module _ (below : Below) (s : Opening) (c : Bool) (k : ℕ) (w : List Frame) (x 
   released_by : (why : Release) → x.line.deed ≡ no_deed → line.deed.payload ≡ None → line.deed.released ≡ Some why → Busy s c k w x (f ∷ fs) y → State s c k w (ends why x_line) fs y
   released_by why quiet none e b =
       let r = below.received x.moment (found y.line f) x.line quiet in
-      let t = below.receives x.moment (found y.line f) x.line quiet in
+      let t = below.receives false x.moment (found y.line f) x.line quiet in
       let both = both_behind below s c k w x f fs y b in
       inr (
         why,
@@ -170,7 +170,7 @@ module _ (below : Below) (s : Opening) (c : Bool) (k : ℕ) (w : List Frame) (x 
   nothing_by : x.line.deed ≡ no_deed → line.deed.payload ≡ None → line.deed.up ≡ false → line.deed.released ≡ None → x.released ≡ None → Busy s c k w x (f ∷ fs) y → State s c k w x_line fs y
   nothing_by quiet none not_up unreleased live b =
       let r = below.received x.moment (found y.line f) x.line quiet in
-      let t = below.receives x.moment (found y.line f) x.line quiet in
+      let t = below.receives false x.moment (found y.line f) x.line quiet in
       inl (
         live,
         line_busy s c k w x (f ∷ fs) fs y line (both_behind below s c k w x f fs y b) r.handed (taken_same quiet none) (t.lives b.alive.awake unreleased)

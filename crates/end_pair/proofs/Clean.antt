@@ -36,7 +36,7 @@ pub received_went : Free → (s : Opening) (c : Bool) (k n : ℕ) (w : List Fram
 received_went free s c k n w x f fs y quiet live agree peer d m =
     let line : Station = behind s x f y in
     let z : Core = heard_core s x f y in
-    let m' = free.keep.received c k n w x.moment x.line f fs y.line d.beside.0 m in
+    let m' = free.keep.received false c k n w x.moment x.line f fs y.line d.beside.0 m in
     let told = (free.told x.moment x.line quiet).0 (found y.line f) in
     let none = none_told x.line line (is_down x.line.phase) line.deed.released told.down (free.keep.lives c (n + 1) w line fs y.line m') in
     let alive = received_good free.below s c k w x f fs y quiet live none agree peer d in

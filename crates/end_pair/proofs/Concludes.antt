@@ -174,7 +174,7 @@ pub finishes_heard : Below → (x y : Core) → heard (finishes model x) y ≡ h
 finishes_heard below x y = ap (λ (t : List (List ℕ)). take (length t) y.upper.transport.gave) (below.others 0 x.line).1.1
 
 pub finishes_beside : Below → (s : Opening) (c : Bool) (k : ℕ) (w : List Frame) (x : Core) (l : List Frame) (y : Core) → Beside s c k w x l y → Beside s c k w (finishes model x) l y
-finishes_beside below s c k w x l y b = (below.keep.finished k w x.line l y.line b.0, (below.others 0 x.line).1.0 ∙ b.1, b.2, b.3)
+finishes_beside below s c k w x l y b = (below.keep.finished false k w x.line l y.line b.0, (below.others 0 x.line).1.0 ∙ b.1, b.2, b.3)
 
 finished : Below → (s : Opening) (c : Bool) (k : ℕ) (w : List Frame) (x : Core) (l : List Frame) (y : Core) → Rested x → Busy s c k w x l y → Done s c k w (finishes model x) l y
 finished below s c k w x l y rested b =

@@ -151,11 +151,11 @@ quiet free s l g empty =
     let tr : Transport = r.upper.transport in
     let ne : h.fe ≡ [] = none_on_line e.line h.fe (sym empty.0 ∙ h.lined_e) in
     let nr : h.fr ≡ [] = none_on_line r.line h.fr (sym empty.1 ∙ h.lined_r) in
-    let p : Pair h.k [] e.line [] r.line =
-    subst (λ (t : List Frame). Pair h.k t e.line [] r.line) ne (subst (λ (t : List Frame). Pair h.k h.fe e.line t r.line) nr h.two.lines) in
+    let p : Pair false h.k [] e.line [] r.line =
+    subst (λ (t : List Frame). Pair false h.k t e.line [] r.line) ne (subst (λ (t : List Frame). Pair false h.k h.fe e.line t r.line) nr h.two.lines) in
     let q : Shape l.passes [] e.line [] r.line =
     subst (λ (t : List Frame). Shape l.passes t e.line [] r.line) ne (subst (λ (t : List Frame). Shape l.passes h.fe e.line t r.line) nr g.shape) in
-    let b = free.bounds.emptied h.k l.passes e.line r.line p q in
+    let b = free.bounds.emptied false h.k l.passes e.line r.line p q in
     let ve = h.two.own_e.lives g.live_e in
     let vr = h.two.own_r.lives g.live_r in
     let gave_e : 1 ≤ length te.gave = caller_gave te.stage te.due (heard e r) te.gave e.line.phase b.0 ve.rested.0 ve.alive.stages in

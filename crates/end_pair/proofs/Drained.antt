@@ -20,7 +20,7 @@ use Rattle.end_pair.proofs.Flowing.{Flows, send_flows, take_flows, Passed, e_pas
 pub few_flow : Free → (s : Opening) (l : Link) → Flows s l → (length l.from_e ≤ 254) × (length l.from_r ≤ 254)
 few_flow free s l g =
     let h = g.holds in
-    let few = free.bounds.waiting h.k l.passes h.fe l.e.core.line h.fr l.r.core.line h.two.lines g.shape in
+    let few = free.bounds.waiting false h.k l.passes h.fe l.e.core.line h.fr l.r.core.line h.two.lines g.shape in
     let e : length l.from_e ≡ length h.fe = ap length h.lined_e ∙ length-map h.fe _ in
     let r : length l.from_r ≡ length h.fr = ap length h.lined_r ∙ length-map h.fr _ in
     (omega (arith, few.0), omega (arith, few.1))

@@ -79,11 +79,11 @@ with_line x line = record x { line = line }
 pub heard_same : (x y : Core) (line : Station) → line.taken ≡ x.line.taken → heard (with_line x line) y ≡ heard x y
 heard_same x y line e = ap (λ (t : List (List ℕ)). take (length t) y.upper.transport.gave) e
 
-pub line_beside : (s : Opening) (c : Bool) (k : ℕ) (w : List Frame) (x : Core) (l l' : List Frame) (y : Core) (line : Station) → Both k w line l' y.line → line.handed ≡ x.line.handed
+pub line_beside : (s : Opening) (c : Bool) (k : ℕ) (w : List Frame) (x : Core) (l l' : List Frame) (y : Core) (line : Station) → Both false k w line l' y.line → line.handed ≡ x.line.handed
     → Beside s c k w x l y → Beside s c k w (with_line x line) l' y
 line_beside s c k w x l l' y line both e b = (both, e ∙ b.1, b.2, b.3)
 
-pub line_gone : (s : Opening) (c : Bool) (k : ℕ) (w : List Frame) (x : Core) (l l' : List Frame) (y : Core) (line : Station) → Both k w line l' y.line → line.handed ≡ x.line.handed → line.taken ≡ x.line.taken
+pub line_gone : (s : Opening) (c : Bool) (k : ℕ) (w : List Frame) (x : Core) (l l' : List Frame) (y : Core) (line : Station) → Both false k w line l' y.line → line.handed ≡ x.line.handed → line.taken ≡ x.line.taken
     → Gone s c k w x l y → Gone s c k w (with_line x line) l' y
 line_gone s c k w x l l' y line both e t g = record {
   beside = line_beside s c k w x l l' y line both e g.beside;
@@ -119,7 +119,7 @@ alive_phase s c x h line live st a = record {
   awake = live;
 }
 
-pub line_busy : (s : Opening) (c : Bool) (k : ℕ) (w : List Frame) (x : Core) (l l' : List Frame) (y : Core) (line : Station) → Both k w line l' y.line → line.handed ≡ x.line.handed → line.taken ≡ x.line.taken
+pub line_busy : (s : Opening) (c : Bool) (k : ℕ) (w : List Frame) (x : Core) (l l' : List Frame) (y : Core) (line : Station) → Both false k w line l' y.line → line.handed ≡ x.line.handed → line.taken ≡ x.line.taken
     → is_down line.phase ≡ false → Stages c x.upper.transport.stage x.upper.transport.due (heard x y) x.upper.transport.gave line.phase
     → Busy s c k w x l y → Busy s c k w (with_line x line) l' y
 line_busy s c k w x l l' y line both e t live st b =
@@ -176,8 +176,8 @@ module _ (below : Below) (s : Opening) (c : Bool) (k : ℕ) (w : List Frame) (x 
   abbrev pub behind_frame : Core
   behind_frame = with_line x line_behind
 
-  pub both_behind : Busy s c k w x (f ∷ fs) y → Both k w line_behind fs y.line
-  both_behind b = below.keep.received k w x.moment x.line f fs y.line b.beside.0
+  pub both_behind : Busy s c k w x (f ∷ fs) y → Both false k w line_behind fs y.line
+  both_behind b = below.keep.received false k w x.moment x.line f fs y.line b.beside.0
 
   -- a payload
   pub payload_by : (p : List ℕ) → x.line.deed ≡ no_deed → line_behind.deed.payload ≡ Some p → x.upper.transport.due ≡ None → x.released ≡ None → Busy s c k w x (f ∷ fs) y
@@ -185,7 +185,7 @@ module _ (below : Below) (s : Opening) (c : Bool) (k : ℕ) (w : List Frame) (x 
   payload_by p quiet told due live b =
       let line : Station = line_behind in
       let r = below.received x.moment (found y.line f) x.line quiet in
-      let t = below.receives x.moment (found y.line f) x.line quiet in
+      let t = below.receives false x.moment (found y.line f) x.line quiet in
       let was_up : is_up x.line.phase ≡ true = elim (cases_Bool (is_up x.line.phase)) [
         | inl up ↦ up
         | inr asleep ↦ absurd (let q : None ≡ Some p = sym (t.asleep asleep).0 ∙ told in let u : ⊥ = cc in u)

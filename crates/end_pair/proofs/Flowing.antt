@@ -46,10 +46,10 @@ r_flows free s l g x d went = record { holds = r_event free.below s l g.holds x 
 
 -- an event begins at e, at r
 e_midway : (free : Free) (s : Opening) (l : Link) (g : Flows s l) → Midway true l.passes g.holds.fe (settled l.e.core.line) g.holds.fr l.r.core.line
-e_midway free s l g = free.keep.calling_begins g.holds.k l.passes g.holds.fe l.e.core.line g.holds.fr l.r.core.line g.holds.two.lines g.shape
+e_midway free s l g = free.keep.calling_begins false g.holds.k l.passes g.holds.fe l.e.core.line g.holds.fr l.r.core.line g.holds.two.lines g.shape
 
 r_midway : (free : Free) (s : Opening) (l : Link) (g : Flows s l) → Midway false l.passes g.holds.fr (settled l.r.core.line) g.holds.fe l.e.core.line
-r_midway free s l g = free.keep.called_begins g.holds.k l.passes g.holds.fe l.e.core.line g.holds.fr l.r.core.line g.holds.two.lines g.shape
+r_midway free s l g = free.keep.called_begins false g.holds.k l.passes g.holds.fe l.e.core.line g.holds.fr l.r.core.line g.holds.two.lines g.shape
 
 -- the flags and the moment aren't read
 other_flows : (s : Opening) (l : Link) (moment : ℕ) (order_kept loss_free : Bool) → Flows s l → Flows s (record l { moment = moment; order_kept = order_kept; loss_free = loss_free })

@@ -48,7 +48,7 @@ use Rattle.end_pair.proofs.Calls.{link_by}
 
 frame_lost : Below → (s : Opening) (c : Bool) (k : ℕ) (w : List Frame) (x : Core) (f : Frame) (fs : List Frame) (y : Core) → Done s c k w x (f ∷ fs) y → Done s c k w x fs y
 frame_lost below s c k w x f fs y d =
-    record { beside = (below.keep.lost k (w ++ x.line.said) x.line f fs y.line d.beside.0, d.beside.1, d.beside.2, d.beside.3); own = d.own }
+    record { beside = (below.keep.lost false k (w ++ x.line.said) x.line f fs y.line d.beside.0, d.beside.1, d.beside.2, d.beside.3); own = d.own }
 
 frame_at : Below → (s : Opening) (c : Bool) (k : ℕ) (w : List Frame) (x : Core) (f : Frame) (fs : List Frame) (y : Core) (o : Option Release) → x.released ≡ o → x.line.deed ≡ no_deed
     → Done s c k w x (f ∷ fs) y
@@ -97,7 +97,7 @@ module _ (below : Below) (s : Opening) (c : Bool) (k : ℕ) (w : List Frame) (x 
   ticked_gone : x.line.deed ≡ no_deed → Busy s c k w x l y → Gone s c k w ticked_core l y
   ticked_gone quiet b =
       let p = (below.ticked x.moment x.line quiet).payloads in
-      line_gone s c k w x l l y ticked_line (below.keep.ticked k w x.moment x.line l y.line b.beside.0) p.0 p.1 (gone_of_busy s c k w x l y b)
+      line_gone s c k w x l l y ticked_line (below.keep.ticked false k w x.moment x.line l y.line b.beside.0) p.0 p.1 (gone_of_busy s c k w x l y b)
 
   ticked_stages : x.line.deed ≡ no_deed → ticked_line.deed.released ≡ None → Busy s c k w x l y
       → Stages c x.upper.transport.stage x.upper.transport.due (heard x y) x.upper.transport.gave ticked_line.phase
@@ -123,7 +123,7 @@ module _ (below : Below) (s : Opening) (c : Bool) (k : ℕ) (w : List Frame) (x 
   time_by : (o : Option Release) → ticked_line.deed.released ≡ o → x.line.deed ≡ no_deed → x.released ≡ None → x.upper.transport.due ≡ None → Busy s c k w x l y
       → State s c k w (time_at model o ticked_core) l y
   time_by (Some why) e quiet live due b =
-      let both = below.keep.ticked k w x.moment x.line l y.line b.beside.0 in
+      let both = below.keep.ticked false k w x.moment x.line l y.line b.beside.0 in
       inr (why, refl, ended_gone s c k w ticked_core l y why (λ a. told_reason why ticked_line (below.ticks.reason x.moment x.line quiet) e both.0.5) (ticked_gone quiet b))
   time_by None e quiet live due b =
       let p = (below.ticked x.moment x.line quiet).payloads in
@@ -132,7 +132,7 @@ module _ (below : Below) (s : Opening) (c : Bool) (k : ℕ) (w : List Frame) (x 
       (λ spent. spent_by quiet e due b)
       (λ early. inl (
         live,
-        line_busy s c k w x l l y ticked_line (below.keep.ticked k w x.moment x.line l y.line b.beside.0) p.0 p.1
+        line_busy s c k w x l l y ticked_line (below.keep.ticked false k w x.moment x.line l y.line b.beside.0) p.0 p.1
             (below.ticks.lives x.moment x.line quiet b.alive.awake e) (ticked_stages quiet e b) b,
       ))
 
@@ -229,7 +229,7 @@ started_keeps below s c k w x l y d =
     let o = (below.others x.moment x.line).0 in
     let up = below.phases.starts_up x.moment x.line in
     concludes_keeps below s c k w (with_line x line) l y live
-    (line_busy s c k w x l l y line (below.keep.started k w x.moment x.line l y.line b.beside.0) o.0 o.1 (below.phases.starts_down x.moment x.line ∙ b.alive.awake)
+    (line_busy s c k w x l l y line (below.keep.started false k w x.moment x.line l y.line b.beside.0) o.0 o.1 (below.phases.starts_down x.moment x.line ∙ b.alive.awake)
     (stages_phase c x.upper.transport.stage x.upper.transport.due (heard x y) x.upper.transport.gave x.line.phase line.phase (λ asleep. up ∙ asleep) (λ awake. up ∙ awake) b.alive.stages) b))
 
 -- ---- the user sends
@@ -326,7 +326,7 @@ sent_keeps below s c k w x l y user are e d =
 -- ---- two ends between events
 
 pub record Two (s : Opening) (k : ℕ) (fe : List Frame) (e : Core) (fr : List Frame) (r : Core) : Type 0 where
-  pub lines : Pair k fe e.line fr r.line
+  pub lines : Pair false k fe e.line fr r.line
   pub spelled_e : Spelled e
   pub spelled_r : Spelled r
   pub own_e : Own s true e (heard e r)
@@ -340,8 +340,8 @@ own_begins s c x h now o = record {
   lives = λ e. let v = o.lives e in record { alive = v.alive; trusting = v.trusting; rested = v.rested };
 }
 
-quiet_both : (k : ℕ) (w : List Frame) (x : Station) (l : List Frame) (y : Station) → Pair k w x l y → Both k w (settled x) l y
-quiet_both k w x l y h = subst (λ (t : List Frame). Pair k t (settled x) l y) (sym (append-nil w)) h
+quiet_both : (k : ℕ) (w : List Frame) (x : Station) (l : List Frame) (y : Station) → Pair false k w x l y → Both false k w (settled x) l y
+quiet_both k w x l y h = subst (λ (t : List Frame). Pair false k t (settled x) l y) (sym (append-nil w)) h
 
 pub e_begins : (s : Opening) (k : ℕ) (fe : List Frame) (e : Core) (fr : List Frame) (r : Core) (now : ℕ) → Two s k fe e fr r → Done s true k fe (begins_at model now e) fr r
 e_begins s k fe e fr r now t =
@@ -349,7 +349,7 @@ e_begins s k fe e fr r now t =
 
 pub r_begins : Below → (s : Opening) (k : ℕ) (fe : List Frame) (e : Core) (fr : List Frame) (r : Core) (now : ℕ) → Two s k fe e fr r → Done s false k fr (begins_at model now r) fe e
 r_begins below s k fe e fr r now t =
-    record { beside = (quiet_both k fr r.line fe e.line (below.keep.swapped k fe e.line fr r.line t.lines), t.spelled_r, t.spelled_e, t.own_e); own = own_begins s false r (heard r e) now t.own_r }
+    record { beside = (quiet_both k fr r.line fe e.line (below.keep.swapped false k fe e.line fr r.line t.lines), t.spelled_r, t.spelled_e, t.own_e); own = own_begins s false r (heard r e) now t.own_r }
 
 -- it ends
 pub e_ends : (s : Opening) (k : ℕ) (fe : List Frame) (e : Core) (fr : List Frame) (r : Core) → Done s true k fe e fr r → Two s k (fe ++ e.line.said) e fr r
@@ -357,4 +357,4 @@ e_ends s k fe e fr r d = record { lines = d.beside.0; spelled_e = d.beside.1; sp
 
 pub r_ends : Below → (s : Opening) (k : ℕ) (fe : List Frame) (e : Core) (fr : List Frame) (r : Core) → Done s false k fr r fe e → Two s k fe e (fr ++ r.line.said) r
 r_ends below s k fe e fr r d =
-    record { lines = below.keep.swapped k (fr ++ r.line.said) r.line fe e.line d.beside.0; spelled_e = d.beside.2; spelled_r = d.beside.1; own_e = d.beside.3; own_r = d.own }
+    record { lines = below.keep.swapped false k (fr ++ r.line.said) r.line fe e.line d.beside.0; spelled_e = d.beside.2; spelled_r = d.beside.1; own_e = d.beside.3; own_r = d.own }

@@ -122,7 +122,7 @@ shut_gone : Below → (s : Opening) (c : Bool) (k : ℕ) (w : List Frame) (x : C
 shut_gone below s c k w x l y b =
     let o = (below.others 0 x.line).2 in
     record {
-      beside = (below.keep.closed k w x.line l y.line b.beside.0, o.0 ∙ b.beside.1, b.beside.2, b.beside.3);
+      beside = (below.keep.closed false k w x.line l y.line b.beside.0, o.0 ∙ b.beside.1, b.beside.2, b.beside.3);
       always = subst (λ (t : List (List ℕ)). AlwaysOf s c (shuts model x) (take (length t) y.upper.transport.gave)) (sym o.1) b.always;
       told = b.told;
     }

@@ -44,7 +44,7 @@ gives_beside below s c k w x l y g u fits live e b =
     let short : length (block g) ≤ 1026 = omega (arith, below.short (pdu_given g) fits) in
     let handed : (hands x.moment (block g) x.line).handed ≡ x.line.handed ++ block g ∷ [] =
     elim h.0 [ inl down ↦ absurd (true≢false (sym down ∙ live)) | inr more ↦ more ] in (
-      below.keep.handed k w x.moment x.line l y.line (block g) short b.0,
+      below.keep.handed false k w x.moment x.line l y.line (block g) short b.0,
       handed ∙ ap (λ (t : List (List ℕ)). t ++ block g ∷ []) b.1 ∙ sym (ap (map block) e ∙ map-append block x.upper.transport.gave (g ∷ [])),
       b.2,
       subst (λ (t : List Given). Own s (not c) y (take (length y.line.taken) t)) (sym e)

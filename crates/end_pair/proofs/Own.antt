@@ -192,7 +192,7 @@ abbrev pub Spelled : Core → Type 0
 Spelled x = x.line.handed ≡ map block x.upper.transport.gave
 
 abbrev pub Beside : Opening → Bool → ℕ → List Frame → Core → List Frame → Core → Type 0
-Beside s c k w x l y = Both k w x.line l y.line × Spelled x × Spelled y × Own s (not c) y (heard y x)
+Beside s c k w x l y = Both false k w x.line l y.line × Spelled x × Spelled y × Own s (not c) y (heard y x)
 
 -- x is live and at work
 pub record Busy (s : Opening) (c : Bool) (k : ℕ) (w : List Frame) (x : Core) (l : List Frame) (y : Core) : Type 0 where

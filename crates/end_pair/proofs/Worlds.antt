@@ -43,14 +43,14 @@ same_calling : (b c d : Bool) → b ≡ not c → d ≡ not c → d ≡ b
 same_calling b c d h g = g ∙ sym h
 
 -- the octets of frames are the same from the station before a call and behind it
-same_octets : (k k' : ℕ) (lx lx' : List Frame) (x x' : Station) (ly ly' : List Frame) (y : Station) (fs : List Frame) → Pair k lx x ly y → Pair k' lx' x' ly' y
+same_octets : (k k' : ℕ) (lx lx' : List Frame) (x x' : Station) (ly ly' : List Frame) (y : Station) (fs : List Frame) → Pair false k lx x ly y → Pair false k' lx' x' ly' y
     → map (octets_from x) fs ≡ map (octets_from x') fs
 same_octets k k' lx lx' x x' ly ly' y fs h g =
     let c : x.calling ≡ x'.calling = h.2 ∙ sym g.2 in
     let e : x.extended ≡ x'.extended = h.3 ∙ sym g.3 in
     ap (λ (b : Bool). map (sent_octets b x.extended) fs) c ∙ ap (λ (b : Bool). map (sent_octets x'.calling b) fs) e
 
-pub lined_more : (k k' : ℕ) (lx lx' : List Frame) (x x' : Station) (ly ly' : List Frame) (y : Station) (fs : List Frame) (line : List (List ℕ)) → Pair k lx x ly y → Pair k' lx' x' ly' y
+pub lined_more : (k k' : ℕ) (lx lx' : List Frame) (x x' : Station) (ly ly' : List Frame) (y : Station) (fs : List Frame) (line : List (List ℕ)) → Pair false k lx x ly y → Pair false k' lx' x' ly' y
     → line ≡ map (octets_from x) fs → line ++ said_octets x' ≡ map (octets_from x') (fs ++ x'.said)
 lined_more k k' lx lx' x x' ly ly' y fs line h g e =
     ap (λ (t : List (List ℕ)). t ++ said_octets x') (e ∙ same_octets k k' lx lx' x x' ly ly' y fs h g) ∙ sym (map-append (octets_from x') fs x'.said)
@@ -80,7 +80,7 @@ r_did below s l h fe line_e stream x lined flag d = record {
   two = r_ends below s h.k fe l.e.core h.fr x d;
   lined_e = lined;
   lined_r = lined_more h.k h.k h.fr (h.fr ++ x.line.said) l.r.core.line x.line h.fe fe l.e.core.line h.fr l.from_r
-      (below.keep.swapped h.k h.fe l.e.core.line h.fr l.r.core.line h.two.lines) d.beside.0 h.lined_r;
+      (below.keep.swapped false h.k h.fe l.e.core.line h.fr l.r.core.line h.two.lines) d.beside.0 h.lined_r;
   flag_e = h.flag_e;
   flag_r = flag;
 }
@@ -186,13 +186,13 @@ e_behind s l f = comes model s.finder l.moment (found l.r.core.line f) (begins_a
 pub r_news : Below → (s : Opening) (l : Link) (h : Holds s l) (octets : List ℕ) (rest : List (List ℕ)) (f : First l.e.core.line octets rest h.fe)
     → news l.r.stream (octets_from l.e.core.line f.frame) ≡ found l.e.core.line f.frame ∷ []
 r_news below s l h octets rest f =
-    below.keep.one_frame h.k h.fr l.r.core.line f.frame f.frames l.e.core.line l.r.stream h.flag_r
-    (subst (λ (t : List Frame). Pair h.k h.fr l.r.core.line t l.e.core.line) f.all (below.keep.swapped h.k h.fe l.e.core.line h.fr l.r.core.line h.two.lines))
+    below.keep.one_frame false h.k h.fr l.r.core.line f.frame f.frames l.e.core.line l.r.stream h.flag_r
+    (subst (λ (t : List Frame). Pair false h.k h.fr l.r.core.line t l.e.core.line) f.all (below.keep.swapped false h.k h.fe l.e.core.line h.fr l.r.core.line h.two.lines))
 
 pub e_news : Below → (s : Opening) (l : Link) (h : Holds s l) (octets : List ℕ) (rest : List (List ℕ)) (f : First l.r.core.line octets rest h.fr)
     → news l.e.stream (octets_from l.r.core.line f.frame) ≡ found l.r.core.line f.frame ∷ []
 e_news below s l h octets rest f =
-    below.keep.one_frame h.k h.fe l.e.core.line f.frame f.frames l.r.core.line l.e.stream h.flag_e (subst (λ (t : List Frame). Pair h.k h.fe l.e.core.line t l.r.core.line) f.all h.two.lines)
+    below.keep.one_frame false h.k h.fe l.e.core.line f.frame f.frames l.r.core.line l.e.stream h.flag_e (subst (λ (t : List Frame). Pair false h.k h.fe l.e.core.line t l.r.core.line) f.all h.two.lines)
 
 -- the link behind it
 abbrev r_reads : Opening → Link → List (List ℕ) → ℕ → List ℕ → List Verdict → Link
@@ -286,16 +286,16 @@ pass_holds below s R l h = r_passed below s l l.from_r refl h
 -- ---- a frame is lost or repeated
 
 -- the lines changed, and the ends didn't
-two_lines : (s : Opening) (k : ℕ) (fe fr fe' fr' : List Frame) (e r : Core) → Pair k fe' e.line fr' r.line → Two s k fe e fr r → Two s k fe' e fr' r
+two_lines : (s : Opening) (k : ℕ) (fe fr fe' fr' : List Frame) (e r : Core) → Pair false k fe' e.line fr' r.line → Two s k fe e fr r → Two s k fe' e fr' r
 two_lines s k fe fr fe' fr' e r p t = record { lines = p; spelled_e = t.spelled_e; spelled_r = t.spelled_r; own_e = t.own_e; own_r = t.own_r }
 
 e_changed : Below → (s : Opening) (l : Link) (h : Holds s l) (fe : List Frame) (line : List (List ℕ)) → line ≡ map (octets_from l.e.core.line) fe
-    → Pair h.k h.fr l.r.core.line fe l.e.core.line → Holds s (record l { from_e = line })
+    → Pair false h.k h.fr l.r.core.line fe l.e.core.line → Holds s (record l { from_e = line })
 e_changed below s l h fe line lined p = record {
   k = h.k;
   fe = fe;
   fr = h.fr;
-  two = two_lines s h.k h.fe h.fr fe h.fr l.e.core l.r.core (below.keep.swapped h.k h.fr l.r.core.line fe l.e.core.line p) h.two;
+  two = two_lines s h.k h.fe h.fr fe h.fr l.e.core l.r.core (below.keep.swapped false h.k h.fr l.r.core.line fe l.e.core.line p) h.two;
   lined_e = lined;
   lined_r = h.lined_r;
   flag_e = h.flag_e;
@@ -303,7 +303,7 @@ e_changed below s l h fe line lined p = record {
 }
 
 r_changed : (s : Opening) (l : Link) (h : Holds s l) (fr : List Frame) (line : List (List ℕ)) → line ≡ map (octets_from l.r.core.line) fr
-    → Pair h.k h.fe l.e.core.line fr l.r.core.line → Holds s (record l { from_r = line })
+    → Pair false h.k h.fe l.e.core.line fr l.r.core.line → Holds s (record l { from_r = line })
 r_changed s l h fr line lined p = record {
   k = h.k;
   fe = h.fe;
@@ -317,27 +317,27 @@ r_changed s l h fr line lined p = record {
 
 -- the frames of e, as r sees them
 e_first_pair : Below → (s : Opening) (l : Link) (h : Holds s l) (octets : List ℕ) (rest : List (List ℕ)) (f : First l.e.core.line octets rest h.fe)
-    → Pair h.k h.fr l.r.core.line (f.frame ∷ f.frames) l.e.core.line
+    → Pair false h.k h.fr l.r.core.line (f.frame ∷ f.frames) l.e.core.line
 e_first_pair below s l h octets rest f =
-    subst (λ (t : List Frame). Pair h.k h.fr l.r.core.line t l.e.core.line) f.all (below.keep.swapped h.k h.fe l.e.core.line h.fr l.r.core.line h.two.lines)
+    subst (λ (t : List Frame). Pair false h.k h.fr l.r.core.line t l.e.core.line) f.all (below.keep.swapped false h.k h.fe l.e.core.line h.fr l.r.core.line h.two.lines)
 
 r_first_pair : (s : Opening) (l : Link) (h : Holds s l) (octets : List ℕ) (rest : List (List ℕ)) (f : First l.r.core.line octets rest h.fr)
-    → Pair h.k h.fe l.e.core.line (f.frame ∷ f.frames) l.r.core.line
-r_first_pair s l h octets rest f = subst (λ (t : List Frame). Pair h.k h.fe l.e.core.line t l.r.core.line) f.all h.two.lines
+    → Pair false h.k h.fe l.e.core.line (f.frame ∷ f.frames) l.r.core.line
+r_first_pair s l h octets rest f = subst (λ (t : List Frame). Pair false h.k h.fe l.e.core.line t l.r.core.line) f.all h.two.lines
 
 e_lost : Below → (s : Opening) (l : Link) (line : List (List ℕ)) → l.from_e ≡ line → Holds s l → Holds s (lose E line l)
 e_lost below s l [] e h = h
 e_lost below s l (octets ∷ rest) e h =
     let f = first_of_line l.e.core.line octets rest h.fe (sym e ∙ h.lined_e) in
     other_parts s (record l { from_e = rest }) l.moment l.passes l.order_kept false
-    (e_changed below s l h f.frames rest f.rest_are (below.keep.lost h.k h.fr l.r.core.line f.frame f.frames l.e.core.line (e_first_pair below s l h octets rest f)))
+    (e_changed below s l h f.frames rest f.rest_are (below.keep.lost false h.k h.fr l.r.core.line f.frame f.frames l.e.core.line (e_first_pair below s l h octets rest f)))
 
 r_lost : Below → (s : Opening) (l : Link) (line : List (List ℕ)) → l.from_r ≡ line → Holds s l → Holds s (lose R line l)
 r_lost below s l [] e h = h
 r_lost below s l (octets ∷ rest) e h =
     let f = first_of_line l.r.core.line octets rest h.fr (sym e ∙ h.lined_r) in
     other_parts s (record l { from_r = rest }) l.moment l.passes l.order_kept false
-    (r_changed s l h f.frames rest f.rest_are (below.keep.lost h.k h.fe l.e.core.line f.frame f.frames l.r.core.line (r_first_pair s l h octets rest f)))
+    (r_changed s l h f.frames rest f.rest_are (below.keep.lost false h.k h.fe l.e.core.line f.frame f.frames l.r.core.line (r_first_pair s l h octets rest f)))
 
 e_repeated : Below → (s : Opening) (l : Link) (line : List (List ℕ)) → l.from_e ≡ line → Holds s l → Holds s (repeat E line l)
 e_repeated below s l [] e h = h
@@ -346,7 +346,7 @@ e_repeated below s l (octets ∷ rest) e h =
     other_parts s (record l { from_e = octets ∷ octets ∷ rest }) l.moment l.passes l.order_kept false
     (e_changed below s l h (f.frame ∷ f.frame ∷ f.frames) (octets ∷ octets ∷ rest)
     (ap (λ o. o ∷ o ∷ rest) f.octets_are ∙ ap (λ r. octets_from l.e.core.line f.frame ∷ octets_from l.e.core.line f.frame ∷ r) f.rest_are)
-    (below.keep.repeated h.k h.fr l.r.core.line f.frame f.frames l.e.core.line (e_first_pair below s l h octets rest f)))
+    (below.keep.repeated false h.k h.fr l.r.core.line f.frame f.frames l.e.core.line (e_first_pair below s l h octets rest f)))
 
 r_repeated : Below → (s : Opening) (l : Link) (line : List (List ℕ)) → l.from_r ≡ line → Holds s l → Holds s (repeat R line l)
 r_repeated below s l [] e h = h
@@ -355,7 +355,7 @@ r_repeated below s l (octets ∷ rest) e h =
     other_parts s (record l { from_r = octets ∷ octets ∷ rest }) l.moment l.passes l.order_kept false
     (r_changed s l h (f.frame ∷ f.frame ∷ f.frames) (octets ∷ octets ∷ rest)
     (ap (λ o. o ∷ o ∷ rest) f.octets_are ∙ ap (λ r. octets_from l.r.core.line f.frame ∷ octets_from l.r.core.line f.frame ∷ r) f.rest_are)
-    (below.keep.repeated h.k h.fe l.e.core.line f.frame f.frames l.r.core.line (r_first_pair s l h octets rest f)))
+    (below.keep.repeated false h.k h.fe l.e.core.line f.frame f.frames l.r.core.line (r_first_pair s l h octets rest f)))
 
 -- ---- a drain
 

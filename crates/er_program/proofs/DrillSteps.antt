@@ -25,12 +25,15 @@ use Rattle.er_program.specs.Answers.{Answer, AreDone, FirstFault, IsDrillAnswer,
 pub of_level : (l : Level) (s : Step) → has_level (levels_of (name_of s)) l ≡ true → IsOfLevel l s
 of_level level.Safe (does.Fixed n engine rbc ke kr) is = tt
 of_level level.Link (does.Fixed n engine rbc ke kr) is = absurd (cc)
+of_level level.LinkSr (does.Fixed n engine rbc ke kr) is = absurd (cc)
 of_level level.Full (does.Fixed n engine rbc ke kr) is = absurd (cc)
 of_level level.Safe (does.Link n engine rbc ke kr ra rb) is = tt
 of_level level.Link (does.Link n engine rbc ke kr ra rb) is = absurd (cc)
+of_level level.LinkSr (does.Link n engine rbc ke kr ra rb) is = absurd (cc)
 of_level level.Full (does.Link n engine rbc ke kr ra rb) is = tt
 of_level level.Safe (does.Wire n) is = absurd (cc)
 of_level level.Link (does.Wire n) is = tt
+of_level level.LinkSr (does.Wire n) is = tt
 of_level level.Full (does.Wire n) is = absurd (cc)
 of_level l (does.Send n s text) is = tt
 of_level l (does.Pass n s) is = tt
@@ -41,10 +44,12 @@ of_level l (does.Put n s text) is = tt
 of_level l (does.Copy n s m t) is = tt
 of_level level.Safe (does.Take n s) is = absurd (cc)
 of_level level.Link (does.Take n s) is = absurd (cc)
+of_level level.LinkSr (does.Take n s) is = absurd (cc)
 of_level level.Full (does.Take n s) is = tt
 of_level l (does.Release n s sub) is = tt
 of_level level.Safe (does.Tick moment) is = absurd (cc)
 of_level level.Link (does.Tick moment) is = tt
+of_level level.LinkSr (does.Tick moment) is = tt
 of_level level.Full (does.Tick moment) is = tt
 of_level l (does.Drain n most) is = tt
 

@@ -1,5 +1,5 @@
 -- What is claimed of the world holds at every moment of the steps that are done, by the laws of every list of steps.
-use Rattle.std.proofs.Common.{◌≡◌, ℕ, zero, suc, ◌+◌, inl, inr, List, [], ◌∷◌, ◌++◌, length, map, take, slice_index, Some, None, sym, subst, ap, ◌∙◌, arith}
+use Rattle.std.proofs.Common.{◌≡◌, ℕ, zero, suc, ◌+◌, inl, inr, List, [], ◌∷◌, ◌++◌, length, map, take, slice_index, Some, None, refl, sym, subst, ap, ◌∙◌, arith}
 use Rattle.std.proofs.lemmas.Bool.{cases_lt}
 use Rattle.std.proofs.lemmas.List.{get_or_past, take_all}
 use Rattle.std.proofs.lemmas.Option.{slice_get_cases}
@@ -10,17 +10,18 @@ use Rattle.er_scenario.specs.declared.step.Step.{Step}
 use Rattle.er_scenario.specs.declared.step.Step.TheVariants as does
 use Rattle.er_scenario.specs.declared.numbered.Numbered.{Numbered}
 use Rattle.er_scenario.specs.declared.scenario.Scenario.{Scenario}
+use Rattle.er_scenario.specs.Choices.{IsNarrow}
 use Rattle.er_scenario.specs.StepRanges.{IsInRange, IsText}
 use Rattle.er_scenario.specs.Texts.{AreReadable}
-use Rattle.er_settings.specs.declared.settings.Settings.{Settings}
 use Rattle.er_settings.specs.Ranges.{AllAllowed}
 use Rattle.drill_model.specs.Links.{LinkOpening, OfPair, OfStations, OfStacks, Link}
 use Rattle.drill_model.specs.Steps.{HasOctets, FitsFields, AllFit}
 use Rattle.drill_model.specs.Worlds.{Plan, plan_of, link_at, overfull_side, world_run}
-use Rattle.drill_model.specs.Headline.{LawfulAlways, OpensAlways, RoomAlways, FitsSettings, FitsSteps, TakesInOrder, Holds, InOrderAlways, LosingLineReasonsAlways, OrderIsUnforged, DeliversAlways}
+use Rattle.drill_model.specs.Headline.{LawfulAlways, OpensAlways, RoomAlways, FitsSteps, TakesInOrder, Holds, InOrderAlways, LosingLineReasonsAlways, OrderIsUnforged, DeliversAlways}
 use Rattle.drill_model.specs.Effects.{Steps}
 use Rattle.drill_model.specs.Hearing.{HeardIsBrought}
 use Rattle.er_program.specs.Answers.{AreDone, first_steps}
+use Rattle.er_program.proofs.SettingsFit.{settings_fit}
 use Rattle.er_program.proofs.DrillSteps.{etcs_numbers, first_more, all_steps}
 use Rattle.er_program.proofs.RunMeanings.{AlwaysHolds}
 use Rattle.er_program.specs.BulkTexts.{bulk_plan, steps_of_bulk, AllDone}
@@ -77,16 +78,10 @@ room law s (suc k) done n l at =
           room law s k (λ j x lt next. done j x (omega (arith, lt)) next) n l (subst At is at)
     ]
 
--- the settings of a file are in their ranges
-fits : (settings : Settings) (opening : LinkOpening) → AllAllowed settings → FitsSettings settings opening
-fits settings (OfPair opening) allowed = tt
-fits settings OfStations allowed = allowed
-fits settings (OfStacks engine rbc ke kr ra rb) allowed = allowed
-
--- and so are its steps
+-- the steps of a file are in their ranges
 steps_fit : (steps : List Step) (opening : LinkOpening) → AllFit steps → FitsSteps steps opening
 steps_fit steps (OfPair opening) all = tt
-steps_fit steps OfStations all = tt
+steps_fit steps (OfStations selective) all = tt
 steps_fit steps (OfStacks engine rbc ke kr ra rb) all = all
 
 abbrev StepsAlways : Type 0
@@ -130,24 +125,24 @@ laws_of opens room steps lawful heard takes in_order reasons unforged delivers =
 }
 
 -- what is claimed of a world behind steps, where no link is overfull
-holds_behind : Laws → (plan : Plan) (steps : List Step) → AllAllowed plan.settings → AllFit steps
+holds_behind : Laws → (plan : Plan) (steps : List Step) → AllAllowed plan.settings → IsNarrow plan.level plan.settings → AllFit steps
     → ((n : ℕ) (l : Link) → link_at (world_run plan steps).0 n ≡ Some l → overfull_side l ≡ None) → Holds plan steps
-holds_behind laws plan steps allowed all room = record {
+holds_behind laws plan steps allowed narrow all room = record {
   opens = laws.opens plan steps;
   steps = laws.steps plan steps;
   lawful = laws.lawful plan steps;
   heard = laws.heard plan steps;
   takes = laws.takes plan steps;
-  in_order = λ n l at. laws.in_order plan steps n l at (fits plan.settings l.opening allowed) (steps_fit steps l.opening all);
-  reasons = λ n l at. laws.reasons plan steps n l at (fits plan.settings l.opening allowed) (steps_fit steps l.opening all);
+  in_order = λ n l at. laws.in_order plan steps n l at (settings_fit laws.opens plan steps allowed narrow n l at) (steps_fit steps l.opening all);
+  reasons = λ n l at. laws.reasons plan steps n l at (settings_fit laws.opens plan steps allowed narrow n l at) (steps_fit steps l.opening all);
   unforged = laws.unforged plan steps all allowed;
-  delivers = λ n l at. laws.delivers plan steps all n l at (fits plan.settings l.opening allowed);
+  delivers = λ n l at. laws.delivers plan steps all n l at (settings_fit laws.opens plan steps allowed narrow n l at);
   room = room;
 }
 
 pub holds_always : Laws → AlwaysHolds
 holds_always laws s readable count done k le =
-    holds_behind laws (plan_of s) (first_steps s k) readable.settings (first_fit s.level s.steps k readable.steps)
+    holds_behind laws (plan_of s) (first_steps s k) readable.settings readable.narrow (first_fit s.level s.steps k readable.steps)
     (room laws.room s k (λ j x lt is. done j x (omega (arith, lt, le)) is))
 
 -- ---- a bulk run
@@ -170,5 +165,5 @@ bulk_room law steps (suc k) done n l at =
 
 pub bulk_holds : Laws → BulkHolds
 bulk_holds laws seed count most done k le =
-    holds_behind laws bulk_plan (take k (steps_of_bulk seed count)) usual_allowed (first_steps_fit seed count k)
+    holds_behind laws bulk_plan (take k (steps_of_bulk seed count)) usual_allowed refl (first_steps_fit seed count k)
     (bulk_room laws.room (steps_of_bulk seed count) k (λ j s lt is. done j s (omega (arith, lt, le)) is))

@@ -4,6 +4,7 @@ pub mod DrillSteps
 pub mod DrillRuns
 pub mod RunEndings
 pub mod RunMeanings
+pub mod SettingsFit
 pub mod HoldsAlways
 pub mod BitRuns
 pub mod BitMeanings

@@ -5,7 +5,7 @@ use Rattle.er_base.specs.LineTexts.{IsLine, AreLines, lines_text, rows_from}
 use Rattle.er_base.specs.Lines.{lines_of, rows_of}
 use Rattle.er_settings.specs.Laws.{AllowedAreBounded}
 use Rattle.er_scenario.specs.declared.level.Level.{Level}
-use Rattle.er_scenario.specs.declared.level.Level.TheVariants.{Safe, Link, Full}
+use Rattle.er_scenario.specs.declared.level.Level.TheVariants.{Safe, Link, Full, LinkSr}
 use Rattle.er_scenario.specs.declared.scenario.Scenario.{Scenario}
 use Rattle.er_scenario.specs.declared.choices.Choices.{Choices}
 use Rattle.er_scenario.specs.Table.{level_word, level_named}
@@ -20,12 +20,14 @@ header_line : (level : Level) → IsLine (header_words level)
 header_line Safe = (solid_codes (codes "drill") refl refl, (solid_codes (codes "1") refl refl, (solid_codes (codes "safe") refl refl, tt)))
 header_line Link = (solid_codes (codes "drill") refl refl, (solid_codes (codes "1") refl refl, (solid_codes (codes "link") refl refl, tt)))
 header_line Full = (solid_codes (codes "drill") refl refl, (solid_codes (codes "1") refl refl, (solid_codes (codes "full") refl refl, tt)))
+header_line LinkSr = (solid_codes (codes "drill") refl refl, (solid_codes (codes "1") refl refl, (solid_codes (codes "link-sr") refl refl, tt)))
 
 -- the word of a level names it
 level_is_read : (level : Level) → level_named (level_word level) ≡ Some level
 level_is_read Safe = refl
 level_is_read Link = refl
 level_is_read Full = refl
+level_is_read LinkSr = refl
 
 -- a text that isn't too long
 short : (text : List ℕ) → length text ≤ 16777216 → scenario_of text ≡ scenario_in (rows_of 0 (lines_of text))
@@ -39,16 +41,16 @@ again scenario =
       level = scenario.level;
       settings = scenario.settings;
       show = scenario.show;
-      steps = done_from (before_steps scenario.settings scenario.show) scenario.steps;
+      steps = done_from (before_steps scenario.level scenario.settings scenario.show) scenario.steps;
     }
 
 lines_read : (laws : Laws) (bounded : AllowedAreBounded) (scenario : Scenario) → CanBeRead scenario
     → scenario_in (rows_from 0 (words_printed scenario)) ≡ Ok (again scenario)
 lines_read laws bounded scenario h =
-    let n : ℕ = before_steps scenario.settings scenario.show in
+    let n : ℕ = before_steps scenario.level scenario.settings scenario.show in
     let c : Choices = record { settings = scenario.settings; show = scenario.show } in
     let fits = small scenario.settings h.settings (bounded scenario.settings h.settings) in
-    rw (level_is_read scenario.level, choices_read laws scenario.level scenario.settings scenario.show (step_lines scenario.steps) h.settings fits, steps_read laws scenario.level false c n scenario.steps h.steps)
+    rw (level_is_read scenario.level, choices_read laws scenario.level scenario.settings scenario.show (step_lines scenario.steps) h.settings h.narrow fits, steps_read laws scenario.level false c n scenario.steps h.steps)
     refl
 
 all_lines : (laws : Laws) (bounded : AllowedAreBounded) (scenario : Scenario) → CanBeRead scenario
@@ -56,7 +58,7 @@ all_lines : (laws : Laws) (bounded : AllowedAreBounded) (scenario : Scenario) �
 all_lines laws bounded scenario h = (
   header_line scenario.level,
   lines_append _ _
-      (choices_are_lines laws scenario.settings scenario.show (small scenario.settings h.settings (bounded scenario.settings h.settings)))
+      (choices_are_lines laws scenario.level scenario.settings scenario.show (small scenario.settings h.settings (bounded scenario.settings h.settings)))
       (steps_are_lines laws scenario.level scenario.steps h.steps),
 )
 
@@ -74,5 +76,5 @@ printed_is_read laws bounded scenario h fits =
       again = again scenario;
       read = text_read laws bounded scenario h fits;
       same =
-          record { level = refl; settings = refl; show = refl; steps = same_steps (before_steps scenario.settings scenario.show) scenario.steps };
+          record { level = refl; settings = refl; show = refl; steps = same_steps (before_steps scenario.level scenario.settings scenario.show) scenario.steps };
     }

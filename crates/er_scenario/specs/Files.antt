@@ -56,15 +56,15 @@ table level late =
     }
 
 -- what a line's arguments mean: new choices, or a step
-abbrev pub line_means : Choices → (line : Line) → Values Meaning (line_kinds line) → Result Said Why
-line_means choices SetLine (name, (value, end)) = chosen_by choices name value >>= λ new. Ok (Chooses new)
-line_means choices (StepLine name) values = Ok (Does (step_made name values))
+abbrev pub line_means : Level → Choices → (line : Line) → Values Meaning (line_kinds line) → Result Said Why
+line_means level choices SetLine (name, (value, end)) = chosen_by level choices name value >>= λ new. Ok (Chooses new)
+line_means level choices (StepLine name) values = Ok (Does (step_made name values))
 
 -- what a line says, or its first fault
 unfoldable pub line_says : Level → Bool → Choices → List (List ℕ) → Result Said Why
 line_says level late choices [] = Err Word
 line_says level late choices (name ∷ words) =
-    line_read (table level late) name words >>= λ read. line_means choices read.0 read.1
+    line_read (table level late) name words >>= λ read. line_means level choices read.0 read.1
 
 -- what the lines behind the header say: the choices in the end, and the steps
 pub record Body : Type 0 where
@@ -107,7 +107,7 @@ level_of (drill ∷ version ∷ level ∷ word ∷ words) = None
 -- the header, then the lines behind it
 abbrev pub behind_header : ℕ → Option Level → List Row → Result Scenario TextFault
 behind_header number None rows = Err (At number Header)
-behind_header number (Some level) rows = scenario_from level (body_of level false default_choices rows)
+behind_header number (Some level) rows = scenario_from level (body_of level false (default_choices level) rows)
 
 -- the first line that isn't skipped is the header; a file without such a line is faulty at line 1
 abbrev pub scenario_in : List Row → Result Scenario TextFault

@@ -6,3 +6,4 @@ pub mod Answers
 pub mod Texts
 pub mod Laws
 pub mod Readings
+pub mod KnownAnswers

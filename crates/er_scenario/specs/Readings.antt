@@ -14,6 +14,7 @@ use Rattle.er_scenario.specs.declared.said.Said.{Said}
 use Rattle.er_scenario.specs.declared.said.Said.TheVariants.{Chooses, Does}
 use Rattle.er_scenario.specs.declared.level.Level.{Level}
 use Rattle.er_scenario.specs.StepRanges.{IsInRange}
+use Rattle.er_scenario.specs.Choices.{IsNarrow}
 use Rattle.er_scenario.specs.Texts.{IsReadable, name_of}
 use Rattle.er_scenario.specs.Table.{argument_of, kinds_of, step_made}
 
@@ -28,7 +29,7 @@ fault_at number (line.NoMemory want) = text.NoMemory want
 
 -- what a line says is in its range, and a step is one of the level whose line is read
 abbrev pub IsWellSaid : Level → Said → Type 0
-IsWellSaid level (Chooses choices) = AllAllowed choices.settings
+IsWellSaid level (Chooses choices) = AllAllowed choices.settings × IsNarrow level choices.settings
 IsWellSaid level (Does step) = IsReadable level step
 
 -- a step that a line of this name says

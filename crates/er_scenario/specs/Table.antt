@@ -22,10 +22,11 @@ abbrev pub level_word : Level → List ℕ
 level_word level.Safe = codes "safe"
 level_word level.Link = codes "link"
 level_word level.Full = codes "full"
+level_word level.LinkSr = codes "link-sr"
 
 -- all levels
 abbrev pub all_levels : List Level
-all_levels = level.Safe ∷ level.Link ∷ level.Full ∷ []
+all_levels = level.Safe ∷ level.Link ∷ level.Full ∷ level.LinkSr ∷ []
 
 -- the level that a word names, where it names one
 abbrev pub level_named : List ℕ → Option Level
@@ -104,7 +105,7 @@ kinds_of Release = link_number ∷ End ∷ sub_reason ∷ []
 kinds_of Tick = moment ∷ []
 kinds_of Drain = link_number ∷ most_passes ∷ []
 
--- whether a line is one of level safe, of level link and of level full
+-- whether a line is one of level safe, of level link and of level full; level link-sr has the lines of level link
 pub record Levels : Type 0 where
   pub safe : Bool
   pub link : Bool
@@ -134,6 +135,7 @@ abbrev pub has_level : Levels → Level → Bool
 has_level at level.Safe = at.safe
 has_level at level.Link = at.link
 has_level at level.Full = at.full
+has_level at level.LinkSr = at.link
 
 -- what an argument of a kind means
 abbrev pub Meaning : Kind → Type 0

@@ -10,7 +10,7 @@ use Rattle.des_block.specs.declared.triple_key.TripleKey.{TripleKey}
 use Rattle.er_settings.specs.declared.settings.Settings.{Settings}
 use Rattle.er_settings.specs.declared.setting_name.SettingName.TheVariants.{Window, Credit, Size, T1, N2, Setup}
 use Rattle.er_settings.specs.Names.{setting_word}
-use Rattle.er_settings.specs.Ranges.{AllAllowed, usual_settings}
+use Rattle.er_settings.specs.Ranges.{AllAllowed}
 use Rattle.er_scenario.specs.declared.level.Level.{Level}
 use Rattle.er_scenario.specs.declared.step.Step.{Step}
 use Rattle.er_scenario.specs.declared.step.Step.TheVariants.{Fixed, Link, Wire, Send, Pass, Lose, Repeat, Alter, Put, Copy, Take, Release, Tick, Drain}
@@ -20,6 +20,7 @@ use Rattle.er_scenario.specs.declared.numbered.Numbered.{Numbered}
 use Rattle.er_scenario.specs.declared.scenario.Scenario.{Scenario}
 use Rattle.er_scenario.specs.StepRanges.{IsInRange}
 use Rattle.er_scenario.specs.Table.{level_word, step_word, levels_of, has_level}
+use Rattle.er_scenario.specs.Choices.{IsNarrow, default_settings}
 
 -- KEY
 unfoldable pub key_word : TripleKey → List ℕ
@@ -81,15 +82,15 @@ abbrev pub show_lines : Bool → List (List (List ℕ))
 show_lines show = if show then (codes "set" ∷ codes "show" ∷ codes "1" ∷ []) ∷ [] else []
 
 -- the `set` lines, in the order of the names
-abbrev pub choice_lines : Settings → Bool → List (List (List ℕ))
-choice_lines settings show =
-    set_lines (codes "modulo") usual_settings.modulo settings.modulo
-    ++ set_lines (setting_word Window) usual_settings.window settings.window
-    ++ set_lines (setting_word Credit) usual_settings.credit settings.credit
-    ++ set_lines (setting_word Size) usual_settings.size settings.size
-    ++ set_lines (setting_word T1) usual_settings.t1 settings.t1
-    ++ set_lines (setting_word N2) usual_settings.n2 settings.n2
-    ++ set_lines (setting_word Setup) usual_settings.setup settings.setup
+abbrev pub choice_lines : Level → Settings → Bool → List (List (List ℕ))
+choice_lines level settings show =
+    set_lines (codes "modulo") (default_settings level).modulo settings.modulo
+    ++ set_lines (setting_word Window) (default_settings level).window settings.window
+    ++ set_lines (setting_word Credit) (default_settings level).credit settings.credit
+    ++ set_lines (setting_word Size) (default_settings level).size settings.size
+    ++ set_lines (setting_word T1) (default_settings level).t1 settings.t1
+    ++ set_lines (setting_word N2) (default_settings level).n2 settings.n2
+    ++ set_lines (setting_word Setup) (default_settings level).setup settings.setup
     ++ show_lines show
 
 -- the steps' lines
@@ -100,7 +101,7 @@ step_lines (numbered ∷ steps) = step_words numbered.step ∷ step_lines steps
 -- all lines of a scenario, as their words
 abbrev pub words_printed : Scenario → List (List (List ℕ))
 words_printed scenario =
-    header_words scenario.level ∷ (choice_lines scenario.settings scenario.show ++ step_lines scenario.steps)
+    header_words scenario.level ∷ (choice_lines scenario.level scenario.settings scenario.show ++ step_lines scenario.steps)
 
 -- the text of a scenario
 unfoldable pub text_printed : Scenario → List ℕ
@@ -119,6 +120,7 @@ AreReadable level (numbered ∷ steps) = IsReadable level numbered.step × AreRe
 -- a scenario that `read` can answer, line numbers aside
 pub record CanBeRead (scenario : Scenario) : Type 0 where
   pub settings : AllAllowed scenario.settings
+  pub narrow : IsNarrow scenario.level scenario.settings
   pub steps : AreReadable scenario.level scenario.steps
 
 -- two scenarios that differ in line numbers alone

@@ -2,8 +2,9 @@
 
 ghost use Rattle.std.specs.Prelude.{◌≡◌, true, IfOk};
 ghost use Rattle.er_settings.specs.Ranges.{AllAllowed};
-ghost use Rattle.er_scenario.specs.Choices.{choice_named, may_choose, with_setting, with_choice, chosen_by, default_choices};
+ghost use Rattle.er_scenario.specs.Choices.{choice_named, may_choose, IsNarrow, with_setting, with_choice, chosen_by, default_settings, default_choices};
 
+use crate::level::Level;
 use er_base::{Why, decimal};
 use er_settings::{SettingName, Settings};
 
@@ -56,13 +57,27 @@ impl ChoiceName {
     }
 }
 
-/// What holds where no line chooses.
-pub fn defaults() -> Choices
-    ensures value { result ≡ default_choices }
+/// The settings at a level where no line chooses: with selective reject the window is 4.
+pub fn default_settings(level: Level) -> Settings
+    ensures value { result ≡ default_settings level }
+    ensures allowed { AllAllowed result }
+    ensures narrow { IsNarrow level result }
+{
+    let usual = Settings::usual();
+    match level {
+        Level::LinkSr => Settings { window: 4, ..usual },
+        Level::Safe | Level::Link | Level::Full => usual,
+    }
+}
+
+/// What holds at a level where no line chooses.
+pub fn defaults(level: Level) -> Choices
+    ensures value { result ≡ default_choices level }
     ensures allowed { AllAllowed result.settings }
+    ensures narrow { IsNarrow level result.settings }
 {
     Choices {
-        settings: Settings::usual(),
+        settings: default_settings(level),
         show: false,
     }
 }
@@ -103,24 +118,15 @@ fn changed(settings: &Settings, name: SettingName, value: u64) -> Settings
     }
 }
 
-/// The choices after one more `set` line, from its NAME and VALUE.
-#[tactic(auto, unfolding(crate::specs::Choices::chosen_by))]
-pub fn choose(choices: &Choices, name: &[u8], value: &[u8]) -> Result<Choices, Why>
-    requires { AllAllowed choices.now.settings }
-    ensures value { result ≡ chosen_by choices.now name.now value.now }
-    ensures allowed { IfOk result (λ made. AllAllowed made.settings) }
+// The choices with one changed.
+fn with(choices: &Choices, name: ChoiceName, value: u64) -> Choices
+    requires allowed { AllAllowed choices.now.settings }
+    requires may { may_choose choices.now.settings name value ≡ true }
+    ensures value { result ≡ with_choice choices.now name value }
+    ensures allowed { AllAllowed result.settings }
 {
-    let Some(name) = ChoiceName::named(name) else {
-        return Err(Why::Value);
-    };
-    let Some(value) = decimal(value) else {
-        return Err(Why::Number);
-    };
-    if !name.allows(&choices.settings, value) {
-        return Err(Why::Value);
-    }
     let Choices { settings, show } = *choices;
-    Ok(match name {
+    match name {
         ChoiceName::Modulo => Choices {
             settings: Settings {
                 modulo: value as u8,
@@ -136,5 +142,29 @@ pub fn choose(choices: &Choices, name: &[u8], value: &[u8]) -> Result<Choices, W
             settings,
             show: value == 1,
         },
-    })
+    }
+}
+
+/// The choices at a level after one more `set` line, from its NAME and VALUE.
+#[tactic(auto, unfolding(crate::specs::Choices::chosen_by))]
+pub fn choose(level: Level, choices: &Choices, name: &[u8], value: &[u8]) -> Result<Choices, Why>
+    requires { AllAllowed choices.now.settings }
+    ensures value { result ≡ chosen_by level choices.now name.now value.now }
+    ensures allowed { IfOk result (λ made. AllAllowed made.settings) }
+    ensures narrow { IfOk result (λ made. IsNarrow level made.settings) }
+{
+    let Some(name) = ChoiceName::named(name) else {
+        return Err(Why::Value);
+    };
+    let Some(value) = decimal(value) else {
+        return Err(Why::Number);
+    };
+    if !name.allows(&choices.settings, value) {
+        return Err(Why::Value);
+    }
+    let made = with(choices, name, value);
+    if !level.allows(&made.settings) {
+        return Err(Why::Value);
+    }
+    Ok(made)
 }

@@ -1,5 +1,8 @@
 ghost use Rattle.std.specs.Prelude.{◌≡◌};
 ghost use Rattle.er_scenario.specs.Table.{level_word, level_named};
+ghost use Rattle.er_scenario.specs.Choices.{is_narrow};
+
+use er_settings::Settings;
 
 /// How much of the stack a drill runs.
 #[derive(Clone, Copy, Debug, PartialEq, Eq)]
@@ -10,9 +13,11 @@ pub enum Level {
     Link,
     /// The whole stack: what waits between two ends are frames, from flag to flag.
     Full,
+    /// Two HDLC stations with selective reject: what waits between them are frames, from flag to flag.
+    LinkSr,
 }
 
-const ALL_LEVELS: [Level; 3] = [Level::Safe, Level::Link, Level::Full];
+const ALL_LEVELS: [Level; 4] = [Level::Safe, Level::Link, Level::Full, Level::LinkSr];
 
 impl Level {
     /// The word of this level in a header.
@@ -23,6 +28,7 @@ impl Level {
             Level::Safe => b"safe",
             Level::Link => b"link",
             Level::Full => b"full",
+            Level::LinkSr => b"link-sr",
         }
     }
 
@@ -34,5 +40,15 @@ impl Level {
             .iter()
             .copied()
             .find(|level| word == level.word())
+    }
+
+    // Whether the window of these settings is narrow enough for this level.
+    pub(crate) fn allows(self, settings: &Settings) -> bool
+        ensures { result ≡ is_narrow self settings.now.modulo settings.now.window }
+    {
+        match self {
+            Level::LinkSr => 2 * settings.window as u64 <= settings.modulo as u64,
+            Level::Safe | Level::Link | Level::Full => true,
+        }
     }
 }

@@ -11,6 +11,8 @@ ghost use Rattle.er_scenario.specs.Table.{step_word};
 ghost use Rattle.er_scenario.specs.Texts.{key_word, optional_key_word, step_words, set_lines, show_lines, choice_lines, step_lines, text_printed, CanBeRead};
 ghost use Rattle.er_scenario.specs.Laws.{IsReadAgain};
 
+use crate::choices::default_settings;
+use crate::level::Level;
 use crate::numbered::Numbered;
 use crate::scenario::Scenario;
 use crate::step::Step;
@@ -268,11 +270,16 @@ fn put_show(show: bool, out: &mut Vec<u8>) -> Result<(), NoMemory>
 }
 
 // Appends the `set` lines, in the order of their names.
-fn put_choices(settings: &Settings, show: bool, out: &mut Vec<u8>) -> Result<(), NoMemory>
-    ensures ok { OnOk result (out.new.items ≡ out.old.items ++ lines_text (choice_lines settings.now show)) }
+fn put_choices(
+    level: Level,
+    settings: &Settings,
+    show: bool,
+    out: &mut Vec<u8>,
+) -> Result<(), NoMemory>
+    ensures ok { OnOk result (out.new.items ≡ out.old.items ++ lines_text (choice_lines level settings.now show)) }
     ensures err { OnErr result (Begins out.old.items out.new.items) }
 {
-    let usual = Settings::usual();
+    let usual = default_settings(level);
     let modulo = settings.modulo as u64;
     let window = settings.window as u64;
     let credit = settings.credit as u64;
@@ -297,12 +304,12 @@ pub fn put_text(alloc: Global, scenario: &Scenario, out: &mut Vec<u8>) -> Result
 {
     let header = [Plain(b"1"), Plain(scenario.level.word())];
     put_line(&Plain(b"drill"), &header, out)?;
-    put_choices(&scenario.settings, scenario.show, out)?;
+    put_choices(scenario.level, &scenario.settings, scenario.show, out)?;
     put_steps(alloc, scenario.steps.as_slice(), out)?;
     Ok(())
 }
 
-/// Appends a scenario as a drill file: the header, a `set` line for each value that isn't the default, in the order
+/// Appends a scenario as a drill file: the header, a `set` line for each value that isn't the level's default, in the order
 /// modulo, window, credit, size, t1, n2, setup, show, and a line a step, each ended by LF.
 ///
 /// The scenario is one that [`read`](crate::read) can answer, line numbers aside. Where its text has at most 16,777,216

@@ -5,7 +5,7 @@ ghost use Rattle.er_base.specs.Lines.{lines_of, rows_of};
 ghost use Rattle.er_base.specs.Rows.{Gives};
 ghost use Rattle.er_settings.specs.Ranges.{AllAllowed};
 ghost use Rattle.er_scenario.specs.Answers.{Answers};
-ghost use Rattle.er_scenario.specs.Choices.{default_choices};
+ghost use Rattle.er_scenario.specs.Choices.{IsNarrow, default_choices};
 ghost use Rattle.er_scenario.specs.Files.{line_says, body_of, scenario_from, scenario_of};
 ghost use Rattle.er_scenario.specs.Readings.{IsWellSaid, fault_at};
 ghost use Rattle.er_scenario.specs.Texts.{AreReadable, CanBeRead};
@@ -57,7 +57,7 @@ fn read_line(
         if is_late {
             return Err(LineFault::Refused(Why::Late));
         }
-        return Ok(Said::Chooses(choose(choices, name, value)?));
+        return Ok(Said::Chooses(choose(level, choices, name, value)?));
     }
     let Some(name) = StepName::named(first) else {
         return Err(LineFault::Refused(Why::Word));
@@ -75,10 +75,10 @@ fn read_line(
 fn read_body(alloc: Global, level: Level, header: usize, text: &[u8]) -> Result<Scenario, TextFault>
     requires { header + length text.now ≤ 16777216 }
     ensures exact { Answers result
-        (scenario_from level (body_of level false default_choices (rows_of header (lines_of text.now)))) }
-    ensures range { IfOk result (λ scenario. AllAllowed scenario.settings × AreReadable scenario.level scenario.steps) }
+        (scenario_from level (body_of level false (default_choices level) (rows_of header (lines_of text.now)))) }
+    ensures range { IfOk result (λ scenario. AllAllowed scenario.settings × IsNarrow scenario.level scenario.settings × AreReadable scenario.level scenario.steps) }
 {
-    let mut choices = defaults();
+    let mut choices = defaults(level);
     let mut steps = Vec::new(alloc);
     let mut is_late = false;
     let mut number = header;

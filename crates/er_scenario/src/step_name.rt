@@ -104,8 +104,8 @@ impl StepName {
     {
         match self {
             StepName::Fixed => level == Level::Safe,
-            StepName::Link => level != Level::Link,
-            StepName::Wire => level == Level::Link,
+            StepName::Link => level == Level::Safe || level == Level::Full,
+            StepName::Wire => level == Level::Link || level == Level::LinkSr,
             StepName::Take => level == Level::Full,
             StepName::Tick => level != Level::Safe,
             StepName::Send | StepName::Pass | StepName::Lose | StepName::Repeat => true,

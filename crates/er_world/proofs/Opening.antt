@@ -81,26 +81,29 @@ opens_called key_found engine rbc ke kr ra rb e r keys own link new settings pla
     (subst Q there does) (joined_pair opening moment) [] stands
 
 -- two stations, of which the calling one starts
-abbrev made_end : Bool → Settings → End
-made_end calling settings = OfStation (made calling (settings.modulo == 128) settings.window settings.n2 settings.t1) []
+abbrev made_end : (selective calling : Bool) → Settings → End
+made_end selective calling settings = OfStation selective (made calling (settings.modulo == 128) settings.window settings.n2 settings.t1) []
 
-pub opens_wired : (e r : DrillEnd) (keys : List Entry) (own : ℕ) (link new : KeptLink) (settings : Settings) (place : Place) (show : Bool) (n : ℕ) (before now : List ℕ)
+pub opens_wired : (selective : Bool) (e r : DrillEnd) (keys : List Entry) (own : ℕ) (link new : KeptLink) (settings : Settings) (place : Place) (show : Bool) (n : ℕ) (before now : List ℕ)
     → link ≡ new_link e r keys own
-    → StandsEnd e (OfStation (made true (settings.modulo == 128) settings.window settings.n2 settings.t1) [])
-    → StandsEnd r (OfStation (made false (settings.modulo == 128) settings.window settings.n2 settings.t1) [])
+    → StandsEnd e (OfStation selective (made true (settings.modulo == 128) settings.window settings.n2 settings.t1) [])
+    → StandsEnd r (OfStation selective (made false (settings.modulo == 128) settings.window settings.n2 settings.t1) [])
     → keys ≡ entries_of 0 0 None
     → place ≡ record { number = n; side = E; show = show }
     → LinkDoes (λ l. give l place.side model.Start) place.show place.number link new before now
-    → (moment : ℕ) → own ≡ moment → LinkWent (opened settings moment OfStations) show n [] new before now
-opens_wired e r keys own link new settings place show n before now is of_e of_r keys_are there does moment at =
+    → (moment : ℕ) → own ≡ moment → LinkWent (opened settings moment (OfStations selective)) show n [] new before now
+opens_wired selective e r keys own link new settings place show n before now is of_e of_r keys_are there does moment at =
+    let opening : LinkOpening = OfStations selective in
+    let of_model_e : End = made_end selective true settings in
+    let of_model_r : End = made_end selective false settings in
     let made_so : link ≡ new_link e r (entries_of 0 0 None) moment =
     is ∙ ap (λ (k : List Entry). new_link e r k own) keys_are ∙ ap (new_link e r (entries_of 0 0 None)) at in
-    let found : (m : ℕ) → m < 2 ^ 64 → key_at (entries_of 0 0 None) m ≡ key_on OfStations = λ m bound. fun_ext (λ x. fun_ext (λ y. refl)) in
-    let stands : StandsLink link (joined OfStations moment (made_end true settings) (made_end false settings)) [] =
-    subst (λ (k : KeptLink). StandsLink k (joined OfStations moment (made_end true settings) (made_end false settings)) []) (sym made_so)
-    (stands_joined OfStations e r (made_end true settings) (made_end false settings) (entries_of 0 0 None) moment of_e of_r found) in
+    let found : (m : ℕ) → m < 2 ^ 64 → key_at (entries_of 0 0 None) m ≡ key_on opening = λ m bound. fun_ext (λ x. fun_ext (λ y. refl)) in
+    let stands : StandsLink link (joined opening moment of_model_e of_model_r) [] =
+    subst (λ (k : KeptLink). StandsLink k (joined opening moment of_model_e of_model_r) []) (sym made_so)
+    (stands_joined opening e r of_model_e of_model_r (entries_of 0 0 None) moment of_e of_r found) in
     let Q : Place → Type 0 = λ p. LinkDoes (λ l. give l p.side model.Start) p.show p.number link new before now in
-    (subst Q there does) (joined OfStations moment (made_end true settings) (made_end false settings)) [] stands
+    (subst Q there does) (joined opening moment of_model_e of_model_r) [] stands
 
 -- a stack that was just made
 pub stack_stands : MadeStands → OpensOrderly → (opening : stacks.Opening) → IsAllowed opening → (stacks.opened opening).core.moment ≤ 1000000000000000

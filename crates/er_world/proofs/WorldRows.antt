@@ -18,7 +18,7 @@ use Rattle.des_block.specs.declared.triple_key.TripleKey.{TripleKey}
 use Rattle.er_scenario.specs.declared.step.Step.TheVariants as does
 use Rattle.safe_pair.specs.Openings.{OfFixed}
 use Rattle.drill_model.specs.Steps.{IsOfLevel}
-use Rattle.drill_model.specs.Links.{OfPair}
+use Rattle.drill_model.specs.Links.{OfPair, OfStations}
 use Rattle.drill_model.specs.Worlds.{fixed_opening}
 use Rattle.drill_model.specs.Faults.{wants, wants_closed, or_else}
 use Rattle.drill_model.specs.Marks.{marks_from}
@@ -191,7 +191,7 @@ opens_does f found grows w new n opening kept before now none is link placed ins
           subst P (sym gone.0) (subst B (sym link) (went_world grows w v came n a kept before now st inside link went'));
     }
 
--- a level that isn't built opens nothing
+-- a level that doesn't have the line opens nothing
 pub opens_nothing : {A : Type 0} → (f : A → KeptLink) (found : Option A) → WorldGrows → (w : KeptWorld) (n : ℕ) (opening : Option LinkOpening) (before : List ℕ)
     → false ≡ is_some found → option_map f found ≡ kept_at w n → is_link n ≡ true → opening ≡ None
     → OpenDone w.plan w n opening w before before
@@ -202,6 +202,14 @@ opens_nothing f found grows w n opening before none is link empty = record {
       let O : Option LinkOpening → Type 0 = λ o. WorldWent (open_link w.plan v n (link_at v n) o) w.plan.show came w before before in
       subst O (sym empty) (subst P (sym (closed_none f found w n none is v came st)) (stays grows w v came before st));
 }
+
+-- whether the stations of a level have selective reject was found, or that its links aren't of stations
+pub no_stations : (found : Option Bool) (opening : Option LinkOpening) → found ≡ None → option_map OfStations found ≡ opening → opening ≡ None
+no_stations found opening none is = sym is ∙ ap (option_map OfStations) none
+
+pub some_stations : (selective : Bool) (found : Option Bool) (opening : Option LinkOpening) → found ≡ Some selective → option_map OfStations found ≡ opening
+    → opening ≡ Some (OfStations selective)
+some_stations selective found opening some is = sym is ∙ ap (option_map OfStations) some
 
 -- ---- a copy
 
@@ -339,3 +347,4 @@ pub fixed_does : (l : Level) (plan : Plan) (n engine rbc : ℕ) (ke kr : TripleK
 fixed_does level.Safe plan n engine rbc ke kr old new before now result is done = done
 fixed_does level.Link plan n engine rbc ke kr old new before now result is done = absurd is
 fixed_does level.Full plan n engine rbc ke kr old new before now result is done = absurd is
+fixed_does level.LinkSr plan n engine rbc ke kr old new before now result is done = absurd is

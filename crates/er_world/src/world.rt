@@ -1,9 +1,10 @@
 //! The world of a drill: up to 64 links, and the steps of a scenario.
 
-ghost use Rattle.std.specs.Prelude.{ℕ, ◌≡◌, ◌++◌, ◌≤◌, ◌<◌, [], List, length, slice_get, slice_set, option_map, Some, false, IfOk, IfErr, OnOk, OnErr};
+ghost use Rattle.std.specs.Prelude.{ℕ, ◌≡◌, ◌*◌, ◌++◌, ◌≤◌, ◌<◌, [], List, length, slice_get, slice_set, option_map, Some, true, false, IfOk, IfErr, IfSome, OnOk, OnErr};
 ghost use Rattle.er_base.specs.declared.side.Side.TheVariants.{E};
 ghost use Rattle.er_settings.specs.Ranges.{AllAllowed};
 ghost use Rattle.er_settings.specs.declared.settings.Settings.{Settings as AnySettings};
+ghost use Rattle.er_scenario.specs.Choices.{IsNarrow};
 ghost use Rattle.er_scenario.specs.StepRanges.{IsEtcsNumber};
 ghost use Rattle.er_scenario.specs.declared.step.Step.{Step as AnyStep};
 ghost use Rattle.safe_pair.specs.Openings.{OfFixed, OfKeys};
@@ -53,6 +54,7 @@ pub struct World {
 impl Model for World {
     ghost use Rattle.std.specs.Prelude.{◌≡◌, length};
     ghost use Rattle.er_settings.specs.Ranges.{AllAllowed};
+    ghost use Rattle.er_scenario.specs.Choices.{IsNarrow};
     ghost use Rattle.er_world.specs.Standing.{KeptWorld};
 
     ghost Value = { KeptWorld };
@@ -64,7 +66,7 @@ impl Model for World {
       moment = w.moment;
     } };
 
-    ghost invariant = { λ w. (length w.places.items ≡ 65) × AllAllowed w.settings };
+    ghost invariant = { λ w. (length w.places.items ≡ 65) × AllAllowed w.settings × IsNarrow w.level w.settings };
 }
 
 /// Whether a link may have this number.
@@ -178,35 +180,38 @@ fn stacked(
     Ok(link)
 }
 
-/// A link between two stations, opened at a moment; the calling one has begun the set-up.
+/// A link between two stations, both with selective reject or both without, opened at a moment; the calling one has begun the set-up.
 fn wired(
     alloc: Global,
     place: Place,
+    selective: bool,
     settings: &Settings,
     moment: Moment,
     out: &mut Vec<u8>,
 ) -> Result<Link, NoMemory>
-    requires { AllAllowed settings.now }
+    requires allowed { AllAllowed settings.now }
+    requires half { selective ≡ true → 2 * settings.now.window ≤ settings.now.modulo }
     ensures { IfOk result (λ link. place.side ≡ E → (now : ℕ) → moment ≡ now
-        → LinkWent (opened settings.now now OfStations) place.show place.number [] link out.old.items out.new.items) }
+        → LinkWent (opened settings.now now (OfStations selective)) place.show place.number [] link out.old.items out.new.items) }
 {
-    let e = DrillEnd::Station(StationEnd::calling(alloc, settings)?);
-    let r = DrillEnd::Station(StationEnd::called(alloc, settings)?);
+    let e = DrillEnd::Station(StationEnd::calling(alloc, selective, settings)?);
+    let r = DrillEnd::Station(StationEnd::called(alloc, selective, settings)?);
     let mut link = Link::new(alloc, e, r, OneKey::new(0, 0, None), moment);
     link.give(alloc, place, &EndEvent::Start, out)?;
     Ok(link)
 }
 
 impl World {
-    /// A world without links, of a level and with settings that are in their ranges. With `show`, each frame that is sent is
-    /// printed too.
+    /// A world without links, of a level and with settings that are in their ranges; at level link-sr the window is at most half of the
+    /// modulo. With `show`, each frame that is sent is printed too.
     pub fn new(
         alloc: Global,
         level: Level,
         settings: Settings,
         show: bool,
     ) -> Result<World, NoMemory>
-        requires { AllAllowed settings }
+        requires allowed { AllAllowed settings }
+        requires narrow { IsNarrow level settings }
         ensures ran { IfOk result (λ w. Ran w (record { level = level; settings = settings; show = show }) []) }
         ensures plan { IfOk result (λ w. w.plan ≡ record { level = level; settings = settings; show = show }) }
         ensures unspent { IfOk result (λ w. w.spent ≡ false) }
@@ -391,7 +396,7 @@ impl World {
         Ok(())
     }
 
-    /// Opens link N with two ends that aren't connected yet, and the engine begins the set-up. Level link has no such links.
+    /// Opens link N with two ends that aren't connected yet, and the engine begins the set-up. Levels link and link-sr have no such links.
     fn open_called(
         &mut self,
         alloc: Global,
@@ -437,6 +442,7 @@ impl World {
                 Ok(())
             }
             Level::Link => Ok(()),
+            Level::LinkSr => Ok(()),
             Level::Full => {
                 let link = stacked(
                     alloc,
@@ -457,7 +463,20 @@ impl World {
         }
     }
 
-    /// Opens link N with two stations, of which the calling one begins the set-up. Only level link has such links.
+    /// Whether the stations of a link have selective reject, where the links of the level are of stations.
+    fn stations(&self) -> Option<bool>
+        ensures kind { option_map OfStations result ≡ wire_opening self.now.plan.level }
+        ensures half { IfSome result (λ selective. selective ≡ true → 2 * self.now.plan.settings.window ≤ self.now.plan.settings.modulo) }
+    {
+        match self.level {
+            Level::Safe => None,
+            Level::Link => Some(false),
+            Level::LinkSr => Some(true),
+            Level::Full => None,
+        }
+    }
+
+    /// Opens link N with two stations, of which the calling one begins the set-up. Only levels link and link-sr have such links.
     fn open_wire(&mut self, alloc: Global, number: u8, out: &mut Vec<u8>) -> Result<(), WorldFault>
         ensures does { Does (λ w. wants_closed number (link_at w number))
             (λ w. open_link self.old.plan w number (link_at w number) (wire_opening self.old.plan.level))
@@ -472,16 +491,13 @@ impl World {
         if !is_link(number) {
             return Err(WorldFault::NoLink(number));
         }
-        match self.level {
-            Level::Safe => Ok(()),
-            Level::Link => {
-                let place = self.place(number, Side::E);
-                let link = wired(alloc, place, &self.settings, self.moment, out)?;
-                self.open(number, link);
-                Ok(())
-            }
-            Level::Full => Ok(()),
-        }
+        let Some(selective) = self.stations() else {
+            return Ok(());
+        };
+        let place = self.place(number, Side::E);
+        let link = wired(alloc, place, selective, &self.settings, self.moment, out)?;
+        self.open(number, link);
+        Ok(())
     }
 
     /// A step of link N.

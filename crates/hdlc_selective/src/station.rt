@@ -102,6 +102,7 @@ impl SelectiveStation {
         ensures tells { SelectiveTells self.old out.old self.new out.new (deed_of self.new.places result) (selective_receives now (shown found.now)) }
         ensures within { Within self.old.core out.old self.new.core out.new (2 * self.old.core.window) }
         ensures taken { self.new.taken ≡ result.taken }
+        ensures few { result.taken ≤ length self.new.places }
     {
         let deed = hearing::receive(&mut self.core, &mut self.places, now, found, out);
         self.taken = deed.taken;

@@ -173,6 +173,12 @@ safe|set show 1;set size 256;set show 0;set credit 3|set credit 3;set size 256;
 link|set n2 1;set modulo 128;set window 31|set modulo 128;set window 31;set n2 1;
 link|set modulo 128;set window 31;set window 7;set modulo 8|
 safe|set modulo 128|set modulo 128;
+link|set window 4|set window 4;
+link-sr|set window 4|
+link-sr|set window 3;wire 64;tick 5;drain 64 1|set window 3;wire 64;tick 5;drain 64 1;
+link-sr|set n2 1;set modulo 128;set window 31|set modulo 128;set window 31;set n2 1;
+link-sr|set modulo 128|set modulo 128;
+link-sr|set modulo 128;set window 31;set window 4;set modulo 8|
 safe|# set window 9;;   ;pass 1 e;#|pass 1 e;";
 
 // A drill's text, read and printed again.
@@ -217,7 +223,8 @@ const FAULTS: &str = "\
 1 Header|drill 1 safe safe
 1 Header|drill 01 safe
 1 Header|drill 1 Full
-1 Header|drill 1 link-sr
+1 Header|drill 1 link-SR
+1 Header|drill 1 linksr
 1 Header|drill 1 Link
 1 Header|Drill 1 safe
 1 Header|drill 1 safe\r
@@ -453,6 +460,14 @@ const FAULTS: &str = "\
 2 Number|drill 1 link;tick -1
 2 Number|drill 1 link;tick 01
 2 Value|drill 1 link;tick 1000000000000001
+2 Value|drill 1 link-sr;set window 5
+2 Value|drill 1 link-sr;set window 0
+3 Value|drill 1 link-sr;set modulo 128;set window 32
+4 Value|drill 1 link-sr;set modulo 128;set window 5;set modulo 8
+4 Value|drill 1 link-sr;set modulo 128;set modulo 8;set window 5
+2 Level|drill 1 link-sr;fixed 1 5 9 K K
+2 Level|drill 1 link-sr;link 1 5 9 K K R R
+2 Level|drill 1 link-sr;take 1 e
 2 Value|drill 1 full;set window 8
 2 Level|drill 1 full;wire 1
 2 Level|drill 1 full;fixed 1 5 9 K ?

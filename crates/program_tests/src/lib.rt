@@ -1,4 +1,4 @@
-//! Tests of the world, of replays and of the program's top call, by their public calls, over the outside in memory.
+//! Tests of the ends of a drill, of the world, of replays and of the program's top call, by their public calls, over the outside in memory.
 //!
 //! They stand here, and not in the crates that they test, since a crate with tests is proved twice. The crate has no item but its tests.
 #![tactic(auto)]
@@ -19,5 +19,7 @@ mod program_replays;
 mod program_top;
 #[cfg(test)]
 mod replays;
+#[cfg(test)]
+mod station_ends;
 #[cfg(test)]
 mod worlds;

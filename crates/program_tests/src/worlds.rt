@@ -212,9 +212,10 @@ enum WireMove<'a> {
     Drain,
 }
 
-/// The step of a move of level link.
+/// The step of a move of level link or link-sr.
 fn wire_step_of(alloc: Global, made: &WireMove) -> Result<Step, NoMemory>
     ensures level { IfOk result (λ step. IsOfLevel level.Link step) }
+    ensures selective { IfOk result (λ step. IsOfLevel level.LinkSr step) }
     ensures numbers { IfOk result HasEtcsNumbers }
     ensures moment { IfOk result HasMoment }
 {
@@ -251,6 +252,15 @@ fn wire_step_of(alloc: Global, made: &WireMove) -> Result<Step, NoMemory>
     }
 }
 
+/// The closing line of a world and its totals, where no step broke off.
+fn put_end(alloc: Global, world: &World, out: &mut Vec<u8>) -> Result<(), NoMemory> {
+    if world.spent() {
+        return Ok(());
+    }
+    world.summary(alloc, out)?;
+    put_totals(world, out)
+}
+
 /// What these moves of level link print, the closing line and the totals included.
 fn printed_of_wire(alloc: Global, moves: &[WireMove]) -> Result<Vec<u8>, NoMemory> {
     let mut out = Vec::new(alloc);
@@ -259,11 +269,23 @@ fn printed_of_wire(alloc: Global, moves: &[WireMove]) -> Result<Vec<u8>, NoMemor
         let step = wire_step_of(alloc, made)?;
         take(alloc, &mut world, &step, &mut out)?;
     }
-    if world.spent() {
-        return Ok(out);
+    put_end(alloc, &world, &mut out)?;
+    Ok(out)
+}
+
+/// The same of level link-sr, with a window of half the modulo.
+fn printed_of_selective_wire(alloc: Global, moves: &[WireMove]) -> Result<Vec<u8>, NoMemory> {
+    let mut out = Vec::new(alloc);
+    let settings = Settings {
+        window: 4,
+        ..Settings::usual()
+    };
+    let mut world = World::new(alloc, Level::LinkSr, settings, false)?;
+    for made in moves {
+        let step = wire_step_of(alloc, made)?;
+        take(alloc, &mut world, &step, &mut out)?;
     }
-    world.summary(alloc, &mut out)?;
-    put_totals(&world, &mut out)?;
+    put_end(alloc, &world, &mut out)?;
     Ok(out)
 }
 
@@ -296,6 +318,25 @@ fn makes_good_what_a_line_loses(rt: HostRuntime) -> Result<(), Fail> {
     let text = printed_of_wire(rt.alloc(), &moves)?;
     let want =
         b"1 r up\n1 e up\n1 passes 2\n1 r accepted 41\n1 r accepted 42\n1 passes 6\n1 r accepted 43\nmoment back\n1 passes 2\n1 e released 1 3 local\n1 r refused length 0\n1 r released 0 9 local\n1 e refused released 1 3\n1 passes 2\n1 end passes 15 waiting 0 0\nsent 3 accepted 3 passes 15 lost 2 repeated 0";
+    assert_eq!(rt; text.as_slice(), want.as_slice());
+    Ok(())
+}
+
+/// The first of three frames is lost: the others are held, a SREJ asks for it, and all three are accepted when it comes.
+#[test]
+fn asks_for_what_a_line_loses(rt: HostRuntime) -> Result<(), Fail> {
+    let moves = [
+        WireMove::Wire,
+        WireMove::Drain,
+        WireMove::Send(Side::E, b"A"),
+        WireMove::Send(Side::E, b"B"),
+        WireMove::Send(Side::E, b"C"),
+        WireMove::Lose(Side::E),
+        WireMove::Drain,
+    ];
+    let text = printed_of_selective_wire(rt.alloc(), &moves)?;
+    let want =
+        b"1 r up\n1 e up\n1 passes 2\n1 r accepted 41\n1 r accepted 42\n1 r accepted 43\n1 passes 5\n1 end passes 7 waiting 0 0\nsent 3 accepted 3 passes 7 lost 1 repeated 0";
     assert_eq!(rt; text.as_slice(), want.as_slice());
     Ok(())
 }

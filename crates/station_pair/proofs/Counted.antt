@@ -5,14 +5,14 @@ use Rattle.std.specs.Prelude.{nat_lt, ◌==◌}
 use Rattle.std.proofs.lemmas.Bool.{cond_both, or_cases, ltb-true}
 use Rattle.er_base.specs.declared.side.Side.{Side}
 use Rattle.er_base.specs.declared.side.Side.TheVariants.{E, R}
-use Rattle.station_model.specs.Frames.{Frame, Info, Rr, Rej, Srej, SetUp, Disc, Dm, Ua, modulo}
+use Rattle.station_model.specs.Frames.{Frame, Info, Rr, Rej, Srej, SetUp, Disc, Dm, Ua}
 use Rattle.station_model.specs.Stations.{Station, is_down}
 use Rattle.station_model.specs.Events.{quits, is_late}
 use Rattle.station_model.specs.Lines.{altered, next_of}
 use Rattle.station_pair.specs.Links.{Came, Link, station_of, line_of, with_line, did, opened}
 use Rattle.station_pair.specs.Steps.{LinkStep, Send, Pass, Lose, Repeat, Alter, Put, UserRelease, Drain, Tick, refusal_at, send_unless, pass, lose, repeat, alter, release, tick_at, tick, is_overfull, Draining, pass_next, drained, step, happens, run}
 use Rattle.station_pair.specs.Laws.{after, passed_of, deliveries_of, deliveries, DrainEmpties, DeliveriesBound, FewWait}
-use Rattle.station_pair.specs.Invariant.{Way, Climbs, Pair, infos, numbers}
+use Rattle.station_pair.specs.Invariant.{Way, Climbs, Pair, IsSpan, infos, numbers}
 use Rattle.station_pair.specs.Flowing.{Consecutive, AllData, Rises, Shape}
 use Rattle.station_pair.proofs.Ways.{way_bounds}
 use Rattle.station_pair.proofs.Runs.{Frames, refused_long}
@@ -72,13 +72,16 @@ few_of k lx x ly y there back plain next rises =
     let b = way_bounds k y.handed y.acked y.sent x.taken (infos ly) (numbers lx) back in
     omega (arith, there.window, back.window, a.0, a.1, b.0, b.1)
 
-small : (extended : Bool) (k : ℕ) → k + 1 ≡ modulo extended → k ≤ 127
-small true k h = omega (arith, h)
-small false k h = omega (arith, h)
+small : (selective extended : Bool) (k : ℕ) → IsSpan selective extended k → k ≤ 127
+small true true k h = omega (arith, h)
+small true false k h = omega (arith, h)
+small false true k h = omega (arith, h)
+small false false k h = omega (arith, h)
 
-pub few_at : (k n : ℕ) (lx : List Frame) (x : Station) (ly : List Frame) (y : Station) → Pair k lx x ly y → Shape n lx x ly y → (length lx ≤ 254) × (length ly ≤ 254)
-few_at k n lx x ly y p shape =
-    let most : k ≤ 127 = small x.extended k p.4 in
+pub few_at : (selective : Bool) (k n : ℕ) (lx : List Frame) (x : Station) (ly : List Frame) (y : Station) → Pair selective k lx x ly y → Shape n lx x ly y
+    → (length lx ≤ 254) × (length ly ≤ 254)
+few_at selective k n lx x ly y p shape =
+    let most : k ≤ 127 = small selective x.extended k p.4 in
     elim shape [
       | inl a ↦ let ex : length lx ≡ 1 = ap length a.2 in let ey : length ly ≡ 0 = ap length a.3 in (omega arith, omega arith)
       | inr (inl a) ↦ let ex : length lx ≡ 0 = ap length a.2 in let ey : length ly ≡ 1 = ap length a.3 in (omega arith, omega arith)
@@ -90,7 +93,7 @@ few_at k n lx x ly y p shape =
 
 few_frames : (l : Link) → Flows l → (length l.from_e ≤ 254) × (length l.from_r ≤ 254)
 few_frames l g =
-    let few = few_at g.k g.n g.fe l.e g.fr l.r g.stands.pair g.shape in
+    let few = few_at l.selective g.k g.n g.fe l.e g.fr l.r g.stands.pair g.shape in
     let e : length l.from_e ≡ length g.fe = ap length g.stands.lined_x ∙ length-map g.fe _ in
     let r : length l.from_r ≡ length g.fr = ap length g.stands.lined_y ∙ length-map g.fr _ in
     (omega (arith, few.0), omega (arith, few.1))
@@ -269,7 +272,7 @@ run_counts laws (s ∷ rest) l n h =
 
 pub deliveries_bound : Frames → DeliveriesBound
 deliveries_bound laws s steps free =
-    let l : Link = opened s.extended s.window s.n2 s.t1 s.moment in
+    let l : Link = opened s.selective s.extended s.window s.n2 s.t1 s.moment in
     let t = run_counts laws steps l 0 (λ e. (opened_flows s, opened_none s)) free in
     let b = bound_flows (after s steps) t.0 in
     omega (arith, t.1, b)

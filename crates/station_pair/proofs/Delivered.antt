@@ -7,10 +7,11 @@ use Rattle.er_base.specs.declared.side.Side.TheVariants.{E, R}
 use Rattle.hdlc_frames.specs.Framing.{Verdict}
 use Rattle.station_model.specs.declared.phase.Phase.{Phase}
 use Rattle.station_model.specs.declared.phase.Phase.TheVariants.{Up}
-use Rattle.station_model.specs.Frames.{Frame, SetUp, Ua, modulo}
+use Rattle.station_model.specs.Frames.{Frame, SetUp, Ua}
 use Rattle.station_model.specs.Stations.{Station, is_up, is_down}
 use Rattle.station_model.specs.Sending.{can_send}
-use Rattle.station_model.specs.Calls.{receives, finishes}
+use Rattle.station_model.specs.Calls.{finishes}
+use Rattle.station_model.specs.Selective.{receives_as}
 use Rattle.station_model.specs.Events.{news, quits, is_late}
 use Rattle.station_model.specs.Lines.{altered, next_of}
 use Rattle.station_pair.specs.Links.{Came, Link, station_of, line_of, with_line, did, hears_each, opened}
@@ -20,7 +21,8 @@ use Rattle.station_pair.specs.Invariant.{Pair, infos, numbers}
 use Rattle.station_pair.specs.Flowing.{Rests, Shape}
 use Rattle.station_pair.proofs.Ways.{way_bounds}
 use Rattle.station_pair.proofs.Lines.{none_on_line}
-use Rattle.station_pair.proofs.Runs.{Frames, refused_long, opened_stands}
+use Rattle.station_pair.proofs.Opened.{span_of, opened_stands}
+use Rattle.station_pair.proofs.Runs.{Frames, refused_long}
 use Rattle.station_pair.proofs.Delivers.{Flows, Passed, e_sends, r_sends, e_ticks, r_ticks, e_pass, r_pass}
 
 -- the parts of a link that the shape doesn't speak of
@@ -120,8 +122,8 @@ drained_empties laws (suc most) d g = one_round laws most (drained_empties laws 
 
 heard_free : (side : Side) (vs : List Verdict) (l : Link) → (hears_each side vs l).loss_free ≡ l.loss_free
 heard_free side [] l = refl
-heard_free E (v ∷ vs) l = heard_free E vs (did E (finishes (receives l.moment v l.e)) l)
-heard_free R (v ∷ vs) l = heard_free R vs (did R (finishes (receives l.moment v l.r)) l)
+heard_free E (v ∷ vs) l = heard_free E vs (did E (finishes (receives_as l.selective l.moment v l.e)) l)
+heard_free R (v ∷ vs) l = heard_free R vs (did R (finishes (receives_as l.selective l.moment v l.r)) l)
 
 pub passed_free : (side : Side) (line : List (List ℕ)) (l : Link) → (pass side line l).loss_free ≡ l.loss_free
 passed_free E [] l = refl
@@ -220,16 +222,16 @@ run_clean : Frames → (steps : List LinkStep) (l : Link) → Clean l → Clean 
 run_clean laws [] l h = h
 run_clean laws (s ∷ rest) l h = run_clean laws rest (happens s l) (happens_clean laws s l h)
 
-pub opened_flows : (s : Opening) → Flows (opened s.extended s.window s.n2 s.t1 s.moment)
+pub opened_flows : (s : Opening) → Flows (opened s.selective s.extended s.window s.n2 s.t1 s.moment)
 opened_flows s =
     record {
-      k = modulo s.extended - 1;
+      k = span_of s.selective s.extended s.window;
       fe = SetUp ∷ [];
       fr = [];
       stands = opened_stands s;
       n = 0;
       passes = omega arith;
-      shape = inl (refl, refl, refl, refl, (refl, refl, refl, refl, refl, refl, s.some), (refl, refl, refl, refl, refl, refl, s.some), refl);
+      shape = inl (refl, refl, refl, refl, (refl, refl, refl, refl, refl, refl, s.some, refl), (refl, refl, refl, refl, refl, refl, s.some, refl), refl);
     }
 
 -- before the first step there was no delivery
@@ -238,13 +240,13 @@ unfolding opened_flows
 opened_none s = refl
 
 pub after_flows : Frames → (s : Opening) (steps : List LinkStep) → (after s steps).loss_free ≡ true → Flows (after s steps)
-after_flows laws s steps = run_clean laws steps (opened s.extended s.window s.n2 s.t1 s.moment) (λ e. opened_flows s)
+after_flows laws s steps = run_clean laws steps (opened s.selective s.extended s.window s.n2 s.t1 s.moment) (λ e. opened_flows s)
 
 -- ---- the bound
 
-pub bound_at : (k n : ℕ) (lx : List Frame) (x : Station) (ly : List Frame) (y : Station) → Pair k lx x ly y → Shape n lx x ly y
+pub bound_at : (selective : Bool) (k n : ℕ) (lx : List Frame) (x : Station) (ly : List Frame) (y : Station) → Pair selective k lx x ly y → Shape n lx x ly y
     → n + (length lx + length ly) ≤ 2 + 2 * (length x.handed + length y.handed)
-bound_at k n lx x ly y p shape =
+bound_at selective k n lx x ly y p shape =
     let bx = way_bounds k x.handed x.acked x.sent y.taken (infos lx) (numbers ly) p.0.0 in
     let by = way_bounds k y.handed y.acked y.sent x.taken (infos ly) (numbers lx) p.1.0 in
     let gx = p.0.0.given in
@@ -256,7 +258,7 @@ bound_at k n lx x ly y p shape =
     ]
 
 pub bound_flows : (l : Link) (g : Flows l) → g.n + (length g.fe + length g.fr) ≤ bound l
-bound_flows l g = bound_at g.k g.n g.fe l.e g.fr l.r g.stands.pair g.shape
+bound_flows l g = bound_at l.selective g.k g.n g.fe l.e g.fr l.r g.stands.pair g.shape
 
 pub delivery_bound : Frames → DeliveryBound
 delivery_bound laws s steps e = let g = after_flows laws s steps e in omega (arith, g.passes, bound_flows (after s steps) g)
@@ -278,11 +280,11 @@ whole : (taken handed : List (List ℕ)) (s : ℕ) → taken ≡ take (length ta
 whole taken handed s prefix same all = prefix ∙ take_all (length taken) handed (omega arith)
 
 -- no frame waits
-pub emptied_at : (k n : ℕ) (x : Station) (y : Station) → Pair k [] x [] y → Shape n [] x [] y
+pub emptied_at : (selective : Bool) (k n : ℕ) (x : Station) (y : Station) → Pair selective k [] x [] y → Shape n [] x [] y
     → (x.phase ≡ Up) × (y.phase ≡ Up) × (y.taken ≡ x.handed) × (1 ≤ length x.handed → x.taken ≡ y.handed)
-emptied_at k n x y p (inl a) = absurd (let e : [] ≡ SetUp ∷ [] = a.2 in let u : ⊥ = cc in u)
-emptied_at k n x y p (inr (inl a)) = absurd (let e : [] ≡ Ua true ∷ [] = a.3 in let u : ⊥ = cc in u)
-emptied_at k n x y p (inr (inr a)) =
+emptied_at selective k n x y p (inl a) = absurd (let e : [] ≡ SetUp ∷ [] = a.2 in let u : ⊥ = cc in u)
+emptied_at selective k n x y p (inr (inl a)) = absurd (let e : [] ≡ Ua true ∷ [] = a.3 in let u : ⊥ = cc in u)
+emptied_at selective k n x y p (inr (inr a)) =
     let t = a.0 in
     let sent_x : x.sent ≡ x.acked = sym t.0.2 ∙ sym (t.0.3 a.2.0) in
     let sent_y : y.sent ≡ y.acked = sym t.1.2 ∙ sym (t.1.3 a.1.0) in
@@ -305,6 +307,6 @@ delivery laws s steps free empty =
     let g = after_flows laws s steps free in
     let ne : g.fe ≡ [] = none_on_line l.e g.fe (sym empty.0 ∙ g.stands.lined_x) in
     let nr : g.fr ≡ [] = none_on_line l.r g.fr (sym empty.1 ∙ g.stands.lined_y) in
-    emptied_at g.k g.n l.e l.r
-    (subst (λ (t : List Frame). Pair g.k t l.e [] l.r) ne (subst (λ (t : List Frame). Pair g.k g.fe l.e t l.r) nr g.stands.pair))
+    emptied_at l.selective g.k g.n l.e l.r
+    (subst (λ (t : List Frame). Pair l.selective g.k t l.e [] l.r) ne (subst (λ (t : List Frame). Pair l.selective g.k g.fe l.e t l.r) nr g.stands.pair))
     (subst (λ (t : List Frame). Shape g.n t l.e [] l.r) ne (subst (λ (t : List Frame). Shape g.n g.fe l.e t l.r) nr g.shape))

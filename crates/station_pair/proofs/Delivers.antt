@@ -10,23 +10,25 @@ use Rattle.station_model.specs.declared.phase.Phase.TheVariants.{Idle, Setting, 
 use Rattle.station_model.specs.Frames.{Frame, SetUp, Ua, set_up, shown}
 use Rattle.station_model.specs.Stations.{Station, is_up, is_down, sees}
 use Rattle.station_model.specs.Sending.{can_send, waiting, sends_next, sends_up_to, sends_waiting, settles, expires_if_due}
-use Rattle.station_model.specs.Receiving.{row, row_idle, agrees, comes_up}
+use Rattle.station_model.specs.Receiving.{row_idle, agrees, comes_up}
 use Rattle.station_model.specs.Calls.{hands, finishes, ticks}
 use Rattle.station_model.specs.Events.{is_late}
 use Rattle.station_pair.specs.Links.{Link, did, hears_each, reads}
 use Rattle.station_pair.specs.Steps.{counted, pass, tick_at}
 use Rattle.station_pair.specs.Invariant.{Pair, Both}
+use Rattle.station_pair.specs.Keeping.{found}
 use Rattle.station_pair.specs.Flowing.{one_if, Still, AtRest, Fresh, Shape}
 use Rattle.station_pair.proofs.Events.{finishes_keeps, hands_keeps, ticks_keeps}
 use Rattle.station_pair.proofs.Lines.{octets_of, Stands, turned, begun, acted, First, first_of_line, answered, one_event, flag_behind, answered_keeps}
 use Rattle.station_pair.proofs.Runs.{Frames}
+use Rattle.station_pair.proofs.Hearing.{row_as}
 use Rattle.station_pair.proofs.Flows.{still_swap, still_back, Within, ends_well, heard_live, heard_row, answered_flows, handed_flows, not_due, ticked_flows}
 
 pub record Flows (l : Link) : Type 0 where
   pub k : ℕ
   pub fe : List Frame
   pub fr : List Frame
-  pub stands : Stands k fe l.e fr l.r l.from_e l.from_r l.read_e l.read_r
+  pub stands : Stands l.selective k fe l.e fr l.r l.from_e l.from_r l.read_e l.read_r
   -- the deliveries so far
   pub n : ℕ
   pub passes : l.passes ≤ n
@@ -75,36 +77,36 @@ quiet_ticks now x live late cannot owes =
 
 -- ---- an event at an end
 
-e_flows : (l : Link) (g : Flows l) (x : Station) → Both g.k g.fe x g.fr l.r → Shape g.n (g.fe ++ x.said) x g.fr l.r → Flows (did E x l)
+e_flows : (l : Link) (g : Flows l) (x : Station) → Both l.selective g.k g.fe x g.fr l.r → Shape g.n (g.fe ++ x.said) x g.fr l.r → Flows (did E x l)
 e_flows l g x b shape = record {
   k = g.k;
   fe = g.fe ++ x.said;
   fr = g.fr;
-  stands = acted g.k g.fe l.e g.fr l.r l.from_e l.from_r l.read_e l.read_r x g.fr l.from_r l.read_e g.stands g.stands.lined_y g.stands.flag_x b;
+  stands = acted l.selective g.k g.fe l.e g.fr l.r l.from_e l.from_r l.read_e l.read_r x g.fr l.from_r l.read_e g.stands g.stands.lined_y g.stands.flag_x b;
   n = g.n;
   passes = g.passes;
   shape = shape;
 }
 
-r_flows : (l : Link) (g : Flows l) (x : Station) → Both g.k g.fr x g.fe l.e → Shape g.n g.fe l.e (g.fr ++ x.said) x → Flows (did R x l)
+r_flows : (l : Link) (g : Flows l) (x : Station) → Both l.selective g.k g.fr x g.fe l.e → Shape g.n g.fe l.e (g.fr ++ x.said) x → Flows (did R x l)
 r_flows l g x b shape =
-    let t = turned g.k g.fe l.e g.fr l.r l.from_e l.from_r l.read_e l.read_r g.stands in
-    let a = acted g.k g.fr l.r g.fe l.e l.from_r l.from_e l.read_r l.read_e x g.fe l.from_e l.read_r t t.lined_y t.flag_x b in
+    let t = turned l.selective g.k g.fe l.e g.fr l.r l.from_e l.from_r l.read_e l.read_r g.stands in
+    let a = acted l.selective g.k g.fr l.r g.fe l.e l.from_r l.from_e l.read_r l.read_e x g.fe l.from_e l.read_r t t.lined_y t.flag_x b in
     record {
       k = g.k;
       fe = g.fe;
       fr = g.fr ++ x.said;
-      stands = turned g.k (g.fr ++ x.said) _ g.fe l.e _ _ _ _ a;
+      stands = turned l.selective g.k (g.fr ++ x.said) _ g.fe l.e _ _ _ _ a;
       n = g.n;
       passes = g.passes;
       shape = shape;
     }
 
-e_ready : (l : Link) (g : Flows l) → Both g.k g.fe l.e g.fr l.r
-e_ready l g = begun g.k g.fe l.e g.fr l.r l.from_e l.from_r l.read_e l.read_r g.stands
+e_ready : (l : Link) (g : Flows l) → Both l.selective g.k g.fe l.e g.fr l.r
+e_ready l g = begun l.selective g.k g.fe l.e g.fr l.r l.from_e l.from_r l.read_e l.read_r g.stands
 
-r_ready : (l : Link) (g : Flows l) → Both g.k g.fr l.r g.fe l.e
-r_ready l g = begun g.k g.fr l.r g.fe l.e l.from_r l.from_e l.read_r l.read_e (turned g.k g.fe l.e g.fr l.r l.from_e l.from_r l.read_e l.read_r g.stands)
+r_ready : (l : Link) (g : Flows l) → Both l.selective g.k g.fr l.r g.fe l.e
+r_ready l g = begun l.selective g.k g.fr l.r g.fe l.e l.from_r l.from_e l.read_r l.read_e (turned l.selective g.k g.fe l.e g.fr l.r l.from_e l.from_r l.read_e l.read_r g.stands)
 
 -- nothing is said between two calls
 unsaid : (w : List Frame) (x : Station) → x.said ≡ [] → w ++ x.said ≡ w
@@ -120,7 +122,7 @@ within_r n lx x ly y h s = subst (λ (t : List Frame). Still false n t x ly y) (
 
 pub e_sends : (l : Link) (p : List ℕ) → length p ≤ 1026 → Flows l → Flows (did E (finishes (hands l.moment p l.e)) l)
 e_sends l p short g =
-    e_flows l g (finishes (hands l.moment p l.e)) (finishes_keeps g.k g.fe (hands l.moment p l.e) g.fr l.r (hands_keeps g.k g.fe l.moment l.e g.fr l.r p short (e_ready l g)))
+    e_flows l g (finishes (hands l.moment p l.e)) (finishes_keeps l.selective g.k g.fe (hands l.moment p l.e) g.fr l.r (hands_keeps l.selective g.k g.fe l.moment l.e g.fr l.r p short (e_ready l g)))
     (elim g.shape [
       | inl a ↦ subst (λ (t : Station). Shape g.n (g.fe ++ t.said) t g.fr l.r) (sym (quiet_hands l.moment p l.e (ap is_down a.0) (early_cannot l.e (ap is_up a.0)) a.4.4))
           (inl (a.0, a.1, unsaid g.fe l.e g.stands.quiet_x ∙ a.2, a.3, a.4, a.5, a.6))
@@ -133,7 +135,7 @@ e_sends l p short g =
 
 pub r_sends : (l : Link) (p : List ℕ) → length p ≤ 1026 → Flows l → Flows (did R (finishes (hands l.moment p l.r)) l)
 r_sends l p short g =
-    r_flows l g (finishes (hands l.moment p l.r)) (finishes_keeps g.k g.fr (hands l.moment p l.r) g.fe l.e (hands_keeps g.k g.fr l.moment l.r g.fe l.e p short (r_ready l g)))
+    r_flows l g (finishes (hands l.moment p l.r)) (finishes_keeps l.selective g.k g.fr (hands l.moment p l.r) g.fe l.e (hands_keeps l.selective g.k g.fr l.moment l.r g.fe l.e p short (r_ready l g)))
     (elim g.shape [
       | inl a ↦ subst (λ (t : Station). Shape g.n g.fe l.e (g.fr ++ t.said) t) (sym (quiet_hands l.moment p l.r (ap is_down a.1) (called_cannot l.r a.5) a.5.4))
           (inl (a.0, a.1, a.2, unsaid g.fr l.r g.stands.quiet_y ∙ a.3, a.4, a.5, a.6))
@@ -149,7 +151,7 @@ r_sends l p short g =
 
 pub e_ticks : (l : Link) (now : ℕ) → is_late now l.e ≡ false → Flows l → Flows (tick_at E now l)
 e_ticks l now late g =
-    e_flows l g (finishes (ticks now l.e)) (finishes_keeps g.k g.fe (ticks now l.e) g.fr l.r (ticks_keeps g.k g.fe now l.e g.fr l.r (e_ready l g)))
+    e_flows l g (finishes (ticks now l.e)) (finishes_keeps l.selective g.k g.fe (ticks now l.e) g.fr l.r (ticks_keeps l.selective g.k g.fe now l.e g.fr l.r (e_ready l g)))
     (elim g.shape [
       | inl a ↦ subst (λ (t : Station). Shape g.n (g.fe ++ t.said) t g.fr l.r) (sym (quiet_ticks now l.e (ap is_down a.0) late (early_cannot l.e (ap is_up a.0)) a.4.4))
           (inl (a.0, a.1, unsaid g.fe l.e g.stands.quiet_x ∙ a.2, a.3, a.4, a.5, a.6))
@@ -162,7 +164,7 @@ e_ticks l now late g =
 
 pub r_ticks : (l : Link) (now : ℕ) → is_late now l.r ≡ false → Flows l → Flows (tick_at R now l)
 r_ticks l now late g =
-    r_flows l g (finishes (ticks now l.r)) (finishes_keeps g.k g.fr (ticks now l.r) g.fe l.e (ticks_keeps g.k g.fr now l.r g.fe l.e (r_ready l g)))
+    r_flows l g (finishes (ticks now l.r)) (finishes_keeps l.selective g.k g.fr (ticks now l.r) g.fe l.e (ticks_keeps l.selective g.k g.fr now l.r g.fe l.e (r_ready l g)))
     (elim g.shape [
       | inl a ↦ subst (λ (t : Station). Shape g.n g.fe l.e (g.fr ++ t.said) t) (sym (quiet_ticks now l.r (ap is_down a.1) late (called_cannot l.r a.5) a.5.4))
           (inl (a.0, a.1, a.2, unsaid g.fr l.r g.stands.quiet_y ∙ a.3, a.4, a.5, a.6))
@@ -180,19 +182,29 @@ pub idle_row : (e : Bool) (x : Station) → row_idle x (set_up e) [] ≡ agrees 
 idle_row true x = refl
 idle_row false x = refl
 
-asked_answer : ControlReadsBack → (k : ℕ) (now : ℕ) (lx : List Frame) (x : Station) (fs : List Frame) (y : Station) → x.phase ≡ Idle → Fresh false x
-    → Pair k lx x (SetUp ∷ fs) y → answered now y SetUp x ≡ agrees true (comes_up (sees now x))
-asked_answer law k now lx x fs y idle fresh h =
-    heard_live now y SetUp x (ap is_down idle)
+pub sets_up : (selective : Bool) (x : Station) → row_as selective Idle x (shown x.extended SetUp) [] ≡ agrees true (comes_up x)
+sets_up true x = idle_row x.extended x
+sets_up false x = idle_row x.extended x
+
+asked_answer : ControlReadsBack → (selective : Bool) (k : ℕ) (now : ℕ) (lx : List Frame) (x : Station) (fs : List Frame) (y : Station) → x.phase ≡ Idle → Fresh false x
+    → Pair selective k lx x (SetUp ∷ fs) y → answered selective now y SetUp x ≡ agrees true (comes_up (sees now x))
+asked_answer law selective k now lx x fs y idle fresh h =
+    ap finishes (heard_live selective now (found y SetUp) x (ap is_down idle))
     ∙ ap (λ t. finishes (sends_waiting t))
-    (heard_row law k lx (sees now x) SetUp fs y h ∙ ap (λ (q : Phase). row q (sees now x) (shown x.extended SetUp) []) idle ∙ idle_row x.extended (sees now x))
+    (heard_row law selective k lx (sees now x) SetUp fs y h ∙ ap (λ (q : Phase). row_as selective q (sees now x) (shown x.extended SetUp) []) idle ∙ sets_up selective (sees now x))
     ∙ quiet (agrees true (comes_up (sees now x))) (called_cannot (agrees true (comes_up (sees now x))) fresh) fresh.4
 
-agreed_answer : ControlReadsBack → (k : ℕ) (now : ℕ) (lx : List Frame) (x : Station) (fs : List Frame) (y : Station) → x.phase ≡ Setting
-    → Pair k lx x (Ua true ∷ fs) y → answered now y (Ua true) x ≡ finishes (sends_waiting (comes_up (record (sees now x) { timer = None; expiries = 0 })))
-agreed_answer law k now lx x fs y setting h =
-    heard_live now y (Ua true) x (ap is_down setting)
-    ∙ ap (λ t. finishes (sends_waiting t)) (heard_row law k lx (sees now x) (Ua true) fs y h ∙ ap (λ (q : Phase). row q (sees now x) (shown x.extended (Ua true)) []) setting)
+-- the calling station is up
+pub agreed_row : (selective : Bool) (x : Station) → row_as selective Setting x (shown x.extended (Ua true)) [] ≡ comes_up (record x { timer = None; expiries = 0 })
+agreed_row true x = refl
+agreed_row false x = refl
+
+agreed_answer : ControlReadsBack → (selective : Bool) (k : ℕ) (now : ℕ) (lx : List Frame) (x : Station) (fs : List Frame) (y : Station) → x.phase ≡ Setting
+    → Pair selective k lx x (Ua true ∷ fs) y → answered selective now y (Ua true) x ≡ finishes (sends_waiting (comes_up (record (sees now x) { timer = None; expiries = 0 })))
+agreed_answer law selective k now lx x fs y setting h =
+    ap finishes (heard_live selective now (found y (Ua true)) x (ap is_down setting))
+    ∙ ap (λ t. finishes (sends_waiting t))
+    (heard_row law selective k lx (sees now x) (Ua true) fs y h ∙ ap (λ (q : Phase). row_as selective q (sees now x) (shown x.extended (Ua true)) []) setting ∙ agreed_row selective (sees now x))
 
 -- ---- a frame is passed
 
@@ -210,17 +222,17 @@ abbrev from_r_passed : Link → List (List ℕ) → List ℕ → Station → Lin
 from_r_passed l rest read x = did E x (record l { from_r = rest; passes = counted l.passes; read_e = read })
 
 e_passed_to : (l : Link) (g : Flows l) (octets : List ℕ) (rest : List (List ℕ)) (f : First l.e octets rest g.fe) (x : Station)
-    → Both g.k g.fr x f.frames l.e → Shape (g.n + 1) f.frames l.e (g.fr ++ x.said) x → x.handed ≡ l.r.handed
+    → Both l.selective g.k g.fr x f.frames l.e → Shape (g.n + 1) f.frames l.e (g.fr ++ x.said) x → x.handed ≡ l.r.handed
     → Passed l g.n (from_e_passed l rest (l.read_r ++ octets_of l.e f.frame) x)
 e_passed_to l g octets rest f x b shape handed =
-    let t = turned g.k g.fe l.e g.fr l.r l.from_e l.from_r l.read_e l.read_r g.stands in
-    let a = acted g.k g.fr l.r g.fe l.e l.from_r l.from_e l.read_r l.read_e x f.frames rest (l.read_r ++ octets_of l.e f.frame) t f.rest_are (flag_behind l.e f.frame l.read_r) b in
+    let t = turned l.selective g.k g.fe l.e g.fr l.r l.from_e l.from_r l.read_e l.read_r g.stands in
+    let a = acted l.selective g.k g.fr l.r g.fe l.e l.from_r l.from_e l.read_r l.read_e x f.frames rest (l.read_r ++ octets_of l.e f.frame) t f.rest_are (flag_behind l.e f.frame l.read_r) b in
     record {
       flows = record {
         k = g.k;
         fe = f.frames;
         fr = g.fr ++ x.said;
-        stands = turned g.k (g.fr ++ x.said) _ f.frames l.e _ _ _ _ a;
+        stands = turned l.selective g.k (g.fr ++ x.said) _ f.frames l.e _ _ _ _ a;
         n = g.n + 1;
         passes = omega (arith, g.passes);
         shape = shape;
@@ -231,10 +243,10 @@ e_passed_to l g octets rest f x b shape handed =
     }
 
 r_passed_to : (l : Link) (g : Flows l) (octets : List ℕ) (rest : List (List ℕ)) (f : First l.r octets rest g.fr) (x : Station)
-    → Both g.k g.fe x f.frames l.r → Shape (g.n + 1) (g.fe ++ x.said) x f.frames l.r → x.handed ≡ l.e.handed
+    → Both l.selective g.k g.fe x f.frames l.r → Shape (g.n + 1) (g.fe ++ x.said) x f.frames l.r → x.handed ≡ l.e.handed
     → Passed l g.n (from_r_passed l rest (l.read_e ++ octets_of l.r f.frame) x)
 r_passed_to l g octets rest f x b shape handed =
-    let a = acted g.k g.fe l.e g.fr l.r l.from_e l.from_r l.read_e l.read_r x f.frames rest (l.read_e ++ octets_of l.r f.frame) g.stands f.rest_are (flag_behind l.r f.frame l.read_e) b in
+    let a = acted l.selective g.k g.fe l.e g.fr l.r l.from_e l.from_r l.read_e l.read_r x f.frames rest (l.read_e ++ octets_of l.r f.frame) g.stands f.rest_are (flag_behind l.r f.frame l.read_e) b in
     record {
       flows = record { k = g.k; fe = g.fe ++ x.said; fr = f.frames; stands = a; n = g.n + 1; passes = omega (arith, g.passes); shape = shape };
       count = refl;
@@ -250,34 +262,34 @@ none_first : (f : Frame) (fs l : List Frame) → l ≡ f ∷ fs → l ≡ [] →
 none_first f fs l p q = let e : f ∷ fs ≡ [] = sym p ∙ q in cc
 
 e_arrives : Frames → (l : Link) (g : Flows l) (octets : List ℕ) (rest : List (List ℕ)) (f : First l.e octets rest g.fe)
-    → Pair g.k g.fr l.r (f.frame ∷ f.frames) l.e → Both g.k g.fr l.r (f.frame ∷ f.frames) l.e
-    → Passed l g.n (from_e_passed l rest (l.read_r ++ octets_of l.e f.frame) (answered l.moment l.e f.frame l.r))
+    → Pair l.selective g.k g.fr l.r (f.frame ∷ f.frames) l.e → Both l.selective g.k g.fr l.r (f.frame ∷ f.frames) l.e
+    → Passed l g.n (from_e_passed l rest (l.read_r ++ octets_of l.e f.frame) (answered l.selective l.moment l.e f.frame l.r))
 e_arrives laws l g octets rest f p b =
-    let kept = answered_keeps laws.back g.k g.fr l.moment l.r f.frame f.frames l.e b in
+    let kept = answered_keeps laws.back l.selective g.k g.fr l.moment l.r f.frame f.frames l.e b in
     elim g.shape [
       | inl a ↦
           let first = first_is f.frame SetUp f.frames [] g.fe f.all a.2 in
-          let q = subst (λ (z : Frame). Pair g.k g.fr l.r (z ∷ f.frames) l.e) first.0 p in
-          let e = ap (λ (z : Frame). answered l.moment l.e z l.r) first.0 ∙ asked_answer laws.back g.k l.moment g.fr l.r f.frames l.e a.1 a.5 q in
+          let q = subst (λ (z : Frame). Pair l.selective g.k g.fr l.r (z ∷ f.frames) l.e) first.0 p in
+          let e = ap (λ (z : Frame). answered l.selective l.moment l.e z l.r) first.0 ∙ asked_answer laws.back l.selective g.k l.moment g.fr l.r f.frames l.e a.1 a.5 q in
           let x : Station = agrees true (comes_up (sees l.moment l.r)) in
           subst (λ (t : Station). Passed l g.n (from_e_passed l rest (l.read_r ++ octets_of l.e f.frame) t)) (sym e)
-          (e_passed_to l g octets rest f x (subst (λ (t : Station). Both g.k g.fr t f.frames l.e) e kept)
+          (e_passed_to l g octets rest f x (subst (λ (t : Station). Both l.selective g.k g.fr t f.frames l.e) e kept)
           (inr (inl (a.0, refl, first.1, ap (λ (t : List Frame). t ++ x.said) a.3 ∙ ap (λ (t : List Frame). t ++ Ua true ∷ []) g.stands.quiet_y, a.4, a.5, ap (λ t. t + 1) a.6))) refl)
       | inr (inl a) ↦ absurd (none_first f.frame f.frames g.fe f.all a.2)
       | inr (inr a) ↦
           let s = within_r g.n g.fr l.r g.fe l.e g.stands.quiet_y (still_swap g.n g.fe l.e g.fr l.r a.0) in
-          let d = answered_flows laws.back false g.n g.k g.fr l.moment l.r f.frame f.frames l.e g.stands.pair.1.0.given b
+          let d = answered_flows laws.back l.selective false g.n g.k g.fr l.moment l.r f.frame f.frames l.e g.stands.pair.1.0.given b
           (subst (λ (t : List Frame). Within false g.n g.fr l.r t l.e) f.all s) in
-          e_passed_to l g octets rest f (answered l.moment l.e f.frame l.r) kept
-          (inr (inr (still_back (g.n + 1) (g.fr ++ (answered l.moment l.e f.frame l.r).said) (answered l.moment l.e f.frame l.r) f.frames l.e d.0, a.1, d.1))) d.2
+          e_passed_to l g octets rest f (answered l.selective l.moment l.e f.frame l.r) kept
+          (inr (inr (still_back (g.n + 1) (g.fr ++ (answered l.selective l.moment l.e f.frame l.r).said) (answered l.selective l.moment l.e f.frame l.r) f.frames l.e d.0, a.1, d.1))) d.2
     ]
 
 -- the calling station is up, and what was handed to it before flows
 pub up_flows : (n : ℕ) (w : List Frame) (x : Station) (y : Station) → x.said ≡ [] → w ≡ [] → y.phase ≡ Up → n ≤ 2 → Fresh true x → Fresh false y → Within true n w (record x { phase = Up }) [] y
 up_flows n w x y quiet none up few hx hy =
     subst (λ (t : List Frame). Still true n t (record x { phase = Up }) [] y) (sym (unsaid w x quiet ∙ none)) (
-      (refl, hx.3, hy.2 ∙ sym hx.0, λ e. hx.1 ∙ sym hy.2, hx.5, hx.6),
-      (up, hy.3, hx.2 ∙ sym hy.0, λ e. hy.1 ∙ sym hx.2, hy.5, hy.6),
+      (refl, hx.3, hy.2 ∙ sym hx.0, λ e. hx.1 ∙ sym hy.2, hx.5, hx.6, hx.7),
+      (up, hy.3, hx.2 ∙ sym hy.0, λ e. hy.1 ∙ sym hx.2, hy.5, hy.6, hy.7),
       tt,
       tt,
       (let ox : one_if x.owed ≡ 0 = ap one_if hx.4 in let oy : one_if y.owed ≡ 0 = ap one_if hy.4 in omega arith),
@@ -285,30 +297,30 @@ up_flows n w x y quiet none up few hx hy =
     )
 
 r_arrives : Frames → (l : Link) (g : Flows l) (octets : List ℕ) (rest : List (List ℕ)) (f : First l.r octets rest g.fr)
-    → Pair g.k g.fe l.e (f.frame ∷ f.frames) l.r → Both g.k g.fe l.e (f.frame ∷ f.frames) l.r
-    → Passed l g.n (from_r_passed l rest (l.read_e ++ octets_of l.r f.frame) (answered l.moment l.r f.frame l.e))
+    → Pair l.selective g.k g.fe l.e (f.frame ∷ f.frames) l.r → Both l.selective g.k g.fe l.e (f.frame ∷ f.frames) l.r
+    → Passed l g.n (from_r_passed l rest (l.read_e ++ octets_of l.r f.frame) (answered l.selective l.moment l.r f.frame l.e))
 r_arrives laws l g octets rest f p b =
-    let kept = answered_keeps laws.back g.k g.fe l.moment l.e f.frame f.frames l.r b in
+    let kept = answered_keeps laws.back l.selective g.k g.fe l.moment l.e f.frame f.frames l.r b in
     elim g.shape [
       | inl a ↦ absurd (none_first f.frame f.frames g.fr f.all a.3)
       | inr (inl a) ↦
           let first = first_is f.frame (Ua true) f.frames [] g.fr f.all a.3 in
-          let q = subst (λ (z : Frame). Pair g.k g.fe l.e (z ∷ f.frames) l.r) first.0 p in
-          let e = ap (λ (z : Frame). answered l.moment l.r z l.e) first.0 ∙ agreed_answer laws.back g.k l.moment g.fe l.e f.frames l.r a.0 q in
+          let q = subst (λ (z : Frame). Pair l.selective g.k g.fe l.e (z ∷ f.frames) l.r) first.0 p in
+          let e = ap (λ (z : Frame). answered l.selective l.moment l.r z l.e) first.0 ∙ agreed_answer laws.back l.selective g.k l.moment g.fe l.e f.frames l.r a.0 q in
           let z : Station = comes_up (record (sees l.moment l.e) { timer = None; expiries = 0 }) in
           let s = up_flows (g.n + 1) g.fe (record (sees l.moment l.e) { timer = None; expiries = 0; deed = z.deed }) l.r g.stands.quiet_x a.2 a.1 (omega (arith, a.6)) a.4 a.5 in
           let d = ends_well true (g.n + 1) g.fe z [] l.r g.stands.pair.0.0.given s in
           let x : Station = finishes (sends_waiting z) in
           subst (λ (t : Station). Passed l g.n (from_r_passed l rest (l.read_e ++ octets_of l.r f.frame) t)) (sym e)
-          (e_is_up l g octets rest f x (subst (λ (t : Station). Both g.k g.fe t f.frames l.r) e kept)
+          (e_is_up l g octets rest f x (subst (λ (t : Station). Both l.selective g.k g.fe t f.frames l.r) e kept)
           (subst (λ (t : List Frame). Still true (g.n + 1) (g.fe ++ x.said) x t l.r) (sym first.1) d.0) d.1 (a.5.4, inl (called_cannot l.r a.5)) d.2)
       | inr (inr a) ↦
           let s = within_e g.n g.fe l.e g.fr l.r g.stands.quiet_x a.0 in
-          let d = answered_flows laws.back true g.n g.k g.fe l.moment l.e f.frame f.frames l.r g.stands.pair.0.0.given b
+          let d = answered_flows laws.back l.selective true g.n g.k g.fe l.moment l.e f.frame f.frames l.r g.stands.pair.0.0.given b
           (subst (λ (t : List Frame). Within true g.n g.fe l.e t l.r) f.all s) in
-          r_passed_to l g octets rest f (answered l.moment l.r f.frame l.e) kept (inr (inr (d.0, d.1, a.2))) d.2
+          r_passed_to l g octets rest f (answered l.selective l.moment l.r f.frame l.e) kept (inr (inr (d.0, d.1, a.2))) d.2
     ] where
-      e_is_up : (l : Link) (g : Flows l) (octets : List ℕ) (rest : List (List ℕ)) (f : First l.r octets rest g.fr) (x : Station) → Both g.k g.fe x f.frames l.r
+      e_is_up : (l : Link) (g : Flows l) (octets : List ℕ) (rest : List (List ℕ)) (f : First l.r octets rest g.fr) (x : Station) → Both l.selective g.k g.fe x f.frames l.r
           → Still true (g.n + 1) (g.fe ++ x.said) x f.frames l.r → AtRest x → AtRest l.r → x.handed ≡ l.e.handed
           → Passed l g.n (from_r_passed l rest (l.read_e ++ octets_of l.r f.frame) x)
       e_is_up l g octets rest f x b still rests others handed = r_passed_to l g octets rest f x b (inr (inr (still, rests, others))) handed
@@ -316,22 +328,22 @@ r_arrives laws l g octets rest f p b =
 pub e_pass : Frames → (l : Link) (g : Flows l) (octets : List ℕ) (rest : List (List ℕ)) → l.from_e ≡ octets ∷ rest → Passed l g.n (pass E (octets ∷ rest) l)
 e_pass laws l g octets rest e =
     let f = first_of_line l.e octets rest g.fe (sym e ∙ g.stands.lined_x) in
-    let t = turned g.k g.fe l.e g.fr l.r l.from_e l.from_r l.read_e l.read_r g.stands in
-    let p : Pair g.k g.fr l.r (f.frame ∷ f.frames) l.e = subst (λ (q : List Frame). Pair g.k g.fr l.r q l.e) f.all t.pair in
-    let b : Both g.k g.fr l.r (f.frame ∷ f.frames) l.e = subst (λ (q : List Frame). Both g.k g.fr l.r q l.e) f.all (r_ready l g) in
+    let t = turned l.selective g.k g.fe l.e g.fr l.r l.from_e l.from_r l.read_e l.read_r g.stands in
+    let p : Pair l.selective g.k g.fr l.r (f.frame ∷ f.frames) l.e = subst (λ (q : List Frame). Pair l.selective g.k g.fr l.r q l.e) f.all t.pair in
+    let b : Both l.selective g.k g.fr l.r (f.frame ∷ f.frames) l.e = subst (λ (q : List Frame). Both l.selective g.k g.fr l.r q l.e) f.all (r_ready l g) in
     subst (λ (os : List ℕ). Passed l g.n (reads R os (record l { from_e = rest; passes = counted l.passes }))) (sym f.octets_are)
     (subst (λ (vs : List Verdict). Passed l g.n (hears_each R vs (record l { from_e = rest; passes = counted l.passes; read_r = l.read_r ++ octets_of l.e f.frame })))
-    (sym (one_event laws.parts laws.alone g.k g.fr l.r f.frame f.frames l.e l.read_r t.flag_x p))
+    (sym (one_event laws.parts laws.alone l.selective g.k g.fr l.r f.frame f.frames l.e l.read_r t.flag_x p))
     (e_arrives laws l g octets rest f p b))
 
 pub r_pass : Frames → (l : Link) (g : Flows l) (octets : List ℕ) (rest : List (List ℕ)) → l.from_r ≡ octets ∷ rest → Passed l g.n (pass R (octets ∷ rest) l)
 r_pass laws l g octets rest e =
     let f = first_of_line l.r octets rest g.fr (sym e ∙ g.stands.lined_y) in
-    let p : Pair g.k g.fe l.e (f.frame ∷ f.frames) l.r = subst (λ (q : List Frame). Pair g.k g.fe l.e q l.r) f.all g.stands.pair in
-    let b : Both g.k g.fe l.e (f.frame ∷ f.frames) l.r = subst (λ (q : List Frame). Both g.k g.fe l.e q l.r) f.all (e_ready l g) in
+    let p : Pair l.selective g.k g.fe l.e (f.frame ∷ f.frames) l.r = subst (λ (q : List Frame). Pair l.selective g.k g.fe l.e q l.r) f.all g.stands.pair in
+    let b : Both l.selective g.k g.fe l.e (f.frame ∷ f.frames) l.r = subst (λ (q : List Frame). Both l.selective g.k g.fe l.e q l.r) f.all (e_ready l g) in
     subst (λ (os : List ℕ). Passed l g.n (reads E os (record l { from_r = rest; passes = counted l.passes }))) (sym f.octets_are)
     (subst (λ (vs : List Verdict). Passed l g.n (hears_each E vs (record l { from_r = rest; passes = counted l.passes; read_e = l.read_e ++ octets_of l.r f.frame })))
-    (sym (one_event laws.parts laws.alone g.k g.fe l.e f.frame f.frames l.r l.read_e g.stands.flag_x p))
+    (sym (one_event laws.parts laws.alone l.selective g.k g.fe l.e f.frame f.frames l.r l.read_e g.stands.flag_x p))
     (r_arrives laws l g octets rest f p b))
 
 -- ---- a payload and a tick deliver nothing

@@ -1,22 +1,25 @@
 -- A loss-free line whose stations are both up: one station acts, and what flows keeps its shape.
-use Rattle.std.proofs.Common.{if◌then◌else◌, ◌≡◌, ℕ, zero, suc, ◌+◌, ◌%◌, ◌<◌, ◌≤◌, inl, inr, Bool, true, false, not, List, [], ◌∷◌, ◌++◌, length, Option, refl, sym, ◌∙◌, ap, subst, arith, length-append, append_assoc, append-nil, eq-eqb, true≢false}
-use Rattle.std.specs.Prelude.{slice_index_or}
+use Rattle.std.proofs.Common.{if◌then◌else◌, ◌≡◌, ℕ, zero, suc, ◌+◌, ◌%◌, ◌<◌, ◌≤◌, inl, inr, Bool, true, false, not, List, [], ◌∷◌, ◌++◌, length, Option, Some, None, refl, sym, ◌∙◌, ap, subst, arith, length-append, append_assoc, append-nil, eq-eqb, true≢false}
+use Rattle.std.specs.Prelude.{slice_index_or, nat_le, ◌-◌}
 use Rattle.std.proofs.lemmas.Bool.{cases_Bool, cond_both}
-use Rattle.hdlc_frames.specs.Framing.{Frame as Frame_found}
+use Rattle.std.specs.List.{filter}
+use Rattle.hdlc_frames.specs.Framing.{Verdict, Frame as Frame_found}
 use Rattle.hdlc_frames.specs.Laws.{ControlReadsBack}
 use Rattle.station_model.specs.declared.phase.Phase.{Phase}
 use Rattle.station_model.specs.declared.phase.Phase.TheVariants.{Up}
 use Rattle.station_model.specs.Frames.{Frame, Info, Rr, Rej, Srej, SetUp, Disc, Dm, Ua, modulo, shown, information, sent_address, sent_body}
 use Rattle.station_model.specs.Stations.{Station, is_down, sees, puts}
 use Rattle.station_model.specs.Sending.{info_at, can_send, waiting, sends_next, sends_up_to, sends_waiting, settles, expires, expires_if_due}
-use Rattle.station_model.specs.Receiving.{acknowledges, acknowledging, accepts, rejects, takes, marks_busy, row, hears}
+use Rattle.station_model.specs.Receiving.{named, acknowledges, acknowledging, accepts, rejects, takes, marks_busy}
+use Rattle.station_model.specs.Selective.{held_for, is_found, without_gap, takes_run, holds, says_next, files_at, files, receives_as}
 use Rattle.station_model.specs.Calls.{hands, finishes, ticks}
 use Rattle.station_model.specs.Events.{is_late}
 use Rattle.station_pair.specs.Invariant.{Pair, infos, numbers, marks, info_of, number_of}
+use Rattle.station_pair.specs.Keeping.{found}
 use Rattle.station_pair.specs.Flowing.{Consecutive, Ends, IsData, AllData, one_if, Flow, Rises, Still, Rests, AtRest}
 use Rattle.station_pair.proofs.Keeps.{more}
 use Rattle.station_pair.proofs.Rows.{named_is, may_come}
-use Rattle.station_pair.proofs.Hearing.{frame_heard}
+use Rattle.station_pair.proofs.Hearing.{row_as, hears_as, received, frame_heard}
 use Rattle.station_pair.proofs.Events.{not_not}
 use Rattle.station_pair.proofs.Lines.{answered}
 
@@ -89,7 +92,7 @@ rr_flows c n lx x ly y owed h =
     let len = length_push lx f in
     let one : one_if x.owed ≡ 1 = ap one_if owed in (
       subst (λ i. Flow c i (numbers ly) x y) (sym (more info_of lx f ∙ append-nil (infos lx))) h.0,
-      (h.1.0, h.1.1, h.1.2, λ e. subst (λ ns. Ends y.acked ns (length x.taken)) (sym (more number_of lx f)) (ends_push y.acked (length x.taken) (numbers lx)), h.1.4, h.1.5),
+      (h.1.0, h.1.1, h.1.2, λ e. subst (λ ns. Ends y.acked ns (length x.taken)) (sym (more number_of lx f)) (ends_push y.acked (length x.taken) (numbers lx)), h.1.4, h.1.5, h.1.6),
       data_push lx f h.2 tt,
       h.3,
       omega (arith, h.4),
@@ -112,8 +115,9 @@ next_flows c n lx x ly y h =
         h.0.3,
         h.0.4,
         h.0.5,
+        h.0.6,
       ),
-      (h.1.0, h.1.1, h.1.2, λ e. subst (λ ns. Ends y.acked ns (length x.taken)) (sym (more number_of lx f)) (ends_push y.acked (length x.taken) (numbers lx)), h.1.4, h.1.5),
+      (h.1.0, h.1.1, h.1.2, λ e. subst (λ ns. Ends y.acked ns (length x.taken)) (sym (more number_of lx f)) (ends_push y.acked (length x.taken) (numbers lx)), h.1.4, h.1.5, h.1.6),
       data_push lx f h.2 tt,
       h.3,
       omega (arith, h.4),
@@ -177,42 +181,89 @@ ends_well c n w x l y given h =
 
 -- ---- what is heard
 
--- a frame at a station that isn't released
-pub heard_live : (now : ℕ) (y : Station) (f : Frame) (x : Station) → is_down x.phase ≡ false
-    → answered now y f x ≡ finishes (sends_waiting (hears (Frame_found (sent_address y.calling f) (sent_body y.extended f)) (sees now x)))
-heard_live now y f x live =
-    ap (λ (b : Bool). finishes (if b then x else sends_waiting (hears (Frame_found (sent_address y.calling f) (sent_body y.extended f)) (sees now x)))) live
+-- behind the next payload: the gap mark, what is held and what was asked for, of either kind
+abbrev pub gap_behind : (selective : Bool) → Station → Bool
+gap_behind true x = x.gap
+gap_behind false x = false
 
--- it comes to its row
-pub heard_row : ControlReadsBack → (k : ℕ) (lx : List Frame) (x : Station) (f : Frame) (fs : List Frame) (y : Station) → Pair k lx x (f ∷ fs) y
-    → hears (Frame_found (sent_address y.calling f) (sent_body y.extended f)) x ≡ row x.phase x (shown x.extended f) (information f)
-heard_row law k lx x f fs y h =
-    ap (λ (c : Bool). hears (Frame_found (sent_address c f) (sent_body y.extended f)) x) (not_not x.calling y.calling h.2)
-    ∙ ap (λ (e : Bool). hears (Frame_found (sent_address (not x.calling) f) (sent_body e f)) x) (sym h.3)
-    ∙ frame_heard law x f (may_come k lx x f fs y h)
+abbrev pub held_behind : (selective : Bool) → Station → List (ℕ × List ℕ)
+held_behind true x = filter (λ h. nat_le (length x.taken + 1 + 0) h.0) x.held
+held_behind false x = x.held
 
-pub info_is : ControlReadsBack → (k : ℕ) (lx : List Frame) (x : Station) (m r : ℕ) (p : List ℕ) (fs : List Frame) (y : Station) → x.phase ≡ Up → length x.taken ≡ m
-    → Pair k lx x (Info m r p ∷ fs) y → hears (Frame_found (sent_address y.calling (Info m r p)) (sent_body y.extended (Info m r p))) x ≡ accepts p (acknowledges r x)
-info_is law k lx x m r p fs y up same h =
-    heard_row law k lx x (Info m r p) fs y h
-    ∙ ap (λ (q : Phase). row q x (shown x.extended (Info m r p)) p) up
-    ∙ ap (λ (o : Option ℕ). acknowledging o (takes (m % modulo x.extended) p) x) (named_is k r (infos lx) (marks lx) (numbers fs) x y h.4 h.0)
+abbrev pub asked_behind : (selective : Bool) → Station → List ℕ
+asked_behind true x = filter (λ n. nat_le (length x.taken + 1 + 0) n) x.asked
+asked_behind false x = x.asked
+
+-- the next payload is taken by a station that holds none behind it
+abbrev pub takes_next : (selective : Bool) → List ℕ → Station → Station
+takes_next selective p x = record (accepts p x) { gap = gap_behind selective x; held = held_behind selective x; asked = asked_behind selective x }
+
+none_behind : (selective : Bool) (x : Station) → x.held ≡ [] → held_behind selective x ≡ []
+none_behind true x none = ap (filter (λ (h : ℕ × List ℕ). nat_le (length x.taken + 1 + 0) h.0)) none
+none_behind false x none = none
+
+-- something is found for a station that isn't released
+pub heard_live : (selective : Bool) (now : ℕ) (v : Verdict) (x : Station) → is_down x.phase ≡ false
+    → receives_as selective now v x ≡ sends_waiting (hears_as selective v (sees now x))
+heard_live selective now v x live =
+    received selective now v x ∙ ap (λ (b : Bool). if b then x else sends_waiting (hears_as selective v (sees now x))) live
+
+-- a frame comes to its row
+pub heard_row : ControlReadsBack → (selective : Bool) (k : ℕ) (lx : List Frame) (x : Station) (f : Frame) (fs : List Frame) (y : Station) → Pair selective k lx x (f ∷ fs) y
+    → hears_as selective (found y f) x ≡ row_as selective x.phase x (shown x.extended f) (information f)
+heard_row law selective k lx x f fs y h =
+    ap (λ (c : Bool). hears_as selective (Frame_found (sent_address c f) (sent_body y.extended f)) x) (not_not x.calling y.calling h.2)
+    ∙ ap (λ (e : Bool). hears_as selective (Frame_found (sent_address (not x.calling) f) (sent_body e f)) x) (sym h.3)
+    ∙ frame_heard law selective x f (may_come selective k lx x f fs y h)
+
+-- N(S) is the next number: it is named first
+named_first : (e : Bool) (a n : ℕ) → named e a n (a % modulo e) ≡ Some a
+named_first e a zero = ap (λ (b : Bool). if b then Some a else None) (eq-eqb (a % modulo e) (a % modulo e) refl)
+named_first e a (suc n) = ap (λ (b : Bool). if b then Some a else named e (a + 1) n (a % modulo e)) (eq-eqb (a % modulo e) (a % modulo e) refl)
+
+next_filed : (p : List ℕ) (x : Station) → x.held ≡ [] → files (length x.taken % modulo x.extended) p x ≡ takes_next true p x
+next_filed p x none =
+    ap (λ (o : Option ℕ). files_at o p x) (named_first x.extended (length x.taken) (x.window - 1))
+    ∙ ap (λ (b : Bool). if b then takes_run p (without_gap (length x.held) (length x.taken + 1) x.held) x
+    else (if is_found (held_for (length x.taken) x.held) then says_next x else holds (length x.taken) p x)) (eq-eqb (length x.taken) (length x.taken) refl)
+    ∙ ap (λ (held : List (ℕ × List ℕ)). takes_run p (without_gap (length held) (length x.taken + 1) held) x) none
+
+next_taken : (selective : Bool) (x : Station) (m r : ℕ) (p : List ℕ) → length x.taken ≡ m → x.held ≡ [] → named x.extended x.acked (x.sent - x.acked) (r % modulo x.extended) ≡ Some r
+    → row_as selective Up x (shown x.extended (Info m r p)) p ≡ takes_next selective p (acknowledges r x)
+next_taken true x m r p same none is =
+    ap (λ (o : Option ℕ). acknowledging o (files (m % modulo x.extended) p) x) is
+    ∙ ap (λ (j : ℕ). files (j % modulo x.extended) p (acknowledges r x)) (sym same)
+    ∙ next_filed p (acknowledges r x) none
+next_taken false x m r p same none is =
+    ap (λ (o : Option ℕ). acknowledging o (takes (m % modulo x.extended) p) x) is
     ∙ ap (λ (b : Bool). if b then accepts p (acknowledges r x) else rejects (acknowledges r x))
     (eq-eqb (length x.taken % modulo x.extended) (m % modulo x.extended) (ap (λ t. t % modulo x.extended) same))
 
-pub rr_is : ControlReadsBack → (k : ℕ) (lx : List Frame) (x : Station) (r : ℕ) (fs : List Frame) (y : Station) → x.phase ≡ Up
-    → Pair k lx x (Rr r ∷ fs) y → hears (Frame_found (sent_address y.calling (Rr r)) (sent_body y.extended (Rr r))) x ≡ marks_busy false (acknowledges r x)
-rr_is law k lx x r fs y up h =
-    heard_row law k lx x (Rr r) fs y h
-    ∙ ap (λ (q : Phase). row q x (shown x.extended (Rr r)) []) up
-    ∙ ap (λ (o : Option ℕ). acknowledging o (marks_busy false) x) (named_is k r (infos lx) (marks lx) (numbers fs) x y h.4 h.0)
+ready_row : (selective : Bool) (x : Station) (r : ℕ) → named x.extended x.acked (x.sent - x.acked) (r % modulo x.extended) ≡ Some r
+    → row_as selective Up x (shown x.extended (Rr r)) [] ≡ marks_busy false (acknowledges r x)
+ready_row true x r is = ap (λ (o : Option ℕ). acknowledging o (marks_busy false) x) is
+ready_row false x r is = ap (λ (o : Option ℕ). acknowledging o (marks_busy false) x) is
 
-pub info_flows : (c : Bool) (n : ℕ) (lx : List Frame) (x : Station) (m r : ℕ) (p : List ℕ) (fs : List Frame) (y : Station)
-    → Still c n lx x (Info m r p ∷ fs) y → Still c (n + 1) lx (accepts p (acknowledges r x)) fs y
-info_flows c n lx x m r p fs y h =
+pub info_is : ControlReadsBack → (selective : Bool) (k : ℕ) (lx : List Frame) (x : Station) (m r : ℕ) (p : List ℕ) (fs : List Frame) (y : Station) → x.phase ≡ Up → length x.taken ≡ m
+    → x.held ≡ [] → Pair selective k lx x (Info m r p ∷ fs) y → hears_as selective (found y (Info m r p)) x ≡ takes_next selective p (acknowledges r x)
+info_is law selective k lx x m r p fs y up same none h =
+    heard_row law selective k lx x (Info m r p) fs y h
+    ∙ ap (λ (q : Phase). row_as selective q x (shown x.extended (Info m r p)) p) up
+    ∙ next_taken selective x m r p same none (named_is selective k r (infos lx) (marks selective lx) (numbers fs) x y h.4 h.0)
+
+pub rr_is : ControlReadsBack → (selective : Bool) (k : ℕ) (lx : List Frame) (x : Station) (r : ℕ) (fs : List Frame) (y : Station) → x.phase ≡ Up
+    → Pair selective k lx x (Rr r ∷ fs) y → hears_as selective (found y (Rr r)) x ≡ marks_busy false (acknowledges r x)
+rr_is law selective k lx x r fs y up h =
+    heard_row law selective k lx x (Rr r) fs y h
+    ∙ ap (λ (q : Phase). row_as selective q x (shown x.extended (Rr r)) []) up
+    ∙ ready_row selective x r (named_is selective k r (infos lx) (marks selective lx) (numbers fs) x y h.4 h.0)
+
+pub info_flows : (selective c : Bool) (n : ℕ) (lx : List Frame) (x : Station) (m r : ℕ) (p : List ℕ) (fs : List Frame) (y : Station)
+    → Still c n lx x (Info m r p ∷ fs) y → Still c (n + 1) lx (takes_next selective p (acknowledges r x)) fs y
+info_flows selective c n lx x m r p fs y h =
     let len : length (x.taken ++ p ∷ []) ≡ length x.taken + 1 = length-append x.taken (p ∷ []) in (
-      (h.0.0, h.0.1, h.0.2, h.0.3, h.0.4, h.0.5),
-      (h.1.0, h.1.1, subst (λ (j : ℕ). Consecutive j (infos fs) y.sent) (sym len) h.1.2.1, λ e. absurd (true≢false e), h.1.4, h.1.5),
+      (h.0.0, h.0.1, h.0.2, h.0.3, h.0.4, h.0.5, none_behind selective (acknowledges r x) h.0.6),
+      (h.1.0, h.1.1, subst (λ (j : ℕ). Consecutive j (infos fs) y.sent) (sym len) h.1.2.1, λ e. absurd (true≢false e), h.1.4, h.1.5, h.1.6),
       h.2,
       h.3.1,
       omega (arith, h.4),
@@ -225,29 +276,29 @@ info_flows c n lx x m r p fs y h =
 pub rr_heard_flows : (c : Bool) (n : ℕ) (lx : List Frame) (x : Station) (r : ℕ) (fs : List Frame) (y : Station)
     → Still c n lx x (Rr r ∷ fs) y → Still c (n + 1) lx (marks_busy false (acknowledges r x)) fs y
 rr_heard_flows c n lx x r fs y h =
-    ((h.0.0, refl, h.0.2, h.0.3, h.0.4, h.0.5), (h.1.0, h.1.1, h.1.2, h.1.3, h.1.4, h.1.5), h.2, h.3.1, omega (arith, h.4), record { own = h.5.own; peers = h.5.peers.1 })
+    ((h.0.0, refl, h.0.2, h.0.3, h.0.4, h.0.5, h.0.6), (h.1.0, h.1.1, h.1.2, h.1.3, h.1.4, h.1.5, h.1.6), h.2, h.3.1, omega (arith, h.4), record { own = h.5.own; peers = h.5.peers.1 })
 
 -- both are up: the first frame of y comes to x
-pub answered_flows : ControlReadsBack → (c : Bool) (n k : ℕ) (w : List Frame) (now : ℕ) (x : Station) (f : Frame) (fs : List Frame) (y : Station)
-    → x.sent ≤ length x.handed → Pair k (w ++ x.said) x (f ∷ fs) y → Within c n w x (f ∷ fs) y → Done c (n + 1) w fs y x.handed (answered now y f x)
-answered_flows law c n k w now x (Info m r p) fs y given h s =
+pub answered_flows : ControlReadsBack → (selective c : Bool) (n k : ℕ) (w : List Frame) (now : ℕ) (x : Station) (f : Frame) (fs : List Frame) (y : Station)
+    → x.sent ≤ length x.handed → Pair selective k (w ++ x.said) x (f ∷ fs) y → Within c n w x (f ∷ fs) y → Done c (n + 1) w fs y x.handed (answered selective now y f x)
+answered_flows law selective c n k w now x (Info m r p) fs y given h s =
     let z : Station = sees now x in
     subst (λ (t : Station). Done c (n + 1) w fs y x.handed t)
-    (sym (heard_live now y (Info m r p) x (up_not_down x.phase s.0.0)
-    ∙ ap (λ t. finishes (sends_waiting t)) (info_is law k (w ++ x.said) z m r p fs y s.0.0 (sym s.1.2.0) h)))
-    (ends_well c (n + 1) w (accepts p (acknowledges r z)) fs y given (info_flows c n (w ++ x.said) z m r p fs y s))
-answered_flows law c n k w now x (Rr r) fs y given h s =
+    (sym (ap finishes (heard_live selective now (found y (Info m r p)) x (up_not_down x.phase s.0.0))
+    ∙ ap (λ t. finishes (sends_waiting t)) (info_is law selective k (w ++ x.said) z m r p fs y s.0.0 (sym s.1.2.0) s.0.6 h)))
+    (ends_well c (n + 1) w (takes_next selective p (acknowledges r z)) fs y given (info_flows selective c n (w ++ x.said) z m r p fs y s))
+answered_flows law selective c n k w now x (Rr r) fs y given h s =
     let z : Station = sees now x in
     subst (λ (t : Station). Done c (n + 1) w fs y x.handed t)
-    (sym (heard_live now y (Rr r) x (up_not_down x.phase s.0.0)
-    ∙ ap (λ t. finishes (sends_waiting t)) (rr_is law k (w ++ x.said) z r fs y s.0.0 h)))
+    (sym (ap finishes (heard_live selective now (found y (Rr r)) x (up_not_down x.phase s.0.0))
+    ∙ ap (λ t. finishes (sends_waiting t)) (rr_is law selective k (w ++ x.said) z r fs y s.0.0 h)))
     (ends_well c (n + 1) w (marks_busy false (acknowledges r z)) fs y given (rr_heard_flows c n (w ++ x.said) z r fs y s))
-answered_flows law c n k w now x (Rej r) fs y given h s = absurd s.3.0
-answered_flows law c n k w now x (Srej r) fs y given h s = absurd s.3.0
-answered_flows law c n k w now x SetUp fs y given h s = absurd s.3.0
-answered_flows law c n k w now x Disc fs y given h s = absurd s.3.0
-answered_flows law c n k w now x Dm fs y given h s = absurd s.3.0
-answered_flows law c n k w now x (Ua final) fs y given h s = absurd s.3.0
+answered_flows law selective c n k w now x (Rej r) fs y given h s = absurd s.3.0
+answered_flows law selective c n k w now x (Srej r) fs y given h s = absurd s.3.0
+answered_flows law selective c n k w now x SetUp fs y given h s = absurd s.3.0
+answered_flows law selective c n k w now x Disc fs y given h s = absurd s.3.0
+answered_flows law selective c n k w now x Dm fs y given h s = absurd s.3.0
+answered_flows law selective c n k w now x (Ua final) fs y given h s = absurd s.3.0
 
 -- a payload is handed down
 pub handed_flows : (c : Bool) (n : ℕ) (w : List Frame) (now : ℕ) (p : List ℕ) (x : Station) (l : List Frame) (y : Station)

@@ -1,13 +1,17 @@
 -- A frame that a station sent, read by the other one: it comes to the row of its control, with its numbers modulo the modulo.
-use Rattle.std.proofs.Common.{◌≡◌, ◌<◌, ◌≤◌, Bool, true, false, not, length, Some, refl, arith}
+use Rattle.std.proofs.Common.{if◌then◌else◌, ◌≡◌, ℕ, ◌<◌, ◌≤◌, Bool, true, false, not, List, length, Some, refl, arith}
 use Rattle.std.proofs.Math.Nat.{mod-lt}
 use Rattle.hdlc_frames.specs.Controls.{control_octets, IsBelow}
 use Rattle.hdlc_frames.specs.ControlOctets.{control_of}
-use Rattle.hdlc_frames.specs.Framing.{Frame as Frame_found}
+use Rattle.hdlc_frames.specs.declared.controls.Control.{Control}
+use Rattle.hdlc_frames.specs.Framing.{Verdict, Frame as Frame_found}
 use Rattle.hdlc_frames.specs.Laws.{ControlReadsBack}
+use Rattle.station_model.specs.declared.phase.Phase.{Phase}
 use Rattle.station_model.specs.Frames.{Frame, Info, Rr, Rej, Srej, SetUp, Disc, Dm, Ua, modulo, shown, poll_final, information, sent_address, table_octets, sent_body}
-use Rattle.station_model.specs.Stations.{Station}
+use Rattle.station_model.specs.Stations.{Station, is_down, sees}
+use Rattle.station_model.specs.Sending.{sends_waiting}
 use Rattle.station_model.specs.Receiving.{is_known_address, is_addressed, is_error, row, hears}
+use Rattle.station_model.specs.Selective.{is_selective_error, selective_row, selective_hears, receives_as}
 
 -- the table has octets for each frame
 has_octets : (e : Bool) (f : Frame) → control_octets (modulo e) (shown e f) (poll_final f) ≡ Some (table_octets (control_octets (modulo e) (shown e f) (poll_final f)))
@@ -85,22 +89,36 @@ addressed false e Disc = refl
 addressed false e Dm = refl
 addressed false e (Ua final) = refl
 
--- the set-up frame comes to called stations alone, and SREJ to none
-abbrev pub MayCome : Bool → Frame → Type 0
-MayCome c (Info ns nr payload) = Unit {0}
-MayCome c (Rr nr) = Unit {0}
-MayCome c (Rej nr) = Unit {0}
-MayCome c (Srej nr) = ⊥
-MayCome c SetUp = c ≡ false
-MayCome c Disc = Unit {0}
-MayCome c Dm = Unit {0}
-MayCome c (Ua final) = Unit {0}
+-- what a station of either kind does
+abbrev pub row_as : (selective : Bool) → Phase → Station → Control → List ℕ → Station
+row_as true p s c information = selective_row p s c information
+row_as false p s c information = row p s c information
 
-no_error : (c e : Bool) (f : Frame) → MayCome c f → is_error c (shown e f) (information f) ≡ false
+abbrev pub hears_as : (selective : Bool) → Verdict → Station → Station
+hears_as true verdict s = selective_hears verdict s
+hears_as false verdict s = hears verdict s
+
+pub received : (selective : Bool) (now : ℕ) (verdict : Verdict) (s : Station)
+    → receives_as selective now verdict s ≡ (if is_down s.phase then s else sends_waiting (hears_as selective verdict (sees now s)))
+received true now verdict s = refl
+received false now verdict s = refl
+
+-- the set-up frame comes to called stations alone, SREJ to those with selective reject, and REJ to those with go-back
+abbrev pub MayCome : (selective : Bool) → Bool → Frame → Type 0
+MayCome selective c (Info ns nr payload) = Unit {0}
+MayCome selective c (Rr nr) = Unit {0}
+MayCome selective c (Rej nr) = selective ≡ false
+MayCome selective c (Srej nr) = selective ≡ true
+MayCome selective c SetUp = c ≡ false
+MayCome selective c Disc = Unit {0}
+MayCome selective c Dm = Unit {0}
+MayCome selective c (Ua final) = Unit {0}
+
+no_error : (c e : Bool) (f : Frame) → MayCome false c f → is_error c (shown e f) (information f) ≡ false
 no_error c e (Info ns nr payload) h = refl
 no_error c e (Rr nr) h = refl
 no_error c e (Rej nr) h = refl
-no_error c e (Srej nr) h = absurd h
+no_error c e (Srej nr) h = absurd cc
 no_error true true SetUp h = absurd cc
 no_error true false SetUp h = absurd cc
 no_error false true SetUp h = refl
@@ -109,9 +127,24 @@ no_error c e Disc h = refl
 no_error c e Dm h = refl
 no_error c e (Ua final) h = refl
 
-pub frame_heard : ControlReadsBack → (x : Station) (f : Frame) → MayCome x.calling f
-    → hears (Frame_found (sent_address (not x.calling) f) (sent_body x.extended f)) x ≡ row x.phase x (shown x.extended f) (information f)
-frame_heard law x f may =
+no_selective_error : (c e : Bool) (f : Frame) → MayCome true c f → is_selective_error c (shown e f) (information f) ≡ false
+no_selective_error c e (Info ns nr payload) h = refl
+no_selective_error c e (Rr nr) h = refl
+no_selective_error c e (Rej nr) h = absurd cc
+no_selective_error c e (Srej nr) h = refl
+no_selective_error true true SetUp h = absurd cc
+no_selective_error true false SetUp h = absurd cc
+no_selective_error false true SetUp h = refl
+no_selective_error false false SetUp h = refl
+no_selective_error c e Disc h = refl
+no_selective_error c e Dm h = refl
+no_selective_error c e (Ua final) h = refl
+
+pub frame_heard : ControlReadsBack → (selective : Bool) (x : Station) (f : Frame) → MayCome selective x.calling f
+    → hears_as selective (Frame_found (sent_address (not x.calling) f) (sent_body x.extended f)) x ≡ row_as selective x.phase x (shown x.extended f) (information f)
+frame_heard law true x f may =
+    rw (known (not x.calling) f, body_reads law x.extended f, addressed x.calling x.extended f, no_selective_error x.calling x.extended f may) refl
+frame_heard law false x f may =
     rw (known (not x.calling) f, body_reads law x.extended f, addressed x.calling x.extended f, no_error x.calling x.extended f may) refl
 
 -- a body has an octet, and not more than a deframer reads

@@ -15,37 +15,37 @@ use Rattle.station_pair.proofs.Rows.{first_gone, first_twice}
 use Rattle.station_pair.proofs.Events.{swap, receives_keeps, hands_keeps, finishes_keeps, ticks_keeps, set_up_sent, closes_at_keeps}
 use Rattle.station_pair.proofs.Lines.{one_event, flag_behind}
 
-starts_at_keeps : (k : ℕ) (w : List Frame) (p : Phase) (x : Station) (l : List Frame) (y : Station)
-    → Both k w (record x { phase = p }) l y → Both k w (starts_at p (record x { phase = p })) l y
-starts_at_keeps k w Idle x l y b =
-    cond_both x.calling (starts_timer (puts SetUp (record x { phase = Setting }))) (record x { phase = Idle }) (λ t. Both k w t l y)
-    (λ e. set_up_sent k w (record x { phase = Setting }) l y b.0.2 e ((b.0.0, b.0.1, (b.0.2, e), b.0.3, b.0.4, b.0.5), b.1, b.2, b.3, b.4))
+starts_at_keeps : (selective : Bool) (k : ℕ) (w : List Frame) (p : Phase) (x : Station) (l : List Frame) (y : Station)
+    → Both selective k w (record x { phase = p }) l y → Both selective k w (starts_at p (record x { phase = p })) l y
+starts_at_keeps selective k w Idle x l y b =
+    cond_both x.calling (starts_timer (puts SetUp (record x { phase = Setting }))) (record x { phase = Idle }) (λ t. Both selective k w t l y)
+    (λ e. set_up_sent selective k w (record x { phase = Setting }) l y b.0.2 e ((b.0.0, b.0.1, (b.0.2, e), b.0.3, b.0.4, b.0.5, b.0.6), b.1, b.2, b.3, b.4))
     (λ e. b)
-starts_at_keeps k w Setting x l y b = b
-starts_at_keeps k w Up x l y b = b
-starts_at_keeps k w Down x l y b = b
+starts_at_keeps selective k w Setting x l y b = b
+starts_at_keeps selective k w Up x l y b = b
+starts_at_keeps selective k w Down x l y b = b
 
-starts_keeps : (k : ℕ) (w : List Frame) (now : ℕ) (x : Station) (l : List Frame) (y : Station) → Both k w x l y → Both k w (starts now x) l y
-starts_keeps k w now x l y b =
-    cond_both (is_down x.phase) x (starts_at x.phase (sees now x)) (λ t. Both k w t l y) (λ e. b) (λ e. starts_at_keeps k w x.phase (sees now x) l y b)
+starts_keeps : (selective : Bool) (k : ℕ) (w : List Frame) (now : ℕ) (x : Station) (l : List Frame) (y : Station) → Both selective k w x l y → Both selective k w (starts now x) l y
+starts_keeps selective k w now x l y b =
+    cond_both (is_down x.phase) x (starts_at x.phase (sees now x)) (λ t. Both selective k w t l y) (λ e. b) (λ e. starts_at_keeps selective k w x.phase (sees now x) l y b)
 
-closes_keeps : (k : ℕ) (w : List Frame) (x : Station) (l : List Frame) (y : Station) → Both k w x l y → Both k w (closes x) l y
-closes_keeps k w x l y b =
-    cond_both (is_down x.phase) x (record (closes_at x.phase x) { phase = Down; timer = None }) (λ t. Both k w t l y) (λ e. b)
+closes_keeps : (selective : Bool) (k : ℕ) (w : List Frame) (x : Station) (l : List Frame) (y : Station) → Both selective k w x l y → Both selective k w (closes x) l y
+closes_keeps selective k w x l y b =
+    cond_both (is_down x.phase) x (record (closes_at x.phase x) { phase = Down; timer = None }) (λ t. Both selective k w t l y) (λ e. b)
     (λ e.
-    let c = closes_at_keeps k w x.phase x l y b in
-    down_keeps k w (closes_at x.phase x) l y (closes_at x.phase x).released c.0.5 c)
+    let c = closes_at_keeps selective k w x.phase x l y b in
+    down_keeps selective k w (closes_at x.phase x) l y (closes_at x.phase x).released c.0.5 c)
 
 below : (extended : Bool) (window : ℕ) → window < modulo extended → (modulo extended - 1 + 1 ≡ modulo extended) × (window ≤ modulo extended - 1)
 below true window h = (refl, omega arith)
 below false window h = (refl, omega arith)
 
 pair_made : (extended : Bool) (window n2 t1 : ℕ) → 1 ≤ window → window < modulo extended
-    → Pair (modulo extended - 1) [] (made true extended window n2 t1) [] (made false extended window n2 t1)
+    → Pair false (modulo extended - 1) [] (made true extended window n2 t1) [] (made false extended window n2 t1)
 pair_made extended window n2 t1 some few =
     let b = below extended window few in (
-      (record { prefix = refl; window = omega arith; given = omega arith; chain = omega arith; climb = omega arith }, omega arith, refl, b.1, tt, tt),
-      (record { prefix = refl; window = omega arith; given = omega arith; chain = omega arith; climb = omega arith }, omega arith, refl, b.1, tt, tt),
+      (record { prefix = refl; window = omega arith; given = omega arith; chain = omega arith; climb = omega arith }, omega arith, refl, b.1, tt, tt, refl),
+      (record { prefix = refl; window = omega arith; given = omega arith; chain = omega arith; climb = omega arith }, omega arith, refl, b.1, tt, tt, refl),
       refl,
       refl,
       b.0,
@@ -63,6 +63,6 @@ calls_keep back parts alone = record {
   closed = closes_keeps;
   lost = first_gone;
   repeated = first_twice;
-  one_frame = λ k lx x f fs y read flag h. one_event parts alone k lx x f fs y read flag h;
+  one_frame = λ selective k lx x f fs y read flag h. one_event parts alone selective k lx x f fs y read flag h;
   at_flag = flag_behind;
 }

@@ -1,10 +1,14 @@
 pub mod Ways
+pub mod Holding
 pub mod Hearing
 pub mod Streams
 pub mod Keeps
 pub mod Rows
+pub mod GoBackRows
+pub mod SelectiveRows
 pub mod Events
 pub mod Lines
+pub mod Opened
 pub mod Runs
 pub mod Flows
 pub mod Delivers
@@ -13,3 +17,4 @@ pub mod Counted
 pub mod Telling
 pub mod Keeping
 pub mod LossFree
+pub mod Giving

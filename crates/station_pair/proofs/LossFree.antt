@@ -7,15 +7,17 @@ use Rattle.station_model.specs.declared.phase.Phase.TheVariants.{Up}
 use Rattle.station_model.specs.Frames.{Frame, Info, Rr, Rej, Srej, SetUp, Disc, Dm, Ua, shown}
 use Rattle.station_model.specs.Stations.{Station, is_up, is_down, sees, settled}
 use Rattle.station_model.specs.Sending.{can_send, waiting, sends_next, sends_up_to, sends_waiting, settles, expires_if_due}
-use Rattle.station_model.specs.Receiving.{acknowledges, accepts, marks_busy, agrees, comes_up, row, hears}
-use Rattle.station_model.specs.Calls.{receives, hands, finishes, ticks}
+use Rattle.station_model.specs.Receiving.{acknowledges, marks_busy, agrees, comes_up}
+use Rattle.station_model.specs.Selective.{receives_as}
+use Rattle.station_model.specs.Calls.{hands, finishes, ticks}
 use Rattle.station_model.specs.Events.{is_late}
 use Rattle.station_pair.specs.Invariant.{Pair, Both}
 use Rattle.station_pair.specs.Flowing.{one_if, Still, AtRest, Fresh, Asked, Agreed, Shape, Flushed, Midway, Ended}
 use Rattle.station_pair.specs.Keeping.{found}
 use Rattle.station_pair.specs.LossFree.{FlowKeeps, FlowBounds}
-use Rattle.station_pair.proofs.Flows.{still_swap, still_back, Within, Done, up_to_flows, up_to_rests, settles_done, heard_row, info_is, rr_is, info_flows, rr_heard_flows, not_due}
-use Rattle.station_pair.proofs.Delivers.{stays, nothing_owed, early_cannot, called_cannot, idle_row}
+use Rattle.station_pair.proofs.Hearing.{row_as}
+use Rattle.station_pair.proofs.Flows.{still_swap, still_back, Within, Done, up_to_flows, up_to_rests, settles_done, takes_next, heard_live, heard_row, info_is, rr_is, info_flows, rr_heard_flows, not_due}
+use Rattle.station_pair.proofs.Delivers.{stays, nothing_owed, early_cannot, called_cannot, sets_up, agreed_row}
 use Rattle.station_pair.proofs.Delivered.{bound_at, emptied_at}
 use Rattle.station_pair.proofs.Counted.{few_at}
 
@@ -51,16 +53,16 @@ unsent_finishes x owes = cond_both (is_down x.phase) x (settles x) (λ t. t ≡ 
 
 -- ---- a call begins
 
-calling_begins : (k n : ℕ) (lx : List Frame) (x : Station) (ly : List Frame) (y : Station) → Pair k lx x ly y → Shape n lx x ly y → Midway true n lx (settled x) ly y
-calling_begins k n lx x ly y p (inl a) = inl (a.0, a.1, append-nil lx ∙ a.2, a.3, a.4, a.5, a.6)
-calling_begins k n lx x ly y p (inr (inl a)) = inr (inl (a.0, a.1, append-nil lx ∙ a.2, a.3, a.4, a.5, a.6))
-calling_begins k n lx x ly y p (inr (inr a)) =
+calling_begins : (selective : Bool) (k n : ℕ) (lx : List Frame) (x : Station) (ly : List Frame) (y : Station) → Pair selective k lx x ly y → Shape n lx x ly y → Midway true n lx (settled x) ly y
+calling_begins selective k n lx x ly y p (inl a) = inl (a.0, a.1, append-nil lx ∙ a.2, a.3, a.4, a.5, a.6)
+calling_begins selective k n lx x ly y p (inr (inl a)) = inr (inl (a.0, a.1, append-nil lx ∙ a.2, a.3, a.4, a.5, a.6))
+calling_begins selective k n lx x ly y p (inr (inr a)) =
     inr (inr ((subst (λ (t : List Frame). Still true n t (settled x) ly y) (sym (append-nil lx)) a.0, a.1.1, p.0.0.given), a.2))
 
-called_begins : (k n : ℕ) (lx : List Frame) (x : Station) (ly : List Frame) (y : Station) → Pair k lx x ly y → Shape n lx x ly y → Midway false n ly (settled y) lx x
-called_begins k n lx x ly y p (inl a) = inl (a.0, a.1, a.2, append-nil ly ∙ a.3, a.4, a.5, a.6)
-called_begins k n lx x ly y p (inr (inl a)) = inr (inl (a.0, a.1, a.2, append-nil ly ∙ a.3, a.4, a.5, a.6))
-called_begins k n lx x ly y p (inr (inr a)) =
+called_begins : (selective : Bool) (k n : ℕ) (lx : List Frame) (x : Station) (ly : List Frame) (y : Station) → Pair selective k lx x ly y → Shape n lx x ly y → Midway false n ly (settled y) lx x
+called_begins selective k n lx x ly y p (inl a) = inl (a.0, a.1, a.2, append-nil ly ∙ a.3, a.4, a.5, a.6)
+called_begins selective k n lx x ly y p (inr (inl a)) = inr (inl (a.0, a.1, a.2, append-nil ly ∙ a.3, a.4, a.5, a.6))
+called_begins selective k n lx x ly y p (inr (inr a)) =
     inr (inr ((subst (λ (t : List Frame). Still false n t (settled y) lx x) (sym (append-nil ly)) (still_swap n lx x ly y a.0), a.2.1, p.1.0.given), a.1))
 
 -- ---- a payload is handed down
@@ -122,57 +124,59 @@ lives false n w x l y (inr (inr a)) = ap is_down a.0.0.0.0
 
 -- ---- a frame comes
 
-heard_live : (now : ℕ) (y : Station) (f : Frame) (x : Station) → is_down x.phase ≡ false → receives now (found y f) x ≡ sends_waiting (hears (found y f) (sees now x))
-heard_live now y f x live = ap (λ (b : Bool). if b then x else sends_waiting (hears (found y f) (sees now x))) live
-
 -- both are up
-up_receives : ControlReadsBack → (c : Bool) (k n : ℕ) (w : List Frame) (now : ℕ) (x : Station) (f : Frame) (fs : List Frame) (y : Station)
-    → Pair k (w ++ x.said) x (f ∷ fs) y → Flushed c n w x (f ∷ fs) y → Flushed c (n + 1) w (receives now (found y f) x) fs y
-up_receives law c k n w now x (Info m r p) fs y h s =
+up_receives : ControlReadsBack → (selective c : Bool) (k n : ℕ) (w : List Frame) (now : ℕ) (x : Station) (f : Frame) (fs : List Frame) (y : Station)
+    → Pair selective k (w ++ x.said) x (f ∷ fs) y → Flushed c n w x (f ∷ fs) y → Flushed c (n + 1) w (receives_as selective now (found y f) x) fs y
+up_receives law selective c k n w now x (Info m r p) fs y h s =
     let z : Station = sees now x in
     subst (λ (t : Station). Flushed c (n + 1) w t fs y)
-    (sym (heard_live now y (Info m r p) x (ap is_down s.0.0.0) ∙ ap sends_waiting (info_is law k (w ++ x.said) z m r p fs y s.0.0.0 (sym s.0.1.2.0) h)))
-    (flushed c (n + 1) w (accepts p (acknowledges r z)) fs y s.2 (info_flows c n (w ++ x.said) z m r p fs y s.0))
-up_receives law c k n w now x (Rr r) fs y h s =
+    (sym (heard_live selective now (found y (Info m r p)) x (ap is_down s.0.0.0)
+    ∙ ap sends_waiting (info_is law selective k (w ++ x.said) z m r p fs y s.0.0.0 (sym s.0.1.2.0) s.0.0.6 h)))
+    (flushed c (n + 1) w (takes_next selective p (acknowledges r z)) fs y s.2 (info_flows selective c n (w ++ x.said) z m r p fs y s.0))
+up_receives law selective c k n w now x (Rr r) fs y h s =
     let z : Station = sees now x in
     subst (λ (t : Station). Flushed c (n + 1) w t fs y)
-    (sym (heard_live now y (Rr r) x (ap is_down s.0.0.0) ∙ ap sends_waiting (rr_is law k (w ++ x.said) z r fs y s.0.0.0 h)))
+    (sym (heard_live selective now (found y (Rr r)) x (ap is_down s.0.0.0) ∙ ap sends_waiting (rr_is law selective k (w ++ x.said) z r fs y s.0.0.0 h)))
     (flushed c (n + 1) w (marks_busy false (acknowledges r z)) fs y s.2 (rr_heard_flows c n (w ++ x.said) z r fs y s.0))
-up_receives law c k n w now x (Rej r) fs y h s = absurd s.0.3.0
-up_receives law c k n w now x (Srej r) fs y h s = absurd s.0.3.0
-up_receives law c k n w now x SetUp fs y h s = absurd s.0.3.0
-up_receives law c k n w now x Disc fs y h s = absurd s.0.3.0
-up_receives law c k n w now x Dm fs y h s = absurd s.0.3.0
-up_receives law c k n w now x (Ua final) fs y h s = absurd s.0.3.0
+up_receives law selective c k n w now x (Rej r) fs y h s = absurd s.0.3.0
+up_receives law selective c k n w now x (Srej r) fs y h s = absurd s.0.3.0
+up_receives law selective c k n w now x SetUp fs y h s = absurd s.0.3.0
+up_receives law selective c k n w now x Disc fs y h s = absurd s.0.3.0
+up_receives law selective c k n w now x Dm fs y h s = absurd s.0.3.0
+up_receives law selective c k n w now x (Ua final) fs y h s = absurd s.0.3.0
 
 first_is : (f g : Frame) (fs gs : List Frame) → f ∷ fs ≡ g ∷ gs → (f ≡ g) × (fs ≡ gs)
 first_is f g fs gs e = (cc, cc)
 
 -- the set-up frame comes to the called station
-asked_receives : ControlReadsBack → (k n : ℕ) (w : List Frame) (now : ℕ) (x : Station) (f : Frame) (fs : List Frame) (y : Station)
-    → Pair k (w ++ x.said) x (f ∷ fs) y → Asked n (f ∷ fs) y (w ++ x.said) x → Agreed (n + 1) fs y (w ++ (receives now (found y f) x).said) (receives now (found y f) x)
-asked_receives law k n w now x f fs y h a =
+asked_receives : ControlReadsBack → (selective : Bool) (k n : ℕ) (w : List Frame) (now : ℕ) (x : Station) (f : Frame) (fs : List Frame) (y : Station)
+    → Pair selective k (w ++ x.said) x (f ∷ fs) y → Asked n (f ∷ fs) y (w ++ x.said) x
+    → Agreed (n + 1) fs y (w ++ (receives_as selective now (found y f) x).said) (receives_as selective now (found y f) x)
+asked_receives law selective k n w now x f fs y h a =
     let first = first_is f SetUp fs [] a.2 in
-    let q = subst (λ (z : Frame). Pair k (w ++ x.said) x (z ∷ fs) y) first.0 h in
+    let q = subst (λ (z : Frame). Pair selective k (w ++ x.said) x (z ∷ fs) y) first.0 h in
     let z : Station = agrees true (comes_up (sees now x)) in
-    let e : receives now (found y f) x ≡ z =
-    ap (λ (g : Frame). receives now (found y g) x) first.0 ∙ heard_live now y SetUp x (ap is_down a.1)
-    ∙ ap sends_waiting (heard_row law k (w ++ x.said) (sees now x) SetUp fs y q ∙ ap (λ (p : Phase). row p (sees now x) (shown x.extended SetUp) []) a.1 ∙ idle_row x.extended (sees now x))
+    let e : receives_as selective now (found y f) x ≡ z =
+    ap (λ (g : Frame). receives_as selective now (found y g) x) first.0 ∙ heard_live selective now (found y SetUp) x (ap is_down a.1)
+    ∙ ap sends_waiting
+    (heard_row law selective k (w ++ x.said) (sees now x) SetUp fs y q ∙ ap (λ (p : Phase). row_as selective p (sees now x) (shown x.extended SetUp) []) a.1 ∙ sets_up selective (sees now x))
     ∙ unsent z (called_cannot z a.5) in
     subst (λ (t : Station). Agreed (n + 1) fs y (w ++ t.said) t) (sym e)
     (a.0, refl, first.1, sym (append_assoc w x.said (Ua true ∷ [])) ∙ ap (λ (t : List Frame). t ++ Ua true ∷ []) a.3, a.4, a.5, ap (λ t. t + 1) a.6)
 
 -- its answer comes to the calling one, and what was handed to it before flows
-agreed_receives : ControlReadsBack → (k n : ℕ) (w : List Frame) (now : ℕ) (x : Station) (f : Frame) (fs : List Frame) (y : Station)
-    → Pair k (w ++ x.said) x (f ∷ fs) y → Agreed n (w ++ x.said) x (f ∷ fs) y → Flushed true (n + 1) w (receives now (found y f) x) fs y × AtRest y
-agreed_receives law k n w now x f fs y h a =
+agreed_receives : ControlReadsBack → (selective : Bool) (k n : ℕ) (w : List Frame) (now : ℕ) (x : Station) (f : Frame) (fs : List Frame) (y : Station)
+    → Pair selective k (w ++ x.said) x (f ∷ fs) y → Agreed n (w ++ x.said) x (f ∷ fs) y
+    → Flushed true (n + 1) w (receives_as selective now (found y f) x) fs y × AtRest y
+agreed_receives law selective k n w now x f fs y h a =
     let first = first_is f (Ua true) fs [] a.3 in
-    let q = subst (λ (z : Frame). Pair k (w ++ x.said) x (z ∷ fs) y) first.0 h in
+    let q = subst (λ (z : Frame). Pair selective k (w ++ x.said) x (z ∷ fs) y) first.0 h in
     let v : Station = record (sees now x) { timer = None; expiries = 0 } in
     let z : Station = comes_up v in
-    let e : receives now (found y f) x ≡ sends_waiting z =
-    ap (λ (g : Frame). receives now (found y g) x) first.0 ∙ heard_live now y (Ua true) x (ap is_down a.0)
-    ∙ ap sends_waiting (heard_row law k (w ++ x.said) (sees now x) (Ua true) fs y q ∙ ap (λ (p : Phase). row p (sees now x) (shown x.extended (Ua true)) []) a.0) in
+    let e : receives_as selective now (found y f) x ≡ sends_waiting z =
+    ap (λ (g : Frame). receives_as selective now (found y g) x) first.0 ∙ heard_live selective now (found y (Ua true)) x (ap is_down a.0)
+    ∙ ap sends_waiting
+    (heard_row law selective k (w ++ x.said) (sees now x) (Ua true) fs y q ∙ ap (λ (p : Phase). row_as selective p (sees now x) (shown x.extended (Ua true)) []) a.0 ∙ agreed_row selective (sees now x)) in
     let s : Still true (n + 1) (w ++ x.said) z [] y = flows (n + 1) (w ++ x.said) z y a.2 a.1 (omega (arith, a.6)) refl a.4 a.5 in (
       subst (λ (t : Station). Flushed true (n + 1) w t fs y) (sym e)
           (subst (λ (t : List Frame). Flushed true (n + 1) w (sends_waiting z) t y) (sym first.1) (flushed true (n + 1) w z [] y h.0.0.given s)),
@@ -182,26 +186,26 @@ agreed_receives law k n w now x f fs y h a =
     flows : (n : ℕ) (lx : List Frame) (x : Station) (y : Station) → lx ≡ [] → y.phase ≡ Up → n ≤ 2 → x.phase ≡ Up → Fresh true x → Fresh false y → Still true n lx x [] y
     flows n lx x y none up few is hx hy =
         subst (λ (t : List Frame). Still true n t x [] y) (sym none) (
-          (is, hx.3, hy.2 ∙ sym hx.0, λ e. hx.1 ∙ sym hy.2, hx.5, hx.6),
-          (up, hy.3, hx.2 ∙ sym hy.0, λ e. hy.1 ∙ sym hx.2, hy.5, hy.6),
+          (is, hx.3, hy.2 ∙ sym hx.0, λ e. hx.1 ∙ sym hy.2, hx.5, hx.6, hx.7),
+          (up, hy.3, hx.2 ∙ sym hy.0, λ e. hy.1 ∙ sym hx.2, hy.5, hy.6, hy.7),
           tt,
           tt,
           (let ox : one_if x.owed ≡ 0 = ap one_if hx.4 in let oy : one_if y.owed ≡ 0 = ap one_if hy.4 in omega arith),
           record { own = λ e. absurd (true≢false (sym e ∙ hx.4)); peers = λ e. absurd (true≢false (sym e ∙ hy.4)) },
         )
 
-received : ControlReadsBack → (c : Bool) (k n : ℕ) (w : List Frame) (now : ℕ) (x : Station) (f : Frame) (fs : List Frame) (y : Station)
-    → Both k w x (f ∷ fs) y → Midway c n w x (f ∷ fs) y → Midway c (n + 1) w (receives now (found y f) x) fs y
-received law true k n w now x f fs y b (inl a) = absurd (let e : f ∷ fs ≡ [] = a.3 in let u : ⊥ = cc in u)
-received law true k n w now x f fs y b (inr (inl a)) = inr (inr (agreed_receives law k n w now x f fs y b a))
-received law true k n w now x f fs y b (inr (inr a)) = inr (inr (up_receives law true k n w now x f fs y b a.0, a.1))
-received law false k n w now x f fs y b (inl a) = inr (inl (asked_receives law k n w now x f fs y b a))
-received law false k n w now x f fs y b (inr (inl a)) = absurd (let e : f ∷ fs ≡ [] = a.2 in let u : ⊥ = cc in u)
-received law false k n w now x f fs y b (inr (inr a)) = inr (inr (up_receives law false k n w now x f fs y b a.0, a.1))
+received : ControlReadsBack → (selective c : Bool) (k n : ℕ) (w : List Frame) (now : ℕ) (x : Station) (f : Frame) (fs : List Frame) (y : Station)
+    → Both selective k w x (f ∷ fs) y → Midway c n w x (f ∷ fs) y → Midway c (n + 1) w (receives_as selective now (found y f) x) fs y
+received law selective true k n w now x f fs y b (inl a) = absurd (let e : f ∷ fs ≡ [] = a.3 in let u : ⊥ = cc in u)
+received law selective true k n w now x f fs y b (inr (inl a)) = inr (inr (agreed_receives law selective k n w now x f fs y b a))
+received law selective true k n w now x f fs y b (inr (inr a)) = inr (inr (up_receives law selective true k n w now x f fs y b a.0, a.1))
+received law selective false k n w now x f fs y b (inl a) = inr (inl (asked_receives law selective k n w now x f fs y b a))
+received law selective false k n w now x f fs y b (inr (inl a)) = absurd (let e : f ∷ fs ≡ [] = a.2 in let u : ⊥ = cc in u)
+received law selective false k n w now x f fs y b (inr (inr a)) = inr (inr (up_receives law selective false k n w now x f fs y b a.0, a.1))
 
 pub flow_keeps : ControlReadsBack → FlowKeeps
 flow_keeps law = record {
-  started = λ extended window n2 t1 now some. inl (refl, refl, refl, refl, (refl, refl, refl, refl, refl, refl, some), (refl, refl, refl, refl, refl, refl, some), refl);
+  started = λ extended window n2 t1 now some. inl (refl, refl, refl, refl, (refl, refl, refl, refl, refl, refl, some, refl), (refl, refl, refl, refl, refl, refl, some, refl), refl);
   calling_begins = calling_begins;
   called_begins = called_begins;
   received = received law;

@@ -1,5 +1,5 @@
 -- The steps of a link, one after the other, and the two laws of an order-keeping line.
-use Rattle.std.proofs.Common.{if◌then◌else◌, ◌≡◌, ℕ, zero, suc, ◌+◌, ◌-◌, ◌<◌, ◌≤◌, inl, inr, max, Bool, true, false, not, ◌&&◌, ◌||◌, List, [], ◌∷◌, ◌++◌, length, Option, Some, None, refl, sym, ◌∙◌, ap, subst, arith, leb-true}
+use Rattle.std.proofs.Common.{if◌then◌else◌, ◌≡◌, ℕ, zero, suc, ◌≤◌, inl, inr, max, Bool, true, false, not, ◌&&◌, ◌||◌, List, [], ◌∷◌, ◌++◌, length, Option, Some, None, refl, sym, ◌∙◌, ap, subst, leb-true}
 use Rattle.std.specs.Prelude.{nat_lt, nat_le, ◌==◌}
 use Rattle.std.proofs.lemmas.Bool.{cases_Bool, and_parts, cond_both}
 use Rattle.er_base.specs.declared.side.Side.{Side}
@@ -7,10 +7,11 @@ use Rattle.er_base.specs.declared.side.Side.TheVariants.{E, R}
 use Rattle.er_base.specs.declared.release.Release.{Release}
 use Rattle.hdlc_frames.specs.Framing.{Verdict}
 use Rattle.hdlc_frames.specs.Laws.{ControlReadsBack, FlagParts, FrameAlone}
-use Rattle.station_model.specs.Frames.{Frame, SetUp, modulo}
+use Rattle.station_model.specs.Frames.{Frame, SetUp}
 use Rattle.station_model.specs.Stations.{Station, is_down}
 use Rattle.station_model.specs.Sending.{waiting}
-use Rattle.station_model.specs.Calls.{receives, hands, finishes, ticks}
+use Rattle.station_model.specs.Calls.{hands, finishes, ticks}
+use Rattle.station_model.specs.Selective.{receives_as}
 use Rattle.station_model.specs.Events.{news, quits, is_late}
 use Rattle.station_model.specs.Lines.{altered, next_of}
 use Rattle.station_pair.specs.Links.{Came, RefusedLength, RefusedFull, Link, station_of, line_of, with_line, did, hears_each, reads, opened}
@@ -19,6 +20,7 @@ use Rattle.station_pair.specs.Laws.{Opening, after, Prefix, LosingLineReasons}
 use Rattle.station_pair.specs.Invariant.{Pair, Both}
 use Rattle.station_pair.proofs.Events.{finishes_keeps, hands_keeps, ticks_keeps, quits_keeps}
 use Rattle.station_pair.proofs.Lines.{octets_of, Stands, turned, begun, acted, First, first_of_line, answered, one_event, flag_behind, answered_keeps, lost, repeated}
+use Rattle.station_pair.proofs.Opened.{span_of, opened_stands}
 
 -- the three laws of frames that a pass rests on
 pub record Frames : Type 0 where
@@ -30,35 +32,35 @@ pub record Holds (l : Link) : Type 0 where
   pub k : ℕ
   pub fe : List Frame
   pub fr : List Frame
-  pub stands : Stands k fe l.e fr l.r l.from_e l.from_r l.read_e l.read_r
+  pub stands : Stands l.selective k fe l.e fr l.r l.from_e l.from_r l.read_e l.read_r
 
 -- ---- an event at an end
 
-pub e_did : (l : Link) (h : Holds l) (x : Station) → Both h.k h.fe x h.fr l.r → Holds (did E x l)
+pub e_did : (l : Link) (h : Holds l) (x : Station) → Both l.selective h.k h.fe x h.fr l.r → Holds (did E x l)
 e_did l h x b = record {
   k = h.k;
   fe = h.fe ++ x.said;
   fr = h.fr;
-  stands = acted h.k h.fe l.e h.fr l.r l.from_e l.from_r l.read_e l.read_r x h.fr l.from_r l.read_e h.stands h.stands.lined_y h.stands.flag_x b;
+  stands = acted l.selective h.k h.fe l.e h.fr l.r l.from_e l.from_r l.read_e l.read_r x h.fr l.from_r l.read_e h.stands h.stands.lined_y h.stands.flag_x b;
 }
 
-pub r_did : (l : Link) (h : Holds l) (x : Station) → Both h.k h.fr x h.fe l.e → Holds (did R x l)
+pub r_did : (l : Link) (h : Holds l) (x : Station) → Both l.selective h.k h.fr x h.fe l.e → Holds (did R x l)
 r_did l h x b =
-    let t = turned h.k h.fe l.e h.fr l.r l.from_e l.from_r l.read_e l.read_r h.stands in
-    let a = acted h.k h.fr l.r h.fe l.e l.from_r l.from_e l.read_r l.read_e x h.fe l.from_e l.read_r t t.lined_y t.flag_x b in
+    let t = turned l.selective h.k h.fe l.e h.fr l.r l.from_e l.from_r l.read_e l.read_r h.stands in
+    let a = acted l.selective h.k h.fr l.r h.fe l.e l.from_r l.from_e l.read_r l.read_e x h.fe l.from_e l.read_r t t.lined_y t.flag_x b in
     record {
       k = h.k;
       fe = h.fe;
       fr = h.fr ++ x.said;
-      stands = turned h.k (h.fr ++ x.said) _ h.fe l.e _ _ _ _ a;
+      stands = turned l.selective h.k (h.fr ++ x.said) _ h.fe l.e _ _ _ _ a;
     }
 
 -- the invariant at the start of a call of e, of r
-pub e_begun : (l : Link) (h : Holds l) → Both h.k h.fe l.e h.fr l.r
-e_begun l h = begun h.k h.fe l.e h.fr l.r l.from_e l.from_r l.read_e l.read_r h.stands
+pub e_begun : (l : Link) (h : Holds l) → Both l.selective h.k h.fe l.e h.fr l.r
+e_begun l h = begun l.selective h.k h.fe l.e h.fr l.r l.from_e l.from_r l.read_e l.read_r h.stands
 
-pub r_begun : (l : Link) (h : Holds l) → Both h.k h.fr l.r h.fe l.e
-r_begun l h = begun h.k h.fr l.r h.fe l.e l.from_r l.from_e l.read_r l.read_e (turned h.k h.fe l.e h.fr l.r l.from_e l.from_r l.read_e l.read_r h.stands)
+pub r_begun : (l : Link) (h : Holds l) → Both l.selective h.k h.fr l.r h.fe l.e
+r_begun l h = begun l.selective h.k h.fr l.r h.fe l.e l.from_r l.from_e l.read_r l.read_e (turned l.selective h.k h.fe l.e h.fr l.r l.from_e l.from_r l.read_e l.read_r h.stands)
 
 -- ---- sends
 
@@ -67,10 +69,10 @@ sent_unless E l p (Some refused) short h = record { k = h.k; fe = h.fe; fr = h.f
 sent_unless R l p (Some refused) short h = record { k = h.k; fe = h.fe; fr = h.fr; stands = h.stands }
 sent_unless E l p None short h =
     e_did l h (finishes (hands l.moment p l.e))
-    (finishes_keeps h.k h.fe (hands l.moment p l.e) h.fr l.r (hands_keeps h.k h.fe l.moment l.e h.fr l.r p (short refl) (e_begun l h)))
+    (finishes_keeps l.selective h.k h.fe (hands l.moment p l.e) h.fr l.r (hands_keeps l.selective h.k h.fe l.moment l.e h.fr l.r p (short refl) (e_begun l h)))
 sent_unless R l p None short h =
     r_did l h (finishes (hands l.moment p l.r))
-    (finishes_keeps h.k h.fr (hands l.moment p l.r) h.fe l.e (hands_keeps h.k h.fr l.moment l.r h.fe l.e p (short refl) (r_begun l h)))
+    (finishes_keeps l.selective h.k h.fr (hands l.moment p l.r) h.fe l.e (hands_keeps l.selective h.k h.fr l.moment l.r h.fe l.e p (short refl) (r_begun l h)))
 
 pub refused_long : (side : Side) (s : Station) (p : List ℕ) (o : Option Release) → refusal_at side s p o ≡ None → length p ≤ 1026
 refused_long side s p (Some release) e = absurd cc
@@ -90,29 +92,29 @@ send_holds side l p h =
 e_first : Frames → (l : Link) (octets : List ℕ) (rest : List (List ℕ)) → l.from_e ≡ octets ∷ rest → (h : Holds l) → First l.e octets rest h.fe
     → (passes : ℕ) → Holds (reads R octets (record l { from_e = rest; passes = passes }))
 e_first laws l octets rest e h f passes =
-    let t = turned h.k h.fe l.e h.fr l.r l.from_e l.from_r l.read_e l.read_r h.stands in
-    let p : Pair h.k h.fr l.r (f.frame ∷ f.frames) l.e = subst (λ (q : List Frame). Pair h.k h.fr l.r q l.e) f.all t.pair in
-    let b : Both h.k h.fr l.r (f.frame ∷ f.frames) l.e = subst (λ (q : List Frame). Both h.k h.fr l.r q l.e) f.all (r_begun l h) in
-    let x : Station = answered l.moment l.e f.frame l.r in
-    let a = acted h.k h.fr l.r h.fe l.e l.from_r l.from_e l.read_r l.read_e x f.frames rest (l.read_r ++ octets_of l.e f.frame) t f.rest_are (flag_behind l.e f.frame l.read_r)
-    (answered_keeps laws.back h.k h.fr l.moment l.r f.frame f.frames l.e b) in
+    let t = turned l.selective h.k h.fe l.e h.fr l.r l.from_e l.from_r l.read_e l.read_r h.stands in
+    let p : Pair l.selective h.k h.fr l.r (f.frame ∷ f.frames) l.e = subst (λ (q : List Frame). Pair l.selective h.k h.fr l.r q l.e) f.all t.pair in
+    let b : Both l.selective h.k h.fr l.r (f.frame ∷ f.frames) l.e = subst (λ (q : List Frame). Both l.selective h.k h.fr l.r q l.e) f.all (r_begun l h) in
+    let x : Station = answered l.selective l.moment l.e f.frame l.r in
+    let a = acted l.selective h.k h.fr l.r h.fe l.e l.from_r l.from_e l.read_r l.read_e x f.frames rest (l.read_r ++ octets_of l.e f.frame) t f.rest_are (flag_behind l.e f.frame l.read_r)
+    (answered_keeps laws.back l.selective h.k h.fr l.moment l.r f.frame f.frames l.e b) in
     subst (λ (os : List ℕ). Holds (reads R os (record l { from_e = rest; passes = passes }))) (sym f.octets_are)
     (subst (λ (vs : List Verdict). Holds (hears_each R vs (record l { from_e = rest; passes = passes; read_r = l.read_r ++ octets_of l.e f.frame })))
-    (sym (one_event laws.parts laws.alone h.k h.fr l.r f.frame f.frames l.e l.read_r t.flag_x p))
-    (record { k = h.k; fe = f.frames; fr = h.fr ++ x.said; stands = turned h.k (h.fr ++ x.said) _ f.frames l.e _ _ _ _ a }))
+    (sym (one_event laws.parts laws.alone l.selective h.k h.fr l.r f.frame f.frames l.e l.read_r t.flag_x p))
+    (record { k = h.k; fe = f.frames; fr = h.fr ++ x.said; stands = turned l.selective h.k (h.fr ++ x.said) _ f.frames l.e _ _ _ _ a }))
 
 r_first : Frames → (l : Link) (octets : List ℕ) (rest : List (List ℕ)) → l.from_r ≡ octets ∷ rest → (h : Holds l) → First l.r octets rest h.fr
     → (passes : ℕ) → Holds (reads E octets (record l { from_r = rest; passes = passes }))
 r_first laws l octets rest e h f passes =
     let t = h.stands in
-    let p : Pair h.k h.fe l.e (f.frame ∷ f.frames) l.r = subst (λ (q : List Frame). Pair h.k h.fe l.e q l.r) f.all t.pair in
-    let b : Both h.k h.fe l.e (f.frame ∷ f.frames) l.r = subst (λ (q : List Frame). Both h.k h.fe l.e q l.r) f.all (e_begun l h) in
-    let x : Station = answered l.moment l.r f.frame l.e in
-    let a = acted h.k h.fe l.e h.fr l.r l.from_e l.from_r l.read_e l.read_r x f.frames rest (l.read_e ++ octets_of l.r f.frame) t f.rest_are (flag_behind l.r f.frame l.read_e)
-    (answered_keeps laws.back h.k h.fe l.moment l.e f.frame f.frames l.r b) in
+    let p : Pair l.selective h.k h.fe l.e (f.frame ∷ f.frames) l.r = subst (λ (q : List Frame). Pair l.selective h.k h.fe l.e q l.r) f.all t.pair in
+    let b : Both l.selective h.k h.fe l.e (f.frame ∷ f.frames) l.r = subst (λ (q : List Frame). Both l.selective h.k h.fe l.e q l.r) f.all (e_begun l h) in
+    let x : Station = answered l.selective l.moment l.r f.frame l.e in
+    let a = acted l.selective h.k h.fe l.e h.fr l.r l.from_e l.from_r l.read_e l.read_r x f.frames rest (l.read_e ++ octets_of l.r f.frame) t f.rest_are (flag_behind l.r f.frame l.read_e)
+    (answered_keeps laws.back l.selective h.k h.fe l.moment l.e f.frame f.frames l.r b) in
     subst (λ (os : List ℕ). Holds (reads E os (record l { from_r = rest; passes = passes }))) (sym f.octets_are)
     (subst (λ (vs : List Verdict). Holds (hears_each E vs (record l { from_r = rest; passes = passes; read_e = l.read_e ++ octets_of l.r f.frame })))
-    (sym (one_event laws.parts laws.alone h.k h.fe l.e f.frame f.frames l.r l.read_e t.flag_x p))
+    (sym (one_event laws.parts laws.alone l.selective h.k h.fe l.e f.frame f.frames l.r l.read_e t.flag_x p))
     (record { k = h.k; fe = h.fe ++ x.said; fr = f.frames; stands = a }))
 
 e_passed : Frames → (l : Link) (line : List (List ℕ)) → l.from_e ≡ line → Holds l → Holds (pass E line l)
@@ -133,31 +135,31 @@ e_lost : (l : Link) (line : List (List ℕ)) → l.from_e ≡ line → Holds l �
 e_lost l [] e h = record { k = h.k; fe = h.fe; fr = h.fr; stands = h.stands }
 e_lost l (octets ∷ rest) e h =
     let f = first_of_line l.e octets rest h.fe (sym e ∙ h.stands.lined_x) in
-    let t = turned h.k h.fe l.e h.fr l.r l.from_e l.from_r l.read_e l.read_r h.stands in
+    let t = turned l.selective h.k h.fe l.e h.fr l.r l.from_e l.from_r l.read_e l.read_r h.stands in
     record {
       k = h.k;
       fe = f.frames;
       fr = h.fr;
-      stands = turned h.k h.fr l.r f.frames l.e l.from_r rest l.read_r l.read_e (lost h.k h.fr l.r h.fe l.e l.from_r l.from_e l.read_r l.read_e octets rest t f);
+      stands = turned l.selective h.k h.fr l.r f.frames l.e l.from_r rest l.read_r l.read_e (lost l.selective h.k h.fr l.r h.fe l.e l.from_r l.from_e l.read_r l.read_e octets rest t f);
     }
 
 r_lost : (l : Link) (line : List (List ℕ)) → l.from_r ≡ line → Holds l → Holds (lose R line l)
 r_lost l [] e h = record { k = h.k; fe = h.fe; fr = h.fr; stands = h.stands }
 r_lost l (octets ∷ rest) e h =
     let f = first_of_line l.r octets rest h.fr (sym e ∙ h.stands.lined_y) in
-    record { k = h.k; fe = h.fe; fr = f.frames; stands = lost h.k h.fe l.e h.fr l.r l.from_e l.from_r l.read_e l.read_r octets rest h.stands f }
+    record { k = h.k; fe = h.fe; fr = f.frames; stands = lost l.selective h.k h.fe l.e h.fr l.r l.from_e l.from_r l.read_e l.read_r octets rest h.stands f }
 
 e_repeated : (l : Link) (line : List (List ℕ)) → l.from_e ≡ line → Holds l → Holds (repeat E line l)
 e_repeated l [] e h = record { k = h.k; fe = h.fe; fr = h.fr; stands = h.stands }
 e_repeated l (octets ∷ rest) e h =
     let f = first_of_line l.e octets rest h.fe (sym e ∙ h.stands.lined_x) in
-    let t = turned h.k h.fe l.e h.fr l.r l.from_e l.from_r l.read_e l.read_r h.stands in
+    let t = turned l.selective h.k h.fe l.e h.fr l.r l.from_e l.from_r l.read_e l.read_r h.stands in
     record {
       k = h.k;
       fe = f.frame ∷ f.frame ∷ f.frames;
       fr = h.fr;
-      stands = turned h.k h.fr l.r (f.frame ∷ f.frame ∷ f.frames) l.e l.from_r (octets ∷ octets ∷ rest) l.read_r l.read_e
-          (repeated h.k h.fr l.r h.fe l.e l.from_r l.from_e l.read_r l.read_e octets rest t f);
+      stands = turned l.selective h.k h.fr l.r (f.frame ∷ f.frame ∷ f.frames) l.e l.from_r (octets ∷ octets ∷ rest) l.read_r l.read_e
+          (repeated l.selective h.k h.fr l.r h.fe l.e l.from_r l.from_e l.read_r l.read_e octets rest t f);
     }
 
 r_repeated : (l : Link) (line : List (List ℕ)) → l.from_r ≡ line → Holds l → Holds (repeat R line l)
@@ -168,7 +170,7 @@ r_repeated l (octets ∷ rest) e h =
       k = h.k;
       fe = h.fe;
       fr = f.frame ∷ f.frame ∷ f.frames;
-      stands = repeated h.k h.fe l.e h.fr l.r l.from_e l.from_r l.read_e l.read_r octets rest h.stands f;
+      stands = repeated l.selective h.k h.fe l.e h.fr l.r l.from_e l.from_r l.read_e l.read_r octets rest h.stands f;
     }
 
 -- ---- a release, a tick
@@ -178,22 +180,22 @@ e_released l sub h =
     cond_both (is_down l.e.phase) (record l { loss_free = false }) (did E (quits sub l.e) (record l { loss_free = false })) Holds
     (λ e. record { k = h.k; fe = h.fe; fr = h.fr; stands = h.stands })
     (λ e. e_did (record l { loss_free = false }) (record { k = h.k; fe = h.fe; fr = h.fr; stands = h.stands }) (quits sub l.e)
-    (quits_keeps h.k h.fe l.e h.fr l.r sub (e_begun l h)))
+    (quits_keeps l.selective h.k h.fe l.e h.fr l.r sub (e_begun l h)))
 
 r_released : (l : Link) (sub : ℕ) → Holds l → Holds (release R sub l)
 r_released l sub h =
     cond_both (is_down l.r.phase) (record l { loss_free = false }) (did R (quits sub l.r) (record l { loss_free = false })) Holds
     (λ e. record { k = h.k; fe = h.fe; fr = h.fr; stands = h.stands })
     (λ e. r_did (record l { loss_free = false }) (record { k = h.k; fe = h.fe; fr = h.fr; stands = h.stands }) (quits sub l.r)
-    (quits_keeps h.k h.fr l.r h.fe l.e sub (r_begun l h)))
+    (quits_keeps l.selective h.k h.fr l.r h.fe l.e sub (r_begun l h)))
 
 e_ticked : (l : Link) (now : ℕ) → Holds l → Holds (tick_at E now l)
 e_ticked l now h = e_did l h (finishes (ticks now l.e))
-    (finishes_keeps h.k h.fe (ticks now l.e) h.fr l.r (ticks_keeps h.k h.fe now l.e h.fr l.r (e_begun l h)))
+    (finishes_keeps l.selective h.k h.fe (ticks now l.e) h.fr l.r (ticks_keeps l.selective h.k h.fe now l.e h.fr l.r (e_begun l h)))
 
 r_ticked : (l : Link) (now : ℕ) → Holds l → Holds (tick_at R now l)
 r_ticked l now h = r_did l h (finishes (ticks now l.r))
-    (finishes_keeps h.k h.fr (ticks now l.r) h.fe l.e (ticks_keeps h.k h.fr now l.r h.fe l.e (r_begun l h)))
+    (finishes_keeps l.selective h.k h.fr (ticks now l.r) h.fe l.e (ticks_keeps l.selective h.k h.fr now l.r h.fe l.e (r_begun l h)))
 
 tick_holds : (l : Link) (now : ℕ) → Holds l → Holds (tick now l)
 tick_holds l now h =
@@ -217,8 +219,8 @@ drained_holds laws (suc most) d h =
 
 heard_kept : (side : Side) (vs : List Verdict) (l : Link) → (hears_each side vs l).order_kept ≡ l.order_kept
 heard_kept side [] l = refl
-heard_kept E (v ∷ vs) l = heard_kept E vs (did E (finishes (receives l.moment v l.e)) l)
-heard_kept R (v ∷ vs) l = heard_kept R vs (did R (finishes (receives l.moment v l.r)) l)
+heard_kept E (v ∷ vs) l = heard_kept E vs (did E (finishes (receives_as l.selective l.moment v l.e)) l)
+heard_kept R (v ∷ vs) l = heard_kept R vs (did R (finishes (receives_as l.selective l.moment v l.r)) l)
 
 passed_kept : (side : Side) (line : List (List ℕ)) (l : Link) → (pass side line l).order_kept ≡ l.order_kept
 passed_kept E [] l = refl
@@ -309,37 +311,13 @@ run_keeps laws (s ∷ rest) l h = run_keeps laws rest (happens s l) (happens_kee
 
 -- ---- a link that was just opened
 
-one_below : (extended : Bool) (window : ℕ) → window < modulo extended → (modulo extended - 1 + 1 ≡ modulo extended) × (window ≤ modulo extended - 1)
-one_below true window h = (refl, omega arith)
-one_below false window h = (refl, omega arith)
-
-pub opened_stands : (s : Opening) → let l : Link = opened s.extended s.window s.n2 s.t1 s.moment in
-    Stands (modulo s.extended - 1) (SetUp ∷ []) l.e [] l.r l.from_e l.from_r l.read_e l.read_r
-opened_stands s =
-    let b = one_below s.extended s.window s.below_modulo in
-    record {
-      lined_x = refl;
-      lined_y = refl;
-      quiet_x = refl;
-      quiet_y = refl;
-      flag_x = inl refl;
-      flag_y = inl refl;
-      pair = (
-        (record { prefix = refl; window = omega arith; given = omega arith; chain = omega arith; climb = omega arith }, (omega arith, omega arith), (refl, refl), b.1, tt, tt),
-        (record { prefix = refl; window = omega arith; given = omega arith; chain = omega arith; climb = omega arith }, omega arith, refl, b.1, tt, tt),
-        refl,
-        refl,
-        b.0,
-      );
-    }
-
-pub opened_holds : (s : Opening) → Holds (opened s.extended s.window s.n2 s.t1 s.moment)
-opened_holds s = record { k = modulo s.extended - 1; fe = SetUp ∷ []; fr = []; stands = opened_stands s }
+pub opened_holds : (s : Opening) → Holds (opened s.selective s.extended s.window s.n2 s.t1 s.moment)
+opened_holds s = record { k = span_of s.selective s.extended s.window; fe = SetUp ∷ []; fr = []; stands = opened_stands s }
 
 -- ---- the laws
 
 pub after_holds : Frames → (s : Opening) (steps : List LinkStep) → (after s steps).order_kept ≡ true → Holds (after s steps)
-after_holds laws s steps = run_keeps laws steps (opened s.extended s.window s.n2 s.t1 s.moment) (λ e. opened_holds s)
+after_holds laws s steps = run_keeps laws steps (opened s.selective s.extended s.window s.n2 s.t1 s.moment) (λ e. opened_holds s)
 
 pub prefix : Frames → Prefix
 prefix laws s steps e = let h = after_holds laws s steps e in (h.stands.pair.0.0.prefix, h.stands.pair.1.0.prefix)

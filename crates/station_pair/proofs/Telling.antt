@@ -1,5 +1,5 @@
 -- What each rule tells of the phase behind it, and of the release.
-use Rattle.std.proofs.Common.{if◌then◌else◌, ◌≡◌, ◌⊎◌, inl, inr, ℕ, zero, suc, ◌+◌, ◌-◌, ◌%◌, Bool, true, false, List, [], ◌∷◌, ◌++◌, length, Option, Some, None, refl, sym, ap, ◌∙◌, true≢false}
+use Rattle.std.proofs.Common.{if◌then◌else◌, ◌≡◌, ◌⊎◌, inl, inr, ℕ, zero, suc, ◌+◌, ◌-◌, ◌%◌, Bool, true, false, List, [], ◌∷◌, ◌++◌, length, Option, Some, None, refl, sym, ap, subst, ◌∙◌, true≢false}
 use Rattle.std.specs.Prelude.{◌==◌, nat_lt}
 use Rattle.std.proofs.lemmas.Bool.{cond_both}
 use Rattle.er_base.specs.declared.cause.Cause.TheVariants.{SetUpUnanswered, NoProgress}
@@ -11,10 +11,12 @@ use Rattle.station_model.specs.declared.phase.Phase.{Phase}
 use Rattle.station_model.specs.declared.phase.Phase.TheVariants.{Idle, Setting, Up, Down}
 use Rattle.station_model.specs.Frames.{Rr, Rej, SetUp, modulo}
 use Rattle.station_model.specs.Stations.{Station, Deed, no_deed, is_up, is_down, sees, puts}
-use Rattle.station_model.specs.Sending.{can_send, waiting, sends_next, sends_up_to, sends_waiting, sends_again, starts_timer, settles, gives_up, counts_expiry, expires_at, expires, expires_if_due, is_due, refuses_frame}
+use Rattle.station_model.specs.Sending.{info_at, can_send, waiting, sends_next, sends_up_to, sends_waiting, sends_again, starts_timer, settles, gives_up, counts_expiry, expires_at, expires, expires_if_due, is_due, refuses_frame}
 use Rattle.station_model.specs.Receiving.{strays, is_known_address, is_addressed, is_error, errs, named, acknowledges, acknowledging, accepts, rejects, takes, marks_busy, repeats_rejected, agrees, sets_up_again, row, hears, hears_control}
-use Rattle.station_model.specs.Calls.{starts_at, receives, ticks}
-use Rattle.station_pair.specs.Keeping.{ReceivesTell, TicksTell, PhasesStay}
+use Rattle.station_model.specs.Selective.{is_selective_error, held_for, is_found, without_gap, takes_run, holds, says_next, files_at, files, repeats_at, repeats_one, sets_up_selective_again, selective_row, selective_hears, selective_hears_control}
+use Rattle.station_model.specs.Calls.{starts_at, ticks}
+use Rattle.station_pair.specs.Keeping.{Tells, ReceivesTell, TicksTell, PhasesStay}
+use Rattle.station_pair.proofs.Hearing.{hears_as, received}
 
 -- ---- what sending leaves alone
 
@@ -128,14 +130,72 @@ heard_control address (Some read) x d =
     (λ e. erred x.phase x refl d) (λ e. rowed x.phase read.0 read.1 x refl d))
     (λ e. still x.phase (strays x) refl d)
 
-heard : (v : Verdict) (x : Station) → x.deed ≡ no_deed → Rowed x.phase (hears v x)
-heard (Frame address body) x d =
+-- ---- and at a station with selective reject
+
+filed : (o : Option ℕ) (payload : List ℕ) (t : Station) → t.phase ≡ Up → t.deed ≡ no_deed → Rowed Up (files_at o payload t)
+filed None payload t e d = still Up (says_next t) e d
+filed (Some n) payload t e d =
+    let run : List (List ℕ) = without_gap (length t.held) (n + 1) t.held in
+    cond_both (n == length t.taken) (takes_run payload run t) (if is_found (held_for n t.held) then says_next t else holds n payload t) (Rowed Up)
+    (λ next. (inl refl, λ asleep. absurd cc, λ awake. (refl, λ none. ap is_up e), λ live none. ap is_down e, λ up. absurd cc, inl refl))
+    (λ behind. cond_both (is_found (held_for n t.held)) (says_next t) (holds n payload t) (Rowed Up)
+    (λ held. still Up (says_next t) e d) (λ new. still Up (holds n payload t) e d))
+
+again_at : (o : Option ℕ) (t : Station) → t.phase ≡ Up → t.deed ≡ no_deed → Rowed Up (repeats_at o t)
+again_at None t e d = still Up (strays t) e d
+again_at (Some n) t e d = still Up (starts_timer (record (puts (info_at t n) t) { owed = false })) e d
+
+one_again : (nr : ℕ) (t : Station) → t.phase ≡ Up → t.deed ≡ no_deed → Rowed Up (repeats_one nr t)
+one_again nr t e d =
+    let o : Option ℕ = named t.extended t.acked (t.sent - t.acked - 1) nr in
+    cond_both (nat_lt t.acked t.sent) (repeats_at o t) (strays t) (Rowed Up) (λ some. again_at o t e d) (λ none. still Up (strays t) e d)
+
+selective_set_up : (poll : Bool) (t : Station) → t.phase ≡ Up → t.deed ≡ no_deed → Rowed Up (sets_up_selective_again poll t)
+selective_set_up poll t e d = cond_both (length t.taken == 0) (agrees poll (record t { held = []; asked = [] })) (refuses_frame t) (Rowed Up)
+    (λ none. still Up (agrees poll (record t { held = []; asked = [] })) e d) (λ some. refused Up t)
+
+-- the rows that differ from those above, and the others
+selective_rowed : (p : Phase) (c : Control) (information : List ℕ) (x : Station) → x.phase ≡ p → x.deed ≡ no_deed → Rowed p (selective_row p x c information)
+selective_rowed Idle c information x e d = rowed Idle c information x e d
+selective_rowed Setting (control.Rej nr) information x e d = refused Setting x
+selective_rowed Setting (control.Srej nr) information x e d = still Setting (strays x) e d
+selective_rowed Setting c information x e d = rowed Setting c information x e d
+selective_rowed Up (control.Info ns nr) information x e d =
+    numbered (named x.extended x.acked (x.sent - x.acked) nr) (files ns information) x
+    (λ n. filed (named x.extended (length x.taken) (x.window - 1) ns) information (acknowledges n x) e d)
+selective_rowed Up (control.Rej nr) information x e d = refused Up x
+selective_rowed Up (control.Srej nr) information x e d = one_again nr x e d
+selective_rowed Up (control.Sabm poll) information x e d = selective_set_up poll x e d
+selective_rowed Up (control.Sabme poll) information x e d = selective_set_up poll x e d
+selective_rowed Up c information x e d = rowed Up c information x e d
+selective_rowed Down c information x e d = still Down x e d
+
+selective_heard_control : (address : ℕ) (o : Option (Control × List ℕ)) (x : Station) → x.deed ≡ no_deed → Rowed x.phase (selective_hears_control address o x)
+selective_heard_control address None x d = erred x.phase x refl d
+selective_heard_control address (Some read) x d =
+    cond_both (is_addressed x.calling address read.0)
+    (if is_selective_error x.calling read.0 read.1 then errs x.phase x else selective_row x.phase x read.0 read.1) (strays x) (Rowed x.phase)
+    (λ e. cond_both (is_selective_error x.calling read.0 read.1) (errs x.phase x) (selective_row x.phase x read.0 read.1) (Rowed x.phase)
+    (λ e. erred x.phase x refl d) (λ e. selective_rowed x.phase read.0 read.1 x refl d))
+    (λ e. still x.phase (strays x) refl d)
+
+-- ---- whatever is found
+
+heard : (selective : Bool) (v : Verdict) (x : Station) → x.deed ≡ no_deed → Rowed x.phase (hears_as selective v x)
+heard false (Frame address body) x d =
     cond_both (is_known_address address) (hears_control address (control_of (modulo x.extended) body) x) (strays x) (Rowed x.phase)
     (λ e. heard_control address (control_of (modulo x.extended) body) x d) (λ e. still x.phase (strays x) refl d)
-heard BadFcs x d = still x.phase (hears BadFcs x) refl d
-heard TooShort x d = still x.phase (hears TooShort x) refl d
-heard TooLong x d = still x.phase (hears TooLong x) refl d
-heard Aborted x d = still x.phase (hears Aborted x) refl d
+heard true (Frame address body) x d =
+    cond_both (is_known_address address) (selective_hears_control address (control_of (modulo x.extended) body) x) (strays x) (Rowed x.phase)
+    (λ e. selective_heard_control address (control_of (modulo x.extended) body) x d) (λ e. still x.phase (strays x) refl d)
+heard false BadFcs x d = still x.phase (hears BadFcs x) refl d
+heard false TooShort x d = still x.phase (hears TooShort x) refl d
+heard false TooLong x d = still x.phase (hears TooLong x) refl d
+heard false Aborted x d = still x.phase (hears Aborted x) refl d
+heard true BadFcs x d = still x.phase (selective_hears BadFcs x) refl d
+heard true TooShort x d = still x.phase (selective_hears TooShort x) refl d
+heard true TooLong x d = still x.phase (selective_hears TooLong x) refl d
+heard true Aborted x d = still x.phase (selective_hears Aborted x) refl d
 
 sent : (p : Phase) (t : Station) → Rowed p t → Rowed p (sends_waiting t)
 sent p t h =
@@ -152,11 +212,11 @@ sent p t h =
     )
 
 pub receives_tell : ReceivesTell
-receives_tell now v x d =
-    let h : Rowed x.phase (receives now v x) =
-    cond_both (is_down x.phase) x (sends_waiting (hears v (sees now x))) (Rowed x.phase) (λ e. still x.phase x refl d)
-    (λ e. sent x.phase (hears v (sees now x)) (heard v (sees now x) d)) in
-    record { reason = h.0; asleep = h.1; awake = h.2; lives = h.3; came = h.4; alone = h.5 }
+receives_tell selective now v x d =
+    let h : Rowed x.phase (if is_down x.phase then x else sends_waiting (hears_as selective v (sees now x))) =
+    cond_both (is_down x.phase) x (sends_waiting (hears_as selective v (sees now x))) (Rowed x.phase) (λ e. still x.phase x refl d)
+    (λ e. sent x.phase (hears_as selective v (sees now x)) (heard selective v (sees now x) d)) in
+    subst (Tells x) (sym (received selective now v x)) (record { reason = h.0; asleep = h.1; awake = h.2; lives = h.3; came = h.4; alone = h.5 })
 
 -- ---- a tick
 

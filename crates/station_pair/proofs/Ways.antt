@@ -1,5 +1,5 @@
 -- One direction of a losing line: how the numbers that wait change with each move.
-use Rattle.std.proofs.Common.{◌≡◌, ℕ, zero, suc, ◌+◌, ◌%◌, ◌<◌, ◌≤◌, max, Bool, true, false, List, [], ◌∷◌, ◌++◌, length, take, refl, sym, ◌∙◌, ap, subst, arith, length-append}
+use Rattle.std.proofs.Common.{◌≡◌, ℕ, zero, suc, ◌+◌, ◌%◌, ◌<◌, ◌≤◌, max, Bool, true, false, List, [], ◌∷◌, ◌++◌, length, take, refl, sym, ◌∙◌, ap, subst, arith, append_assoc, length-append}
 use Rattle.std.specs.Prelude.{slice_index_or}
 use Rattle.std.proofs.lemmas.List.{take-append-le, take_more, get_or_append_left}
 use Rattle.station_model.specs.Frames.{modulo}
@@ -120,8 +120,14 @@ module _ (k : ℕ) (handed : List (List ℕ)) (a s : ℕ) (taken : List (List �
     climb = w.climb;
   }
 
-  pub way_frame_twice : (f : ℕ × List ℕ) → 1 ≤ k → Way k handed a s taken (f ∷ waits) shows → Way k handed a s taken (f ∷ f ∷ waits) shows
-  way_frame_twice f some w = record {
+  -- a frame waits only where the window has room for one
+  pub way_some : (f : ℕ × List ℕ) → Way k handed a s taken (f ∷ waits) shows → 1 ≤ k
+  way_some f w =
+      let le = forward_le k (max (length taken) (f.0 + 1)) s handed waits w.chain.2 in
+      omega (arith, w.window, w.chain.0, le, climbs_le a (length taken) shows w.climb)
+
+  pub way_frame_twice : (f : ℕ × List ℕ) → Way k handed a s taken (f ∷ waits) shows → Way k handed a s taken (f ∷ f ∷ waits) shows
+  way_frame_twice f w = record {
     prefix = w.prefix;
     window = w.window;
     given = w.given;
@@ -129,7 +135,7 @@ module _ (k : ℕ) (handed : List (List ℕ)) (a s : ℕ) (taken : List (List �
       w.chain.0,
       w.chain.1,
       (
-        omega (arith, w.chain.0),
+        omega (arith, w.chain.0, way_some f w),
         w.chain.1,
         forward_low k (max (max (length taken) (f.0 + 1)) (f.0 + 1)) (max (length taken) (f.0 + 1)) s handed waits (omega arith) w.chain.2,
       ),
@@ -153,17 +159,35 @@ module _ (k : ℕ) (handed : List (List ℕ)) (a s : ℕ) (taken : List (List �
         climb = subst (λ n. Climbs a shows n) (sym len) (climbs_high a (length taken) (length taken + 1) shows (omega arith) w.climb);
       }
 
+  -- and a run behind it
+  pub way_run : (p : List ℕ) (run : List (List ℕ)) → take (length taken + 1 + length run) handed ≡ take (length taken + 1) handed ++ run
+      → Forward k handed (length taken + 1 + length run) waits s
+      → Way k handed a s taken ((length taken, p) ∷ waits) shows → Way k handed a s (taken ++ p ∷ run) waits shows
+  way_run p run is chain w =
+      let one = way_take p w in
+      let l = length-append taken (p ∷ []) in
+      let len : length (taken ++ p ∷ []) ≡ length taken + 1 = omega (arith, l) in
+      let m = length-append taken (p ∷ run) in
+      let all : length (taken ++ p ∷ run) ≡ length taken + 1 + length run = omega (arith, m) in
+      record {
+        prefix = sym (append_assoc taken (p ∷ []) run) ∙ ap (λ t. t ++ run) (one.prefix ∙ ap (λ (n : ℕ). take n handed) len) ∙ sym is ∙ ap (λ (n : ℕ). take n handed) (sym all);
+        window = w.window;
+        given = w.given;
+        chain = subst (λ n. Forward k handed n waits s) (sym all) chain;
+        climb = climbs_high a (length taken) (length (taken ++ p ∷ run)) shows (omega (arith, all)) w.climb;
+      }
+
 -- ---- equality modulo the modulo is equality
 
 -- an I frame in front that shows V(R) has the number V(R)
 pub way_tells : (extended : Bool) (k : ℕ) (handed : List (List ℕ)) (a s : ℕ) (taken : List (List ℕ)) (f : ℕ × List ℕ) (waits : List (ℕ × List ℕ)) (shows : List ℕ)
-    → k + 1 ≡ modulo extended → length taken % modulo extended ≡ f.0 % modulo extended
+    → k < modulo extended → length taken % modulo extended ≡ f.0 % modulo extended
     → Way k handed a s taken (f ∷ waits) shows → length taken ≡ f.0
-way_tells true k handed a s taken f waits shows bound same w =
+way_tells true k handed a s taken f waits shows below same w =
     let b = way_bounds k handed a s taken (f ∷ waits) shows w in
     let le = forward_le k (max (length taken) (f.0 + 1)) s handed waits w.chain.2 in
     omega (arith, w.window, w.chain.0, b.0, b.1, le, same)
-way_tells false k handed a s taken f waits shows bound same w =
+way_tells false k handed a s taken f waits shows below same w =
     let b = way_bounds k handed a s taken (f ∷ waits) shows w in
     let le = forward_le k (max (length taken) (f.0 + 1)) s handed waits w.chain.2 in
     omega (arith, w.window, w.chain.0, b.0, b.1, le, same)

@@ -46,6 +46,7 @@ Flow c waits shows x y =
     × (y.owed ≡ false → Ends x.acked shows (length y.taken))
     × (x.calling ≡ c)
     × (1 ≤ x.window)
+    × (x.held ≡ [])
 
 -- every frame that was sent waits or was delivered, once, and an answer that is owed counts as a frame; n is the number of deliveries
 abbrev pub Count : ℕ → List Frame → Station → List Frame → Station → Type 0
@@ -86,7 +87,7 @@ AtRest x = (x.owed ≡ false) × Rests x
 
 -- a station that sent and took nothing yet
 abbrev pub Fresh : Bool → Station → Type 0
-Fresh c x = (x.sent ≡ 0) × (x.acked ≡ 0) × (length x.taken ≡ 0) × (x.busy ≡ false) × (x.owed ≡ false) × (x.calling ≡ c) × (1 ≤ x.window)
+Fresh c x = (x.sent ≡ 0) × (x.acked ≡ 0) × (length x.taken ≡ 0) × (x.busy ≡ false) × (x.owed ≡ false) × (x.calling ≡ c) × (1 ≤ x.window) × (x.held ≡ [])
 
 -- the set-up frame waits
 abbrev pub Asked : ℕ → List Frame → Station → List Frame → Station → Type 0

@@ -1,10 +1,13 @@
 -- Lemmas: what two stations and the frames between them keep at each call, whatever layers stand above them, for the proofs of the crates of
 -- such layers. Everywhere x acts and y doesn't, w waited from x before the call, and l waits from y.
 use Rattle.std.specs.Prelude.{◌≡◌, ◌⊎◌, ℕ, ◌-◌, ◌<◌, ◌≤◌, Bool, true, false, List, [], ◌∷◌, ◌++◌, length, drop, None}
+use Rattle.std.specs.Option.{option_to_list}
 use Rattle.hdlc_frames.specs.Framing.{flag, Verdict, Frame as Frame_found, frames_of}
 use Rattle.station_model.specs.Frames.{Frame, modulo, sent_address, sent_body, sent_octets}
 use Rattle.station_model.specs.Stations.{Station, no_deed, is_up, is_down, made}
-use Rattle.station_model.specs.Calls.{starts, receives, hands, finishes, ticks, closes}
+use Rattle.station_model.specs.Calls.{starts, hands, finishes, ticks, closes}
+use Rattle.station_model.specs.Selective.{receives_as}
+use Rattle.station_model.specs.Reports.{TellsRelease}
 use Rattle.station_pair.specs.Invariant.{Pair, Both}
 
 -- what a frame of y is found as
@@ -21,23 +24,23 @@ IsAtFlag read = (read ≡ []) ⊎ ((before : List ℕ) × (read ≡ before ++ fl
 
 -- each call keeps the invariant
 pub record CallsKeep : Type 0 where
-  pub swapped : (k : ℕ) (lx : List Frame) (x : Station) (ly : List Frame) (y : Station) → Pair k lx x ly y → Pair k ly y lx x
+  pub swapped : (selective : Bool) (k : ℕ) (lx : List Frame) (x : Station) (ly : List Frame) (y : Station) → Pair selective k lx x ly y → Pair selective k ly y lx x
   pub made_pair : (extended : Bool) (window n2 t1 : ℕ) → 1 ≤ window → window < modulo extended
-      → Pair (modulo extended - 1) [] (made true extended window n2 t1) [] (made false extended window n2 t1)
-  pub started : (k : ℕ) (w : List Frame) (now : ℕ) (x : Station) (l : List Frame) (y : Station) → Both k w x l y → Both k w (starts now x) l y
-  pub received : (k : ℕ) (w : List Frame) (now : ℕ) (x : Station) (f : Frame) (fs : List Frame) (y : Station)
-      → Both k w x (f ∷ fs) y → Both k w (receives now (found y f) x) fs y
-  pub handed : (k : ℕ) (w : List Frame) (now : ℕ) (x : Station) (l : List Frame) (y : Station) (p : List ℕ) → length p ≤ 1026
-      → Both k w x l y → Both k w (hands now p x) l y
-  pub finished : (k : ℕ) (w : List Frame) (x : Station) (l : List Frame) (y : Station) → Both k w x l y → Both k w (finishes x) l y
-  pub ticked : (k : ℕ) (w : List Frame) (now : ℕ) (x : Station) (l : List Frame) (y : Station) → Both k w x l y → Both k w (ticks now x) l y
-  pub closed : (k : ℕ) (w : List Frame) (x : Station) (l : List Frame) (y : Station) → Both k w x l y → Both k w (closes x) l y
+      → Pair false (modulo extended - 1) [] (made true extended window n2 t1) [] (made false extended window n2 t1)
+  pub started : (selective : Bool) (k : ℕ) (w : List Frame) (now : ℕ) (x : Station) (l : List Frame) (y : Station) → Both selective k w x l y → Both selective k w (starts now x) l y
+  pub received : (selective : Bool) (k : ℕ) (w : List Frame) (now : ℕ) (x : Station) (f : Frame) (fs : List Frame) (y : Station)
+      → Both selective k w x (f ∷ fs) y → Both selective k w (receives_as selective now (found y f) x) fs y
+  pub handed : (selective : Bool) (k : ℕ) (w : List Frame) (now : ℕ) (x : Station) (l : List Frame) (y : Station) (p : List ℕ) → length p ≤ 1026
+      → Both selective k w x l y → Both selective k w (hands now p x) l y
+  pub finished : (selective : Bool) (k : ℕ) (w : List Frame) (x : Station) (l : List Frame) (y : Station) → Both selective k w x l y → Both selective k w (finishes x) l y
+  pub ticked : (selective : Bool) (k : ℕ) (w : List Frame) (now : ℕ) (x : Station) (l : List Frame) (y : Station) → Both selective k w x l y → Both selective k w (ticks now x) l y
+  pub closed : (selective : Bool) (k : ℕ) (w : List Frame) (x : Station) (l : List Frame) (y : Station) → Both selective k w x l y → Both selective k w (closes x) l y
   -- the first frame of y is lost, or stands twice
-  pub lost : (k : ℕ) (lx : List Frame) (x : Station) (f : Frame) (fs : List Frame) (y : Station) → Pair k lx x (f ∷ fs) y → Pair k lx x fs y
-  pub repeated : (k : ℕ) (lx : List Frame) (x : Station) (f : Frame) (fs : List Frame) (y : Station) → Pair k lx x (f ∷ fs) y → Pair k lx x (f ∷ f ∷ fs) y
+  pub lost : (selective : Bool) (k : ℕ) (lx : List Frame) (x : Station) (f : Frame) (fs : List Frame) (y : Station) → Pair selective k lx x (f ∷ fs) y → Pair selective k lx x fs y
+  pub repeated : (selective : Bool) (k : ℕ) (lx : List Frame) (x : Station) (f : Frame) (fs : List Frame) (y : Station) → Pair selective k lx x (f ∷ fs) y → Pair selective k lx x (f ∷ f ∷ fs) y
   -- it is the one frame that its octets close
-  pub one_frame : (k : ℕ) (lx : List Frame) (x : Station) (f : Frame) (fs : List Frame) (y : Station) (read : List ℕ) → IsAtFlag read
-      → Pair k lx x (f ∷ fs) y → drop (length (frames_of read)) (frames_of (read ++ octets_from y f)) ≡ found y f ∷ []
+  pub one_frame : (selective : Bool) (k : ℕ) (lx : List Frame) (x : Station) (f : Frame) (fs : List Frame) (y : Station) (read : List ℕ) → IsAtFlag read
+      → Pair selective k lx x (f ∷ fs) y → drop (length (frames_of read)) (frames_of (read ++ octets_from y f)) ≡ found y f ∷ []
   pub at_flag : (y : Station) (f : Frame) (read : List ℕ) → IsAtFlag (read ++ octets_from y f)
 
 -- what a call tells of the phase behind it, and of the release
@@ -55,7 +58,18 @@ pub record Tells (s t : Station) : Type 0 where
   pub alone : (t.deed.released ≡ None) ⊎ ((t.deed.payload ≡ None) × (t.deed.up ≡ false))
 
 abbrev pub ReceivesTell : Type 0
-ReceivesTell = (now : ℕ) (verdict : Verdict) (s : Station) → s.deed ≡ no_deed → Tells s (receives now verdict s)
+ReceivesTell = (selective : Bool) (now : ℕ) (verdict : Verdict) (s : Station) → s.deed ≡ no_deed → Tells s (receives_as selective now verdict s)
+
+-- what a frame that comes gives: what was handed down stays, what is told of payloads is what is taken, the release is told, and after a
+-- release nothing is done
+pub record Gives (s t : Station) : Type 0 where
+  pub handed : t.handed ≡ s.handed
+  pub taken : t.taken ≡ s.taken ++ (option_to_list t.deed.payload ++ t.deed.more)
+  pub release : TellsRelease s t
+  pub inert : is_down s.phase ≡ true → t ≡ s
+
+abbrev pub FramesGive : Type 0
+FramesGive = (selective : Bool) (now : ℕ) (verdict : Verdict) (s : Station) → s.deed ≡ no_deed → Gives s (receives_as selective now verdict s)
 
 -- time doesn't bring a station up
 pub record TicksTell : Type 0 where

@@ -16,7 +16,7 @@ all_came l [] = []
 all_came l (s ∷ rest) = (happens s l).came ++ all_came (happens s l) rest
 
 -- modulo 128: SABME, UA, an I frame and RR
-pub extended_frames : all_came (opened true 31 5 1000 0) (Drain 4 ∷ Send E (0x41 ∷ []) ∷ Drain 4 ∷ []) ≡ CameUp R ∷ Sent R (0x7e ∷ 0x01 ∷ 0x73 ∷ 0x83 ∷ 0x57 ∷ 0x7e ∷ []) ∷ CameUp E ∷ Drained 2 ∷ Sent E (0x7e ∷ 0x01 ∷ 0x00 ∷ 0x00 ∷ 0x41 ∷ 0xe8 ∷ 0xb3 ∷ 0x7e ∷ []) ∷ Accepted R (0x41 ∷ []) ∷ Sent R (0x7e ∷ 0x01 ∷ 0x01 ∷ 0x02 ∷ 0xda ∷ 0xa6 ∷ 0x7e ∷ []) ∷ Drained 2 ∷ []
+pub extended_frames : all_came (opened false true 31 5 1000 0) (Drain 4 ∷ Send E (0x41 ∷ []) ∷ Drain 4 ∷ []) ≡ CameUp R ∷ Sent R (0x7e ∷ 0x01 ∷ 0x73 ∷ 0x83 ∷ 0x57 ∷ 0x7e ∷ []) ∷ CameUp E ∷ Drained 2 ∷ Sent E (0x7e ∷ 0x01 ∷ 0x00 ∷ 0x00 ∷ 0x41 ∷ 0xe8 ∷ 0xb3 ∷ 0x7e ∷ []) ∷ Accepted R (0x41 ∷ []) ∷ Sent R (0x7e ∷ 0x01 ∷ 0x01 ∷ 0x02 ∷ 0xda ∷ 0xa6 ∷ 0x7e ∷ []) ∷ Drained 2 ∷ []
 unfolding frames_of between_flags all_but_last cut verdict_on verdict_on_content checked_part check_number unescaped ends_in_escape spelling escaped escaped_octet content_of control_of fcs_of fcs_bits dividend remainder divided_once add_front sent_bits low_bits low_number
 extended_frames = refl
 
@@ -37,21 +37,48 @@ abbrev told : Link → List LinkStep → List Came × (ℕ × ℕ)
 told l steps = (filter is_told (all_came l steps), (length (run l steps).from_e, length (run l steps).from_r))
 
 -- the peer never answers: the sixth expiry of T1 is one too many
-pub silent_peer : told (opened false 7 5 1000 0) (Pass E ∷ Pass R ∷ Send E (0x41 ∷ []) ∷ Lose E ∷ Tick 1000 ∷ Tick 2000 ∷ Tick 3000 ∷ Tick 4000 ∷ Tick 5000 ∷ Tick 6000 ∷ []) ≡ (CameUp R ∷ CameUp E ∷ WasReleased E (record { reason = 1; sub = 2; by_peer = false }) ∷ [], (6, 0))
+pub silent_peer : told (opened false false 7 5 1000 0) (Pass E ∷ Pass R ∷ Send E (0x41 ∷ []) ∷ Lose E ∷ Tick 1000 ∷ Tick 2000 ∷ Tick 3000 ∷ Tick 4000 ∷ Tick 5000 ∷ Tick 6000 ∷ []) ≡ (CameUp R ∷ CameUp E ∷ WasReleased E (record { reason = 1; sub = 2; by_peer = false }) ∷ [], (6, 0))
 unfolding frames_of between_flags all_but_last cut verdict_on verdict_on_content checked_part check_number unescaped ends_in_escape spelling escaped escaped_octet content_of control_of fcs_of fcs_bits dividend remainder divided_once add_front sent_bits low_bits low_number
 silent_peer = refl
 
 -- the set-up frame behind an I frame is a frame error
-pub set_up_in_mid_life : told (opened false 7 5 1000 0) (Drain 4 ∷ Send E (0x41 ∷ []) ∷ Drain 4 ∷ Put E (0x7e ∷ 0x01 ∷ 0x3f ∷ 0xeb ∷ 0xdf ∷ 0x7e ∷ []) ∷ Pass E ∷ []) ≡ (CameUp R ∷ CameUp E ∷ Drained 2 ∷ Accepted R (0x41 ∷ []) ∷ Drained 2 ∷ WasReleased R (record { reason = 1; sub = 3; by_peer = false }) ∷ [], (0, 1))
+pub set_up_in_mid_life : told (opened false false 7 5 1000 0) (Drain 4 ∷ Send E (0x41 ∷ []) ∷ Drain 4 ∷ Put E (0x7e ∷ 0x01 ∷ 0x3f ∷ 0xeb ∷ 0xdf ∷ 0x7e ∷ []) ∷ Pass E ∷ []) ≡ (CameUp R ∷ CameUp E ∷ Drained 2 ∷ Accepted R (0x41 ∷ []) ∷ Drained 2 ∷ WasReleased R (record { reason = 1; sub = 3; by_peer = false }) ∷ [], (0, 1))
 unfolding frames_of between_flags all_but_last cut verdict_on verdict_on_content checked_part check_number unescaped ends_in_escape spelling escaped escaped_octet content_of control_of fcs_of fcs_bits dividend remainder divided_once add_front sent_bits low_bits low_number
 set_up_in_mid_life = refl
 
 -- twenty payloads of which the third frame is lost, then one that is repeated
-pub lost_and_repeated : told (opened false 7 5 1000 0) (Drain 4 ∷ Send E (1 ∷ []) ∷ Send E (2 ∷ []) ∷ Send E (3 ∷ []) ∷ Send E (4 ∷ []) ∷ Send E (5 ∷ []) ∷ Send E (6 ∷ []) ∷ Send E (7 ∷ []) ∷ Send E (8 ∷ []) ∷ Send E (9 ∷ []) ∷ Send E (10 ∷ []) ∷ Send E (11 ∷ []) ∷ Send E (12 ∷ []) ∷ Send E (13 ∷ []) ∷ Send E (14 ∷ []) ∷ Send E (15 ∷ []) ∷ Send E (16 ∷ []) ∷ Send E (17 ∷ []) ∷ Send E (18 ∷ []) ∷ Send E (19 ∷ []) ∷ Send E (20 ∷ []) ∷ Pass E ∷ Pass E ∷ Lose E ∷ Drain 200 ∷ Send E (21 ∷ []) ∷ Repeat E ∷ Drain 200 ∷ []) ≡ (CameUp R ∷ CameUp E ∷ Drained 2 ∷ Accepted R (1 ∷ []) ∷ Accepted R (2 ∷ []) ∷ Accepted R (3 ∷ []) ∷ Accepted R (4 ∷ []) ∷ Accepted R (5 ∷ []) ∷ Accepted R (6 ∷ []) ∷ Accepted R (7 ∷ []) ∷ Accepted R (8 ∷ []) ∷ Accepted R (9 ∷ []) ∷ Accepted R (10 ∷ []) ∷ Accepted R (11 ∷ []) ∷ Accepted R (12 ∷ []) ∷ Accepted R (13 ∷ []) ∷ Accepted R (14 ∷ []) ∷ Accepted R (15 ∷ []) ∷ Accepted R (16 ∷ []) ∷ Accepted R (17 ∷ []) ∷ Accepted R (18 ∷ []) ∷ Accepted R (19 ∷ []) ∷ Accepted R (20 ∷ []) ∷ Drained 50 ∷ Accepted R (21 ∷ []) ∷ Drained 4 ∷ [], (0, 0))
+pub lost_and_repeated : told (opened false false 7 5 1000 0) (Drain 4 ∷ Send E (1 ∷ []) ∷ Send E (2 ∷ []) ∷ Send E (3 ∷ []) ∷ Send E (4 ∷ []) ∷ Send E (5 ∷ []) ∷ Send E (6 ∷ []) ∷ Send E (7 ∷ []) ∷ Send E (8 ∷ []) ∷ Send E (9 ∷ []) ∷ Send E (10 ∷ []) ∷ Send E (11 ∷ []) ∷ Send E (12 ∷ []) ∷ Send E (13 ∷ []) ∷ Send E (14 ∷ []) ∷ Send E (15 ∷ []) ∷ Send E (16 ∷ []) ∷ Send E (17 ∷ []) ∷ Send E (18 ∷ []) ∷ Send E (19 ∷ []) ∷ Send E (20 ∷ []) ∷ Pass E ∷ Pass E ∷ Lose E ∷ Drain 200 ∷ Send E (21 ∷ []) ∷ Repeat E ∷ Drain 200 ∷ []) ≡ (CameUp R ∷ CameUp E ∷ Drained 2 ∷ Accepted R (1 ∷ []) ∷ Accepted R (2 ∷ []) ∷ Accepted R (3 ∷ []) ∷ Accepted R (4 ∷ []) ∷ Accepted R (5 ∷ []) ∷ Accepted R (6 ∷ []) ∷ Accepted R (7 ∷ []) ∷ Accepted R (8 ∷ []) ∷ Accepted R (9 ∷ []) ∷ Accepted R (10 ∷ []) ∷ Accepted R (11 ∷ []) ∷ Accepted R (12 ∷ []) ∷ Accepted R (13 ∷ []) ∷ Accepted R (14 ∷ []) ∷ Accepted R (15 ∷ []) ∷ Accepted R (16 ∷ []) ∷ Accepted R (17 ∷ []) ∷ Accepted R (18 ∷ []) ∷ Accepted R (19 ∷ []) ∷ Accepted R (20 ∷ []) ∷ Drained 50 ∷ Accepted R (21 ∷ []) ∷ Drained 4 ∷ [], (0, 0))
 unfolding frames_of between_flags all_but_last cut verdict_on verdict_on_content checked_part check_number unescaped ends_in_escape spelling escaped escaped_octet content_of control_of fcs_of fcs_bits dividend remainder divided_once add_front sent_bits low_bits low_number
 lost_and_repeated = refl
 
 -- the same at modulo 128: behind the loss 17 frames and their answers pass, then 18 frames that are sent again and theirs
-pub lost_and_repeated_extended : told (opened true 20 5 1000 0) (Drain 4 ∷ Send E (1 ∷ []) ∷ Send E (2 ∷ []) ∷ Send E (3 ∷ []) ∷ Send E (4 ∷ []) ∷ Send E (5 ∷ []) ∷ Send E (6 ∷ []) ∷ Send E (7 ∷ []) ∷ Send E (8 ∷ []) ∷ Send E (9 ∷ []) ∷ Send E (10 ∷ []) ∷ Send E (11 ∷ []) ∷ Send E (12 ∷ []) ∷ Send E (13 ∷ []) ∷ Send E (14 ∷ []) ∷ Send E (15 ∷ []) ∷ Send E (16 ∷ []) ∷ Send E (17 ∷ []) ∷ Send E (18 ∷ []) ∷ Send E (19 ∷ []) ∷ Send E (20 ∷ []) ∷ Pass E ∷ Pass E ∷ Lose E ∷ Drain 200 ∷ Send E (21 ∷ []) ∷ Repeat E ∷ Drain 200 ∷ []) ≡ (CameUp R ∷ CameUp E ∷ Drained 2 ∷ Accepted R (1 ∷ []) ∷ Accepted R (2 ∷ []) ∷ Accepted R (3 ∷ []) ∷ Accepted R (4 ∷ []) ∷ Accepted R (5 ∷ []) ∷ Accepted R (6 ∷ []) ∷ Accepted R (7 ∷ []) ∷ Accepted R (8 ∷ []) ∷ Accepted R (9 ∷ []) ∷ Accepted R (10 ∷ []) ∷ Accepted R (11 ∷ []) ∷ Accepted R (12 ∷ []) ∷ Accepted R (13 ∷ []) ∷ Accepted R (14 ∷ []) ∷ Accepted R (15 ∷ []) ∷ Accepted R (16 ∷ []) ∷ Accepted R (17 ∷ []) ∷ Accepted R (18 ∷ []) ∷ Accepted R (19 ∷ []) ∷ Accepted R (20 ∷ []) ∷ Drained 72 ∷ Accepted R (21 ∷ []) ∷ Drained 4 ∷ [], (0, 0))
+pub lost_and_repeated_extended : told (opened false true 20 5 1000 0) (Drain 4 ∷ Send E (1 ∷ []) ∷ Send E (2 ∷ []) ∷ Send E (3 ∷ []) ∷ Send E (4 ∷ []) ∷ Send E (5 ∷ []) ∷ Send E (6 ∷ []) ∷ Send E (7 ∷ []) ∷ Send E (8 ∷ []) ∷ Send E (9 ∷ []) ∷ Send E (10 ∷ []) ∷ Send E (11 ∷ []) ∷ Send E (12 ∷ []) ∷ Send E (13 ∷ []) ∷ Send E (14 ∷ []) ∷ Send E (15 ∷ []) ∷ Send E (16 ∷ []) ∷ Send E (17 ∷ []) ∷ Send E (18 ∷ []) ∷ Send E (19 ∷ []) ∷ Send E (20 ∷ []) ∷ Pass E ∷ Pass E ∷ Lose E ∷ Drain 200 ∷ Send E (21 ∷ []) ∷ Repeat E ∷ Drain 200 ∷ []) ≡ (CameUp R ∷ CameUp E ∷ Drained 2 ∷ Accepted R (1 ∷ []) ∷ Accepted R (2 ∷ []) ∷ Accepted R (3 ∷ []) ∷ Accepted R (4 ∷ []) ∷ Accepted R (5 ∷ []) ∷ Accepted R (6 ∷ []) ∷ Accepted R (7 ∷ []) ∷ Accepted R (8 ∷ []) ∷ Accepted R (9 ∷ []) ∷ Accepted R (10 ∷ []) ∷ Accepted R (11 ∷ []) ∷ Accepted R (12 ∷ []) ∷ Accepted R (13 ∷ []) ∷ Accepted R (14 ∷ []) ∷ Accepted R (15 ∷ []) ∷ Accepted R (16 ∷ []) ∷ Accepted R (17 ∷ []) ∷ Accepted R (18 ∷ []) ∷ Accepted R (19 ∷ []) ∷ Accepted R (20 ∷ []) ∷ Drained 72 ∷ Accepted R (21 ∷ []) ∷ Drained 4 ∷ [], (0, 0))
 unfolding frames_of between_flags all_but_last cut verdict_on verdict_on_content checked_part check_number unescaped ends_in_escape spelling escaped escaped_octet content_of control_of fcs_of fcs_bits dividend remainder divided_once add_front sent_bits low_bits low_number
 lost_and_repeated_extended = refl
+
+-- selective reject with the window 4: the first of three frames is lost, so two are held, and it alone is sent again. The passes are those two
+-- frames, SREJ, the frame again, and RR
+pub asked_for_one : told (opened true false 4 5 1000 0) (Drain 4 ∷ Send E (1 ∷ []) ∷ Send E (2 ∷ []) ∷ Send E (3 ∷ []) ∷ Lose E ∷ Drain 20 ∷ []) ≡ (CameUp R ∷ CameUp E ∷ Drained 2 ∷ Accepted R (1 ∷ []) ∷ Accepted R (2 ∷ []) ∷ Accepted R (3 ∷ []) ∷ Drained 5 ∷ [], (0, 0))
+unfolding frames_of between_flags all_but_last cut verdict_on verdict_on_content checked_part check_number unescaped ends_in_escape spelling escaped escaped_octet content_of control_of fcs_of fcs_bits dividend remainder divided_once add_front sent_bits low_bits low_number
+asked_for_one = refl
+
+-- the SREJ is lost too: no number is asked for twice, so nothing comes until T1 expires. Then all three frames come again, the last two as old ones
+pub t1_alone : told (opened true false 4 5 1000 0) (Drain 4 ∷ Send E (1 ∷ []) ∷ Send E (2 ∷ []) ∷ Send E (3 ∷ []) ∷ Lose E ∷ Pass E ∷ Lose R ∷ Drain 20 ∷ Tick 999 ∷ Drain 20 ∷ Tick 1000 ∷ Drain 20 ∷ []) ≡ (CameUp R ∷ CameUp E ∷ Drained 2 ∷ Drained 1 ∷ Drained 0 ∷ Accepted R (1 ∷ []) ∷ Accepted R (2 ∷ []) ∷ Accepted R (3 ∷ []) ∷ Drained 6 ∷ [], (0, 0))
+unfolding frames_of between_flags all_but_last cut verdict_on verdict_on_content checked_part check_number unescaped ends_in_escape spelling escaped escaped_octet content_of control_of fcs_of fcs_bits dividend remainder divided_once add_front sent_bits low_bits low_number
+t1_alone = refl
+
+-- the first and the third of four frames are lost: two are held and two are asked for. The passes are SREJ and its frame, twice, and two RR
+pub two_gaps : told (opened true false 4 5 1000 0) (Drain 4 ∷ Send E (1 ∷ []) ∷ Send E (2 ∷ []) ∷ Send E (3 ∷ []) ∷ Send E (4 ∷ []) ∷ Lose E ∷ Pass E ∷ Lose E ∷ Pass E ∷ Drain 20 ∷ []) ≡ (CameUp R ∷ CameUp E ∷ Drained 2 ∷ Accepted R (1 ∷ []) ∷ Accepted R (2 ∷ []) ∷ Accepted R (3 ∷ []) ∷ Accepted R (4 ∷ []) ∷ Drained 6 ∷ [], (0, 0))
+unfolding frames_of between_flags all_but_last cut verdict_on verdict_on_content checked_part check_number unescaped ends_in_escape spelling escaped escaped_octet content_of control_of fcs_of fcs_bits dividend remainder divided_once add_front sent_bits low_bits low_number
+two_gaps = refl
+
+-- twenty payloads of which the third frame is lost, then one that is repeated: the same payloads, in fewer passes. Behind the loss three frames,
+-- two RR, SREJ, the frame again and RR pass, then fourteen frames and their answers
+pub lost_and_repeated_selective : told (opened true false 4 5 1000 0) (Drain 4 ∷ Send E (1 ∷ []) ∷ Send E (2 ∷ []) ∷ Send E (3 ∷ []) ∷ Send E (4 ∷ []) ∷ Send E (5 ∷ []) ∷ Send E (6 ∷ []) ∷ Send E (7 ∷ []) ∷ Send E (8 ∷ []) ∷ Send E (9 ∷ []) ∷ Send E (10 ∷ []) ∷ Send E (11 ∷ []) ∷ Send E (12 ∷ []) ∷ Send E (13 ∷ []) ∷ Send E (14 ∷ []) ∷ Send E (15 ∷ []) ∷ Send E (16 ∷ []) ∷ Send E (17 ∷ []) ∷ Send E (18 ∷ []) ∷ Send E (19 ∷ []) ∷ Send E (20 ∷ []) ∷ Pass E ∷ Pass E ∷ Lose E ∷ Drain 200 ∷ Send E (21 ∷ []) ∷ Repeat E ∷ Drain 200 ∷ []) ≡ (CameUp R ∷ CameUp E ∷ Drained 2 ∷ Accepted R (1 ∷ []) ∷ Accepted R (2 ∷ []) ∷ Accepted R (3 ∷ []) ∷ Accepted R (4 ∷ []) ∷ Accepted R (5 ∷ []) ∷ Accepted R (6 ∷ []) ∷ Accepted R (7 ∷ []) ∷ Accepted R (8 ∷ []) ∷ Accepted R (9 ∷ []) ∷ Accepted R (10 ∷ []) ∷ Accepted R (11 ∷ []) ∷ Accepted R (12 ∷ []) ∷ Accepted R (13 ∷ []) ∷ Accepted R (14 ∷ []) ∷ Accepted R (15 ∷ []) ∷ Accepted R (16 ∷ []) ∷ Accepted R (17 ∷ []) ∷ Accepted R (18 ∷ []) ∷ Accepted R (19 ∷ []) ∷ Accepted R (20 ∷ []) ∷ Drained 36 ∷ Accepted R (21 ∷ []) ∷ Drained 4 ∷ [], (0, 0))
+unfolding frames_of between_flags all_but_last cut verdict_on verdict_on_content checked_part check_number unescaped ends_in_escape spelling escaped escaped_octet content_of control_of fcs_of fcs_bits dividend remainder divided_once add_front sent_bits low_bits low_number
+lost_and_repeated_selective = refl
+
+-- the same at modulo 128: 17 frames that are held, two RR, SREJ, the frame again and one RR for all
+pub lost_and_repeated_selective_extended : told (opened true true 20 5 1000 0) (Drain 4 ∷ Send E (1 ∷ []) ∷ Send E (2 ∷ []) ∷ Send E (3 ∷ []) ∷ Send E (4 ∷ []) ∷ Send E (5 ∷ []) ∷ Send E (6 ∷ []) ∷ Send E (7 ∷ []) ∷ Send E (8 ∷ []) ∷ Send E (9 ∷ []) ∷ Send E (10 ∷ []) ∷ Send E (11 ∷ []) ∷ Send E (12 ∷ []) ∷ Send E (13 ∷ []) ∷ Send E (14 ∷ []) ∷ Send E (15 ∷ []) ∷ Send E (16 ∷ []) ∷ Send E (17 ∷ []) ∷ Send E (18 ∷ []) ∷ Send E (19 ∷ []) ∷ Send E (20 ∷ []) ∷ Pass E ∷ Pass E ∷ Lose E ∷ Drain 200 ∷ Send E (21 ∷ []) ∷ Repeat E ∷ Drain 200 ∷ []) ≡ (CameUp R ∷ CameUp E ∷ Drained 2 ∷ Accepted R (1 ∷ []) ∷ Accepted R (2 ∷ []) ∷ Accepted R (3 ∷ []) ∷ Accepted R (4 ∷ []) ∷ Accepted R (5 ∷ []) ∷ Accepted R (6 ∷ []) ∷ Accepted R (7 ∷ []) ∷ Accepted R (8 ∷ []) ∷ Accepted R (9 ∷ []) ∷ Accepted R (10 ∷ []) ∷ Accepted R (11 ∷ []) ∷ Accepted R (12 ∷ []) ∷ Accepted R (13 ∷ []) ∷ Accepted R (14 ∷ []) ∷ Accepted R (15 ∷ []) ∷ Accepted R (16 ∷ []) ∷ Accepted R (17 ∷ []) ∷ Accepted R (18 ∷ []) ∷ Accepted R (19 ∷ []) ∷ Accepted R (20 ∷ []) ∷ Drained 22 ∷ Accepted R (21 ∷ []) ∷ Drained 4 ∷ [], (0, 0))
+unfolding frames_of between_flags all_but_last cut verdict_on verdict_on_content checked_part check_number unescaped ends_in_escape spelling escaped escaped_octet content_of control_of fcs_of fcs_bits dividend remainder divided_once add_front sent_bits low_bits low_number
+lost_and_repeated_selective_extended = refl

@@ -1,6 +1,6 @@
--- What holds of two stations over two lines, over every list of steps, at modulo 8 and at modulo 128. A list of steps stands for each
+-- What holds of two stations over two lines, with go-back or with selective reject, over every list of steps, at modulo 8 and at modulo 128. A list of steps stands for each
 -- moment of a longer run.
-use Rattle.std.specs.Prelude.{◌≡◌, ℕ, ◌+◌, ◌<◌, ◌≤◌, Bool, true, List, [], ◌∷◌, length, Option, Some, None}
+use Rattle.std.specs.Prelude.{◌≡◌, ℕ, ◌+◌, ◌*◌, ◌<◌, ◌≤◌, Bool, true, false, List, [], ◌∷◌, length, Option, Some, None}
 use Rattle.er_base.specs.declared.release.Release.{Release}
 use Rattle.station_model.specs.declared.phase.Phase.TheVariants.{Up}
 use Rattle.station_model.specs.Frames.{modulo}
@@ -8,19 +8,26 @@ use Rattle.station_model.specs.Lines.{IsPrefix, IsLosingLineReason, station_boun
 use Rattle.station_pair.specs.Links.{Link, line_of, opened}
 use Rattle.station_pair.specs.Steps.{LinkStep, Send, Pass, Lose, Repeat, Alter, Put, UserRelease, Drain, Tick, drained, happens, run}
 
--- how a link is opened: the settings of both stations, with a window from 1 to one below the modulo, and the moment
+-- the greatest window of a kind: one below the modulo, and with selective reject half of it, so that an old frame that comes again is never
+-- taken for a new one (ISO/IEC 13239)
+abbrev pub IsNarrow : (selective extended : Bool) → (window : ℕ) → Type 0
+IsNarrow true extended window = 2 * window ≤ modulo extended
+IsNarrow false extended window = window < modulo extended
+
+-- how a link is opened: the kind and the settings of both stations, and the moment
 pub record Opening : Type 0 where
+  pub selective : Bool
   pub extended : Bool
   pub window : ℕ
   pub n2 : ℕ
   pub t1 : ℕ
   pub moment : ℕ
   pub some : 1 ≤ window
-  pub below_modulo : window < modulo extended
+  pub narrow : IsNarrow selective extended window
 
 -- the link behind a list of steps
 abbrev pub after : Opening → List LinkStep → Link
-after s steps = run (opened s.extended s.window s.n2 s.t1 s.moment) steps
+after s steps = run (opened s.selective s.extended s.window s.n2 s.t1 s.moment) steps
 
 -- ---- an order-keeping line: it may lose and repeat
 
@@ -90,7 +97,7 @@ DeliveryBound =
 abbrev pub DeliveriesBound : Type 0
 DeliveriesBound =
     (s : Opening) (steps : List LinkStep) → (after s steps).loss_free ≡ true
-    → deliveries (opened s.extended s.window s.n2 s.t1 s.moment) steps ≤ bound (after s steps)
+    → deliveries (opened s.selective s.extended s.window s.n2 s.t1 s.moment) steps ≤ bound (after s steps)
 
 -- never more than 254 frames wait in one direction: at modulo 128 at most 127 I frames, and an RR for each of the other direction
 abbrev pub FewWait : Type 0

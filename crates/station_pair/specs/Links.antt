@@ -1,12 +1,14 @@
--- Two stations over two lines (ISO/IEC 13239, asynchronous balanced mode): e is the calling station, r the called one. Each line is the
--- list of the frames that wait on it, as octets. An end reads all octets that it is given as one stream (this profile).
+-- Two stations of one kind, with go-back or with selective reject, over two lines (ISO/IEC 13239, asynchronous balanced mode): e is the
+-- calling station, r the called one. Each line is the list of the frames that wait on it, as octets. An end reads all octets that it is
+-- given as one stream (this profile).
 use Rattle.std.specs.Prelude.{ℕ, Bool, true, false, List, [], ◌∷◌, ◌++◌, map, Option, Some, None}
 use Rattle.er_base.specs.declared.side.Side.{Side}
 use Rattle.er_base.specs.declared.side.Side.TheVariants.{E, R}
 use Rattle.er_base.specs.declared.release.Release.{Release}
 use Rattle.hdlc_frames.specs.Framing.{Verdict}
-use Rattle.station_model.specs.Stations.{Station, made, settled}
-use Rattle.station_model.specs.Calls.{starts, receives, finishes}
+use Rattle.station_model.specs.Stations.{Station, Deed, made, settled}
+use Rattle.station_model.specs.Calls.{starts, finishes}
+use Rattle.station_model.specs.Selective.{receives_as}
 use Rattle.station_model.specs.Events.{said_octets, news}
 
 -- what comes of a step
@@ -29,6 +31,8 @@ pub data Came : Type 0 where
   Drained : (passes : ℕ) → Came
 
 pub record Link : Type 0 where
+  -- whether both stations have selective reject
+  pub selective : Bool
   pub e : Station
   pub r : Station
   -- the frames that e sent and that wait, the first to be passed first
@@ -82,10 +86,14 @@ abbrev pub if_released : Side → Option Release → List Came
 if_released side None = []
 if_released side (Some release) = WasReleased side release ∷ []
 
+-- the payloads that a call took
+abbrev pub all_accepted : Side → Deed → List Came
+all_accepted side d = if_accepted side d.payload ++ map (Accepted side) d.more
+
 -- what a call told, then the frames that it sent
 abbrev pub came_of : Side → Station → List Came
 came_of side s =
-    ((if_up side s.deed.up ++ if_accepted side s.deed.payload) ++ if_released side s.deed.released) ++ map (Sent side) (said_octets s)
+    ((if_up side s.deed.up ++ all_accepted side s.deed) ++ if_released side s.deed.released) ++ map (Sent side) (said_octets s)
 
 -- an end did this: its frames join those that wait
 abbrev pub did : Side → Station → Link → Link
@@ -98,7 +106,7 @@ did R s l = record l { r = settled s; from_r = l.from_r ++ said_octets s; came =
 abbrev pub hears_each : Side → List Verdict → Link → Link
 hears_each side [] l = l
 hears_each side (verdict ∷ verdicts) l =
-    hears_each side verdicts (did side (finishes (receives l.moment verdict (station_of l side))) l)
+    hears_each side verdicts (did side (finishes (receives_as l.selective l.moment verdict (station_of l side))) l)
 
 abbrev pub reads : Side → List ℕ → Link → Link
 reads E octets l = hears_each E (news l.read_e octets) (record l { read_e = l.read_e ++ octets })
@@ -106,10 +114,11 @@ reads R octets l = hears_each R (news l.read_r octets) (record l { read_r = l.re
 
 -- ---- a link that is opened
 
--- two stations with the same settings, of which the calling one starts at this moment
-abbrev pub opened : (extended : Bool) (window n2 t1 moment : ℕ) → Link
-opened extended window n2 t1 moment =
+-- two stations of one kind with the same settings, of which the calling one starts at this moment
+abbrev pub opened : (selective extended : Bool) (window n2 t1 moment : ℕ) → Link
+opened selective extended window n2 t1 moment =
     did E (finishes (starts moment (made true extended window n2 t1))) (record {
+      selective = selective;
       e = made true extended window n2 t1;
       r = made false extended window n2 t1;
       from_e = [];

@@ -1,6 +1,6 @@
 //! What holds of two stations over two lines, as facts that a caller can cite.
 
-ghost use Rattle.station_pair.specs.Keeping.{CallsKeep, PhasesStay, ReceivesTell, TicksTell};
+ghost use Rattle.station_pair.specs.Keeping.{CallsKeep, FramesGive, PhasesStay, ReceivesTell, TicksTell};
 ghost use Rattle.station_pair.specs.LossFree.{FlowBounds, FlowKeeps};
 ghost use Rattle.station_pair.specs.Laws.{Prefix, LosingLineReasons, Delivery, DeliveryBound, DrainEmpties, DeliveriesBound, FewWait};
 
@@ -66,6 +66,16 @@ pub fn calls_keep()
     control_reads_back();
     flag_parts();
     frame_alone();
+}
+
+/// A frame that comes to a station of either kind: what was handed down stays, what is told of payloads is what is taken, a release is told,
+/// and a released station does nothing.
+pub fn frames_give()
+    ensures { FramesGive }
+{
+    station_model::laws::receives_give();
+    station_model::laws::releases_are_told();
+    station_model::laws::released_are_inert();
 }
 
 /// Whatever layers stand above two stations: while the line loses nothing, each call keeps what flows, and that bounds the deliveries and

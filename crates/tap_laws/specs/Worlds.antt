@@ -43,7 +43,7 @@ opened_as keys lines m l history t = record { engine = t.engine; rbc = t.rbc; mo
 -- an end of four layers that isn't released
 abbrev pub IsUnreleased : End → Type 0
 IsUnreleased (OfSafe side) = ⊥
-IsUnreleased (OfStation station stream) = ⊥
+IsUnreleased (OfStation selective station stream) = ⊥
 IsUnreleased (OfStack m) = m.core.released ≡ None
 
 -- what each end accepted is a prefix of the texts of the other side's good DTs, and all of them while it isn't released

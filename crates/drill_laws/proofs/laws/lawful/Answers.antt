@@ -5,7 +5,7 @@ use Rattle.drill_laws.proofs.laws.lawful.Goals as goal
 pub returns : goal.returns
 returns c =
     let stations : StationLaws = record {
-      receives_give = c.station_laws.ensures.receives;
+      frames_give = c.station_laws.ensures.frames;
       ticks_give = c.station_laws.ensures.ticks;
       hands_keep = c.station_laws.ensures.hands;
       others_keep = c.station_laws.ensures.others;

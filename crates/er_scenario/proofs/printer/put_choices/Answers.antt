@@ -20,5 +20,5 @@ returns-in_err-put_set-7-clause-err c =
 
 pub returns-clause-ok : goal.returns-clause-ok
 returns-clause-ok c =
-    rw (c.in_ok-put_show.ensures.ok, c.in_ok-put_set-7.ensures.ok, c.in_ok-put_set-6.ensures.ok, c.in_ok-put_set-5.ensures.ok, c.in_ok-put_set-4.ensures.ok, c.in_ok-put_set-3.ensures.ok, c.in_ok-put_set-2.ensures.ok, c.in_ok-put_set.ensures.ok, c.word.ensures, c.word-2.ensures, c.word-3.ensures, c.word-4.ensures, c.word-5.ensures, c.word-6.ensures, c.usual-usual.ensures.value)
+    rw (c.in_ok-put_show.ensures.ok, c.in_ok-put_set-7.ensures.ok, c.in_ok-put_set-6.ensures.ok, c.in_ok-put_set-5.ensures.ok, c.in_ok-put_set-4.ensures.ok, c.in_ok-put_set-3.ensures.ok, c.in_ok-put_set-2.ensures.ok, c.in_ok-put_set.ensures.ok, c.word.ensures, c.word-2.ensures, c.word-3.ensures, c.word-4.ensures, c.word-5.ensures, c.word-6.ensures, c.default_settings-usual.ensures.value)
     (simp (lines_text_append, append_assoc))

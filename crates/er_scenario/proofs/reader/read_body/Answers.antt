@@ -12,9 +12,11 @@ loop-row-preserved-in-Ok-Chooses c =
     let room = c.loop-row.invariant.room in
     let kept = rw (sym c.as_slice.ensures.value) at cut.kept in
     let said = said_by_kept _ _ _ _ cut.words _ kept (rw (c.in-Ok-Chooses.is, c.in-Ok-Chooses.field-0-is) at c.read_line.ensures.said) in
+    let chosen = rw (c.in-Ok-Chooses.is, c.in-Ok-Chooses.field-0-is) at c.read_line.ensures.range in
     record {
       said = sym (ap (behind c.loop-row.steps.items) (one_choice _ _ _ _ _ _ said)) ∙ all;
-      allowed = rw (c.in-Ok-Chooses.is, c.in-Ok-Chooses.field-0-is) at c.read_line.ensures.range;
+      allowed = chosen.0;
+      narrow = chosen.1;
       readable = c.loop-row.invariant.readable;
       room = omega (arith, count, room);
     }
@@ -30,6 +32,7 @@ loop-row-preserved c =
     record {
       said = rw c.in_ok-push-in-Ok-Does.ensures.items (sym (one_step _ _ _ c.loop-row.steps.items _ _ _ said) ∙ all);
       allowed = c.loop-row.invariant.allowed;
+      narrow = c.loop-row.invariant.narrow;
       readable =
           rw c.in_ok-push-in-Ok-Does.ensures.items
           (readable_more _ _ _ c.loop-row.invariant.readable (rw (c.in-Ok-Does.is, c.in-Ok-Does.field-0-is) at c.read_line.ensures.range));

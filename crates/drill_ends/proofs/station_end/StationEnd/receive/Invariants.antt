@@ -1,4 +1,4 @@
-use Rattle.std.proofs.Common.{ℕ, List, length}
+use Rattle.std.proofs.Common.{ℕ, Bool, List, length}
 use Rattle.station_model.specs.Stations.{Station}
 use Rattle.drill_ends.specs.KeptStations.{StandsStation}
 use Rattle.drill_ends.specs.StationEnds.{Reading}
@@ -6,8 +6,8 @@ use Rattle.drill_ends.proofs.station_end.StationEnd.receive.Given as goal
 
 abbrev pub invariant-loop-rest : goal.invariant-loop-rest
 invariant-loop-rest l =
-    (s : Station) (stream : List ℕ) → StandsStation l.fn.self s stream
-    → Reading l.now s stream l.octets l.rest l.self l.fn.told.items l.told.items
+    (selective : Bool) (s : Station) (stream : List ℕ) → StandsStation l.fn.self selective s stream
+    → Reading selective l.now s stream l.octets l.rest l.self l.fn.told.items l.told.items
 
 abbrev pub decreases-loop-rest : goal.decreases-loop-rest
 decreases-loop-rest l = length l.rest

@@ -8,30 +8,30 @@ use Rattle.drill_ends.proofs.station_end.StationEnd.tell.Goals as goal
 pub returns-in-Start : goal.returns-in-Start
 returns-in-Start c =
     on_ok_weaker c.start.result
-    (λ did s stream h. rw c.in-Start.is (went_so c.start.new.self stream c.args.told.now.items c.start.new.told.items (begins c.args.now s) (did s stream h)))
+    (λ did selective s stream h. rw c.in-Start.is (went_so c.start.new.self selective stream c.args.told.now.items c.start.new.told.items (begins c.args.now s) (did selective s stream h)))
     c.start.ensures
 
 pub returns-in-Send : goal.returns-in-Send
 returns-in-Send c =
     on_ok_weaker c.send.result
-    (λ did s stream h. rw c.in-Send.is (went_so c.send.new.self stream c.args.told.now.items c.send.new.told.items (user_sends c.args.now c.in-Send.payload.now s) (did s stream h)))
+    (λ did selective s stream h. rw c.in-Send.is (went_so c.send.new.self selective stream c.args.told.now.items c.send.new.told.items (user_sends c.args.now c.in-Send.payload.now s) (did selective s stream h)))
     c.send.ensures
 
 pub returns-in-Release : goal.returns-in-Release
 returns-in-Release c =
     on_ok_weaker c.release.result
-    (λ did s stream h. rw c.in-Release.is (went_so c.release.new.self stream c.args.told.now.items c.release.new.told.items (user_releases c.in-Release.sub s) (did s stream h)))
+    (λ did selective s stream h. rw c.in-Release.is (went_so c.release.new.self selective stream c.args.told.now.items c.release.new.told.items (user_releases c.in-Release.sub s) (did selective s stream h)))
     c.release.ensures
 
 pub returns-in-Tick : goal.returns-in-Tick
 returns-in-Tick c =
     on_ok_weaker c.tick.result
-    (λ did s stream h. rw c.in-Tick.is (went_so c.tick.new.self stream c.args.told.now.items c.tick.new.told.items (time_goes_on c.args.now s) (did s stream h)))
+    (λ did selective s stream h. rw c.in-Tick.is (went_so c.tick.new.self selective stream c.args.told.now.items c.tick.new.told.items (time_goes_on c.args.now s) (did selective s stream h)))
     c.tick.ensures
 
 pub returns-in-Receive : goal.returns-in-Receive
 returns-in-Receive c =
     on_ok_weaker c.receive.result
-    (λ did s stream h. rw c.in-Receive.is
-    (went_so c.receive.new.self (stream ++ c.in-Receive.octets.now) c.args.told.now.items c.receive.new.told.items (frames_heard c.args.now (news stream c.in-Receive.octets.now) s) (did s stream h)))
+    (λ did selective s stream h. rw c.in-Receive.is
+    (went_so c.receive.new.self selective (stream ++ c.in-Receive.octets.now) c.args.told.now.items c.receive.new.told.items (frames_heard selective c.args.now (news stream c.in-Receive.octets.now) s) (did selective s stream h)))
     c.receive.ensures

@@ -10,10 +10,10 @@ use Rattle.drill_ends.proofs.telling_station.TellingStation.quit.Goals as goal
 
 pub returns : goal.returns
 returns c =
-    λ s h.
-    let done = quit_stands c.close.new.self c.close.new.out c.args.sub s
-    (c.close.ensures.follows s [] no_deed (begins_inside c.self.inside.station c.args.self.now s c.clear.new.self c.self.view_is h c.clear.ensures.items)) in (
-      call_ends c.close.new.self c.close.new.out (released_as (Some (release_of (User c.args.sub)))) (quits c.args.sub s) c.args.told.now.items c.push_back.new.self.items c.tell_frames.new.told.items
+    λ selective s h.
+    let done = quit_stands selective c.close.new.self c.close.new.out c.args.sub s
+    (c.close.ensures.does selective s [] no_deed (begins_inside selective c.self.inside.station c.args.self.now s c.clear.new.self c.self.view_is h c.clear.ensures.items)) in (
+      call_ends selective c.close.new.self c.close.new.out (released_as (Some (release_of (User c.args.sub)))) (quits c.args.sub s) c.args.told.now.items c.push_back.new.self.items c.tell_frames.new.told.items
           done (rw c.release-release.ensures at c.in_ok-push_back.ensures.items)
           (subst (λ (xs : List ℕ). TellsFrames xs c.push_back.new.self.items c.tell_frames.new.told.items) c.held.ensures c.in_ok-tell_frames.ensures),
       ap Some c.release-release.ensures,

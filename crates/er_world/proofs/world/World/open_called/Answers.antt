@@ -12,6 +12,13 @@ returns-in-Link-clause-does c =
     (ap (λ w. link_opening w.plan.level c.args.engine c.args.rbc c.args.ke c.args.kr c.args.ra c.args.rb) (sym c.self.view_is)
     ∙ ap (λ l. link_opening l c.args.engine c.args.rbc c.args.ke c.args.kr c.args.ra c.args.rb) c.in-Link.is)
 
+pub returns-in-LinkSr-clause-does : goal.returns-in-LinkSr-clause-does
+returns-in-LinkSr-clause-does c =
+    opens_nothing (λ l. l.now) c.link.result (record { links = record { marks = c.world_grows.ensures.marks; facts = c.world_grows.ensures.facts; lines = c.world_grows.ensures.lines }; history = c.world_grows.ensures.history; own = c.world_grows.ensures.own; other = c.world_grows.ensures.other; marks = c.world_grows.ensures.world; text = c.world_grows.ensures.text }) c.args.self.now c.args.number _ c.args.out.now.items
+    c.if-is_some.ensures c.link.ensures (sym c.if-not-is_link.ensures)
+    (ap (λ w. link_opening w.plan.level c.args.engine c.args.rbc c.args.ke c.args.kr c.args.ra c.args.rb) (sym c.self.view_is)
+    ∙ ap (λ l. link_opening l c.args.engine c.args.rbc c.args.ke c.args.kr c.args.ra c.args.rb) c.in-LinkSr.is)
+
 pub returns-in_ok-link-in-Safe-clause-does : goal.returns-in_ok-link-in-Safe-clause-does
 returns-in_ok-link-in-Safe-clause-does c =
     let level_is : link_opening c.args.self.now.plan.level c.args.engine c.args.rbc c.args.ke c.args.kr c.args.ra c.args.rb

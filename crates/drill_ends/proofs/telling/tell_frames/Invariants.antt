@@ -2,7 +2,7 @@ use Rattle.std.proofs.Common.{◌≡◌, Bool, List, length}
 use Rattle.station_model.specs.Frames.{Frame}
 use Rattle.hdlc_balanced.specs.Kept.{texts}
 use Rattle.drill_ends.specs.StationEnds.{TellingFrames}
-use Rattle.drill_ends.proofs.telling_station.tell_frames.Given as goal
+use Rattle.drill_ends.proofs.telling.tell_frames.Given as goal
 
 abbrev pub invariant-loop-length : goal.invariant-loop-length
 invariant-loop-length l =

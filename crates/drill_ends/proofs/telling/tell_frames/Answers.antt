@@ -1,7 +1,7 @@
 use Rattle.std.proofs.Common.{◌<◌, ℕ, List, sym, subst, arith}
 use Rattle.drill_ends.specs.StationEnds.{TellingFrames}
 use Rattle.drill_ends.proofs.StationFrames.{closes_some, frames_begin, frames_pass, frames_end}
-use Rattle.drill_ends.proofs.telling_station.tell_frames.Goals as goal
+use Rattle.drill_ends.proofs.telling.tell_frames.Goals as goal
 
 pub loop-length-init : goal.loop-length-init
 loop-length-init c =

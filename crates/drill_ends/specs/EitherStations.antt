@@ -1,0 +1,66 @@
+-- Contract: how a clause speaks of a station of the code of either kind, with go-back or with selective reject.
+use Rattle.std.specs.Prelude.{◌≡◌, ℕ, ◌+◌, ◌*◌, ◌≤◌, Bool, true, false, List, ◌++◌, length}
+use Rattle.er_base.specs.Stored.{Stored}
+use Rattle.station_model.specs.Stations.{Station, Deed, no_deed}
+use Rattle.hdlc_balanced.specs.Kept.{kept_of, texts}
+use Rattle.hdlc_selective.specs.Kept.{SelectiveKept, IsBehind}
+use Rattle.drill_ends.specs.declared.either_station.EitherStation.{EitherStation}
+use Rattle.drill_ends.specs.declared.either_station.EitherStation.TheVariants as either
+
+-- ---- what is kept
+
+-- the code keeps so of a station with selective reject
+pub record KeepsSelective (k : SelectiveKept) (s : Station) : Type 0 where
+  pub core : k.core ≡ kept_of s
+  pub behind : IsBehind k.places (length s.taken) s.held s.asked
+  pub no_gap : s.gap ≡ false
+
+-- the code keeps so of a station of this kind
+abbrev pub Keeps : EitherStation → (selective : Bool) → Station → Type 0
+Keeps (either.GoBack k) true s = ⊥
+Keeps (either.GoBack k) false s = k ≡ kept_of s
+Keeps (either.Selective k) true s = KeepsSelective k s
+Keeps (either.Selective k) false s = ⊥
+
+-- what holds of each station of the model that the code keeps
+abbrev pub ShownOf : EitherStation → (Station → Type 0) → Type 0
+ShownOf k P = (selective : Bool) (s : Station) → Keeps k selective s → s.acked ≤ s.sent → s.sent ≤ length s.handed → P s
+
+-- ---- a part of a call
+
+-- within a call: the code keeps this station, it had `before` when the call began, and told d so far
+pub record StandsInCall (k : EitherStation) (selective : Bool) (before : List ℕ) (out : Stored) (d : Deed) (s : Station) : Type 0 where
+  pub keeps : Keeps k selective s
+  pub order : s.acked ≤ s.sent
+  pub given : s.sent ≤ length s.handed
+  pub deed : s.deed ≡ d
+  pub text : out.items ≡ before ++ texts s.calling s.extended s.said
+
+-- a part of a call that does what a step of the model does
+abbrev pub Does : EitherStation → Stored → EitherStation → Stored → (Station → Station) → Type 0
+Does old out new out' step =
+    (selective : Bool) (s : Station) (before : List ℕ) (d : Deed) → StandsInCall old selective before out d s
+    → StandsInCall new selective before out' d (step s)
+
+-- a part of a call that tells something, where nothing was told before
+abbrev pub Says : EitherStation → Stored → EitherStation → Stored → Deed → (Station → Station) → Type 0
+Says old out new out' told step =
+    (selective : Bool) (s : Station) (before : List ℕ) → StandsInCall old selective before out no_deed s
+    → StandsInCall new selective before out' told (step s)
+
+-- ---- how much is written
+
+-- the most frames of an event that the window lets through: with selective reject each frame of it may be asked for, and as many sent
+abbrev pub let_by : (selective : Bool) (window : ℕ) → ℕ
+let_by true window = 2 * window
+let_by false window = window
+
+abbrev pub let_through : EitherStation → ℕ
+let_through (either.GoBack k) = let_by false k.window
+let_through (either.Selective k) = let_by true k.core.window
+
+-- at most n frames were written
+pub record Wrote (old : EitherStation) (out : Stored) (new : EitherStation) (out' : Stored) (n : ℕ) : Type 0 where
+  pub through : let_through new ≡ let_through old
+  pub capacity : out'.capacity ≡ out.capacity
+  pub items : length out'.items ≤ length out.items + n * 2064
