@@ -146,36 +146,38 @@ const OUTSIDE: [(u64, u64, u64); 25] = [
     ),
 ];
 
+// Whether both bodies make the answer of the block, and the block of the answer.
+fn is_known(key: u64, block: u64, answer: u64) -> bool {
+    encipher(key, block) == answer
+        && decipher(key, answer) == block
+        && plain::encipher(key, block) == answer
+        && plain::decipher(key, answer) == block
+}
+
 #[test]
 fn known_answers(rt: HostRuntime) {
     for (key, block, answer) in KNOWN {
-        assert_eq!(rt; encipher(key, block), answer, "enciphering {block}");
-        assert_eq!(rt; decipher(key, answer), block, "deciphering {answer}");
-        assert_eq!(rt;
-            plain::encipher(key, block),
-            answer,
-            "enciphering {block} bit by bit"
-        );
-        assert_eq!(rt;
-            plain::decipher(key, answer),
-            block,
-            "deciphering {answer} bit by bit"
-        );
+        assert!(rt; is_known(key, block, answer), "{block}");
     }
+}
+
+fn is_made(key: u64, block: u64, answer: u64) -> bool {
+    let schedule = KeySchedule::new(key);
+    schedule.encipher(block) == answer
+        && schedule.decipher(answer) == block
+        && plain::encipher(key, block) == answer
 }
 
 #[test]
 fn outside_vectors(rt: HostRuntime) {
     for (key, block, answer) in OUTSIDE {
-        let schedule = KeySchedule::new(key);
-        assert_eq!(rt; schedule.encipher(block), answer, "enciphering {block}");
-        assert_eq!(rt; schedule.decipher(answer), block, "deciphering {answer}");
-        assert_eq!(rt;
-            plain::encipher(key, block),
-            answer,
-            "enciphering {block} bit by bit"
-        );
+        assert!(rt; is_made(key, block, answer), "{block}");
     }
+}
+
+fn agree(key: u64, block: u64) -> bool {
+    encipher(key, block) == plain::encipher(key, block)
+        && decipher(key, block) == plain::decipher(key, block)
 }
 
 // Each block is what became of the one before, and now and then the key too.
@@ -184,18 +186,17 @@ fn both_bodies_agree(rt: HostRuntime) {
     let mut key = 0x1334_5779_9bbc_dff1;
     let mut block = 0;
     for i in 0..4000u16 {
-        let enciphered = encipher(key, block);
-        assert_eq!(rt; enciphered, plain::encipher(key, block), "block {i}");
-        assert_eq!(rt;
-            decipher(key, block),
-            plain::decipher(key, block),
-            "block {i} back"
-        );
-        block = enciphered;
+        assert!(rt; agree(key, block), "block {i}");
+        block = encipher(key, block);
         if i % 16 == 0 {
             key ^= block;
         }
     }
+}
+
+fn are_values(key: TripleKey) -> bool {
+    let copy = key;
+    key == copy && key != TripleKey { third: 2, ..key }
 }
 
 #[test]
@@ -205,9 +206,7 @@ fn triple_keys_are_values(rt: HostRuntime) {
         second: 2,
         third: 3,
     };
-    let copy = key;
-    assert!(rt; key == copy);
-    assert!(rt; key != TripleKey { third: 2, ..key });
+    assert!(rt; are_values(key));
 }
 
 #[test]
@@ -217,29 +216,38 @@ fn triple_keys_print_no_key(rt: HostRuntime) -> Result<(), Fail> {
         second: 2,
         third: 3,
     };
-    assert_eq!(rt;
-        format!(in rt.alloc(); "{key:?}")?.as_str(),
-        "TripleKey(..)"
-    );
+    let printed = format!(in rt.alloc(); "{key:?}")?;
+    assert!(rt; printed.as_str() == "TripleKey(..)");
     Ok(())
 }
 
-// The three steps one after another, and two blocks chained by hand.
+// The three steps one after another.
+fn are_three_steps(schedule: &TripleSchedule, three: &TripleKey, block: u64) -> bool {
+    let inner = decipher(three.second, encipher(three.first, block));
+    schedule.encipher(block) == encipher(three.third, inner) && schedule.key() == *three
+}
+
+// Two blocks chained by hand.
+fn is_chained(schedule: &TripleSchedule, key: u64, block: u64) -> bool {
+    let mut value = ChainingValue::zero();
+    value.chain(schedule.first(), block);
+    value.chain(schedule.first(), key);
+    value.block() == encipher(key, encipher(key, block) ^ key)
+}
+
+fn steps(key: u64, block: u64) -> bool {
+    let three = TripleKey {
+        first: key,
+        second: block,
+        third: key ^ block,
+    };
+    let schedule = TripleSchedule::new(&three);
+    are_three_steps(&schedule, &three, block) && is_chained(&schedule, key, block)
+}
+
 #[test]
 fn steps_one_by_one(rt: HostRuntime) {
     for (key, block, _) in OUTSIDE {
-        let three = TripleKey {
-            first: key,
-            second: block,
-            third: key ^ block,
-        };
-        let schedule = TripleSchedule::new(&three);
-        let thrice = encipher(key ^ block, decipher(block, encipher(key, block)));
-        assert_eq!(rt; schedule.encipher(block), thrice);
-        assert!(rt; schedule.key() == three);
-        let mut value = ChainingValue::zero();
-        value.chain(schedule.first(), block);
-        value.chain(schedule.first(), key);
-        assert_eq!(rt; value.block(), encipher(key, encipher(key, block) ^ key));
+        assert!(rt; steps(key, block));
     }
 }

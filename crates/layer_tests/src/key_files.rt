@@ -1,6 +1,6 @@
 use des_block::TripleKey;
 use er_base::NoMemory;
-use key_store::{KeyFileFault, KeyStore};
+use key_store::KeyStore;
 use safety_automaton::KeyFinder;
 use std::alloc::Global;
 use std::test::Fail;
@@ -79,69 +79,94 @@ Twice { first: 2, second: 3 }|version = 2;@;engine = 5;rbc = 9;kmac = \"K\";from
 Twice { first: 1, second: 2 }|version = 2;@;engine = 5;rbc = 9;kmac = \"K\";from = 10;to = 20;@;engine = 5;rbc = 9;kmac = \"K\";from = 0;to = 10
 Twice { first: 1, second: 3 }|version = 2;@;engine = 5;rbc = 9;kmac = \"K\";from = 0;to = 9;@;engine = 5;rbc = 9;kmac = \"K\";from = 10;to = 20;@;engine = 5;rbc = 9;kmac = \"K\";from = 0;to = 30";
 
+// What the fault of a file says, or nothing where it has none.
+fn fault_of(alloc: Global, text: &[u8]) -> Result<String, Fail> {
+    match KeyStore::from_bytes(alloc, text) {
+        Ok(_) => Ok(String::new(alloc)),
+        Err(fault) => Ok(format!(in alloc; "{fault:?}")?),
+    }
+}
+
+fn is_refused(alloc: Global, row: &str) -> Result<bool, Fail> {
+    let (expected, text) = row.split_once('|').ok_or("no text")?;
+    let text = spelled_out(alloc, text)?;
+    Ok(fault_of(alloc, text.as_slice())?.as_str() == expected)
+}
+
 #[test]
 fn tells_the_first_fault(rt: HostRuntime) -> Result<(), Fail> {
     for row in FAULTS.split('\n') {
-        let Some((expected, text)) = row.split_once('|') else {
-            return Ok(assert!(rt; false, "{row}"));
-        };
-        let text = spelled_out(rt.alloc(), text)?;
-        let Err(fault) = KeyStore::from_bytes(rt.alloc(), text.as_slice()) else {
-            return Ok(assert!(rt; false, "{row}"));
-        };
-        let told = format!(in rt.alloc(); "{fault:?}")?;
-        assert_eq!(rt; told.as_str(), expected, "{row}");
+        assert!(rt; is_refused(rt.alloc(), row)?, "{row}");
     }
-    assert!(rt;
-        matches!(
-            KeyStore::from_bytes(rt.alloc(), b"version = 1 # \xFF"),
-            Err(KeyFileFault::Document)
-        )
-    );
+    let fault = fault_of(rt.alloc(), b"version = 1 # \xFF")?;
+    assert!(rt; fault.as_str() == "Document");
     Ok(())
 }
 
 const MOMENTS: &str = "version = 2;extra = 1;@;rbc = 9;engine = 5;kmac = \"K\";from = 0;to = 999;\
 @;engine = 5;rbc = 9;from = 1000;to = 1000000000000000;kmac = \"K\";more = []";
 
+fn store_of(alloc: Global, text: &str) -> Result<KeyStore, Fail> {
+    Ok(KeyStore::from_bytes(alloc, spelled_out(alloc, text)?.as_slice())?)
+}
+
+const ALWAYS: &str = "version = 1;key = [{ engine = 5, rbc = 9, kmac = \"K\" }]";
+
+fn finds_always(store: &KeyStore) -> bool {
+    store.find(5, 9, 0) == Some(KEYS)
+        && store.find(5, 9, 1_000_000_000_000_000) == Some(KEYS)
+        && store.find(5, 9, 1_000_000_000_000_001).is_none()
+        && store.find(9, 5, 0).is_none()
+        && store.find(5, 8, 0).is_none()
+}
+
+const WINDOW: &str = "version = 2;@;engine = 5;rbc = 9;kmac = \"K\";from = 10;to = 20";
+
+fn finds_in_a_window(store: &KeyStore) -> bool {
+    store.find(5, 9, 9).is_none()
+        && store.find(5, 9, 10) == Some(KEYS)
+        && store.find(5, 9, 20) == Some(KEYS)
+        && store.find(5, 9, 21).is_none()
+}
+
 #[test]
 fn finds_the_key_of_a_pair_at_a_moment(rt: HostRuntime) -> Result<(), Fail> {
-    let alloc = rt.alloc();
-    let text = spelled_out(
-        alloc,
-        "version = 1;key = [{ engine = 5, rbc = 9, kmac = \"K\" }]",
-    )?;
-    let always = KeyStore::from_bytes(alloc, text.as_slice())?;
-    assert_eq!(rt; always.find(5, 9, 0), Some(KEYS));
-    assert_eq!(rt; always.find(5, 9, 1_000_000_000_000_000), Some(KEYS));
-    assert_eq!(rt; always.find(5, 9, 1_000_000_000_000_001), None);
-    assert_eq!(rt; always.find(9, 5, 0), None);
-    assert_eq!(rt; always.find(5, 8, 0), None);
-    let none = KeyStore::from_bytes(alloc, b"version = 2")?;
-    assert_eq!(rt; none.find(5, 9, 0), None);
-    let empty = KeyStore::from_bytes(alloc, b"version = 1\nkey = []\n")?;
-    assert_eq!(rt; empty.find(0, 0, 0), None);
-    let window = "version = 2;@;engine = 5;rbc = 9;kmac = \"K\";from = 10;to = 20";
-    let window = KeyStore::from_bytes(alloc, spelled_out(alloc, window)?.as_slice())?;
-    assert_eq!(rt; window.find(5, 9, 9), None);
-    assert_eq!(rt; window.find(5, 9, 10), Some(KEYS));
-    assert_eq!(rt; window.find(5, 9, 20), Some(KEYS));
-    assert_eq!(rt; window.find(5, 9, 21), None);
+    assert!(rt; finds_always(&store_of(rt.alloc(), ALWAYS)?));
+    assert!(rt; store_of(rt.alloc(), "version = 2")?.find(5, 9, 0).is_none());
+    assert!(rt;
+        store_of(rt.alloc(), "version = 1;key = [];")?
+            .find(0, 0, 0)
+            .is_none()
+    );
+    assert!(rt; finds_in_a_window(&store_of(rt.alloc(), WINDOW)?));
     Ok(())
+}
+
+const PRINTED: &str = "version = 2;;@;engine = 5;from = 0;kmac = \"K\";rbc = 9;to = 999;;\
+@;engine = 5;from = 1000;kmac = \"K\";rbc = 9;to = 1000000000000000;";
+
+// What is printed of a key file.
+fn printed(alloc: Global, text: &[u8]) -> Result<Vec<u8>, Fail> {
+    Ok(KeyStore::from_bytes(alloc, text)?.to_text(alloc)?)
+}
+
+// Whether what is printed of a key file is that, and again.
+fn prints(alloc: Global, text: &str, expected: &str) -> Result<bool, Fail> {
+    let text = printed(alloc, spelled_out(alloc, text)?.as_slice())?;
+    let is_again = printed(alloc, text.as_slice())?.as_slice() == text.as_slice();
+    Ok(is_again && text.as_slice() == spelled_out(alloc, expected)?.as_slice())
+}
+
+// Whether what is shown of a key file has neither the digits of its keys nor their numbers.
+fn shows_no_key(alloc: Global, text: &str) -> Result<bool, Fail> {
+    let store = store_of(alloc, text)?;
+    let shown = format!(in alloc; "{store:?}")?;
+    Ok(!shown.as_str().contains("0123") && !shown.as_str().contains("81985529216486895"))
 }
 
 #[test]
 fn prints_entries_one_by_one_and_shows_no_key(rt: HostRuntime) -> Result<(), Fail> {
-    let alloc = rt.alloc();
-    let store = KeyStore::from_bytes(alloc, spelled_out(alloc, MOMENTS)?.as_slice())?;
-    let text = store.to_text(alloc)?;
-    let expected = "version = 2;;@;engine = 5;from = 0;kmac = \"K\";rbc = 9;to = 999;;\
-@;engine = 5;from = 1000;kmac = \"K\";rbc = 9;to = 1000000000000000;";
-    assert_eq!(rt; text.as_slice(), spelled_out(alloc, expected)?.as_slice());
-    let again = KeyStore::from_bytes(alloc, text.as_slice())?;
-    assert_eq!(rt; again.to_text(alloc)?.as_slice(), text.as_slice());
-    let shown = format!(in alloc; "{store:?}")?;
-    assert!(rt; !shown.as_str().contains("0123"));
-    assert!(rt; !shown.as_str().contains("81985529216486895"));
+    assert!(rt; prints(rt.alloc(), MOMENTS, PRINTED)?);
+    assert!(rt; shows_no_key(rt.alloc(), MOMENTS)?);
     Ok(())
 }

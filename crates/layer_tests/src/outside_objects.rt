@@ -26,27 +26,39 @@ fn filled(alloc: Global) -> Result<MemoryCabinet, NoMemory> {
     Ok(cabinet)
 }
 
+fn fetches(alloc: Global, cabinet: &mut MemoryCabinet) -> bool {
+    holds(alloc, cabinet, "keys", b"third")
+        && holds(alloc, cabinet, "drill", b"second")
+        && fails(alloc, cabinet, "keys")
+        && holds(alloc, cabinet, "keys", b"third")
+        && fails(alloc, cabinet, "bulk")
+}
+
 #[test]
 fn files_are_fetched_and_a_listed_call_and_a_missing_name_fail(
     rt: HostRuntime,
 ) -> Result<(), Fail> {
-    let mut cabinet = filled(rt.alloc())?;
-    assert!(rt; holds(rt.alloc(), &mut cabinet, "keys", b"third"));
-    assert!(rt; holds(rt.alloc(), &mut cabinet, "drill", b"second"));
-    assert!(rt; fails(rt.alloc(), &mut cabinet, "keys"));
-    assert!(rt; holds(rt.alloc(), &mut cabinet, "keys", b"third"));
-    assert!(rt; fails(rt.alloc(), &mut cabinet, "bulk"));
+    assert!(rt; fetches(rt.alloc(), &mut filled(rt.alloc())?));
     Ok(())
+}
+
+// A sink of six octets that fails its second write.
+fn small_sink(alloc: Global) -> Result<MemorySink, NoMemory> {
+    let mut sink = MemorySink::with_capacity(alloc, 6)?;
+    sink.fail(2)?;
+    Ok(sink)
+}
+
+fn writes(sink: &mut MemorySink) -> bool {
+    sink.write(b"one") == Ok(())
+        && sink.write(b"no") == Err(Failed)
+        && sink.write(b"four") == Err(Failed)
+        && sink.write(b"two") == Ok(())
+        && sink.held() == b"onetwo".as_slice()
 }
 
 #[test]
 fn a_listed_write_and_a_spent_capacity_fail(rt: HostRuntime) -> Result<(), Fail> {
-    let mut sink = MemorySink::with_capacity(rt.alloc(), 6)?;
-    sink.fail(2)?;
-    assert_eq!(rt; sink.write(b"one"), Ok(()));
-    assert_eq!(rt; sink.write(b"no"), Err(Failed));
-    assert_eq!(rt; sink.write(b"four"), Err(Failed));
-    assert_eq!(rt; sink.write(b"two"), Ok(()));
-    assert_eq!(rt; sink.held(), b"onetwo".as_slice());
+    assert!(rt; writes(&mut small_sink(rt.alloc())?));
     Ok(())
 }

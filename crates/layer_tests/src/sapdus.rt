@@ -1,12 +1,10 @@
+ghost use Rattle.std.specs.Prelude.{◌≡◌, ◌≤◌};
 ghost use Rattle.sapdu.specs.Spelling.{HasUserOctets, HasNumber};
 ghost use Rattle.sapdu.specs.Reading.{view};
 
-use er_base::Room;
-use sapdu::{
-    MOST_OCTETS, SaFault, SaPdu, SealedText, is_message, laws, peers_di, read, write_into,
-};
+use er_base::{Room, decimal, octets_of};
+use sapdu::{MOST_OCTETS, SaPdu, SealedText, is_message, laws, peers_di, read, write_into};
 use std::alloc::Global;
-use std::process::Abort;
 use std::test::Fail;
 
 // The octets were worked out by hand from the layouts of SUBSET-037: engine 5 calls the radio block
@@ -31,52 +29,58 @@ const RB: u64 = 0x0102_0304_0506_0708;
 
 const MAC: u64 = 0x2122_2324_2526_2728;
 
-// The octets are read as this SaPDU, and it is written as these octets.
-fn is_spelled(
-    rt: &impl Abort,
-    alloc: Global,
-    octets: &[u8],
-    pdu: &SaPdu,
-    flag: bool,
-) -> Result<(), Fail>
+// Whether the octets are read as this SaPDU, and it is written as these octets.
+fn is_spelled(octets: &[u8], pdu: &SaPdu, flag: bool, room: &mut Room) -> bool
     requires user { HasUserOctets (view pdu.now) }
     requires number { HasNumber (view pdu.now) }
+    requires room { 1032 ≤ room.old.capacity }
+    ensures { room.new.capacity ≡ room.old.capacity }
 {
-    assert_eq!(rt; read(octets), Ok((*pdu, flag)));
-    let mut out = Room::with_capacity(alloc, MOST_OCTETS)?;
+    room.clear();
     laws::lengths_of_spellings();
-    write_into(pdu, flag, &mut out);
-    assert_eq!(rt; out.held(), octets);
-    Ok(())
+    write_into(pdu, flag, room);
+    read(octets) == Ok((*pdu, flag)) && room.held() == octets
+}
+
+fn spells_set_ups(room: &mut Room) -> bool
+    requires { 1032 ≤ room.old.capacity }
+    ensures { room.new.capacity ≡ room.old.capacity }
+{
+    let au1 = SaPdu::Au1 {
+        id: 5,
+        feature: 1,
+        rb: RB,
+    };
+    let au2 = SaPdu::Au2 {
+        id: 9,
+        feature: 1,
+        ra: RA,
+        mac: MAC,
+    };
+    is_spelled(AU1, &au1, false, room)
+        && is_spelled(AU2, &au2, true, room)
+        && is_spelled(AU3, &SaPdu::Au3 { mac: MAC }, false, room)
+        && is_spelled(AR, &SaPdu::Ar { mac: MAC }, true, room)
+}
+
+fn spells_messages(room: &mut Room) -> bool
+    requires { 1032 ≤ room.old.capacity }
+    ensures { room.new.capacity ≡ room.old.capacity }
+{
+    let user = b"ab";
+    is_spelled(DT, &SaPdu::Dt { user, mac: MAC }, false, room)
+        && is_spelled(DI, &SaPdu::Di { reason: 4, sub: 1 }, true, room)
 }
 
 #[test]
 fn reads_and_writes_each_kind(rt: HostRuntime) -> Result<(), Fail> {
-    let alloc = rt.alloc();
-    let feature = 1;
-    let au1 = SaPdu::Au1 {
-        id: 5,
-        feature,
-        rb: RB,
-    };
-    is_spelled(&rt, alloc, AU1, &au1, false)?;
-    let au2 = SaPdu::Au2 {
-        id: 9,
-        feature,
-        ra: RA,
-        mac: MAC,
-    };
-    is_spelled(&rt, alloc, AU2, &au2, true)?;
-    is_spelled(&rt, alloc, AU3, &SaPdu::Au3 { mac: MAC }, false)?;
-    is_spelled(&rt, alloc, AR, &SaPdu::Ar { mac: MAC }, true)?;
-    let user = b"ab";
-    is_spelled(&rt, alloc, DT, &SaPdu::Dt { user, mac: MAC }, false)?;
-    is_spelled(&rt, alloc, DI, &SaPdu::Di { reason: 4, sub: 1 }, true)?;
+    let mut room = Room::with_capacity(rt.alloc(), MOST_OCTETS)?;
+    assert!(rt; spells_set_ups(&mut room));
+    assert!(rt; spells_messages(&mut room));
     Ok(())
 }
 
-#[test]
-fn seals_texts(rt: HostRuntime) {
+fn seals_au2() -> bool {
     let au2 = SaPdu::Au2 {
         id: 9,
         feature: 1,
@@ -86,69 +90,95 @@ fn seals_texts(rt: HostRuntime) {
     let text = SealedText::new(&au2, true, 5, 0, RB);
     let octets =
         b"\x00\x18\x00\x00\x05\x25\x00\x00\x09\x01\x11\x12\x13\x14\x15\x16\x17\x18\x01\x02\x03\x04\x05\x06\x07\x08";
-    assert_eq!(rt; text.octets(), octets.as_slice());
+    text.octets() == octets.as_slice()
+}
+
+fn seals_dt() -> bool {
     let user = b"ab";
     let dt = SaPdu::Dt { user, mac: MAC };
     let text = SealedText::new(&dt, false, 9, RA, RB);
-    assert_eq!(rt; text.octets(), b"\x00\x06\x00\x00\x09\x0Aab".as_slice());
+    text.octets() == b"\x00\x06\x00\x00\x09\x0Aab".as_slice()
 }
 
 #[test]
-fn tells_messages_and_disconnections(rt: HostRuntime) -> Result<(), Fail> {
-    for (length, is) in [(0, false), (1, true), (1023, true), (1024, false)] {
-        let user = vec![in rt.alloc(); 7; length]?;
-        assert_eq!(rt; is_message(&user), is, "{length}");
+fn seals_texts(rt: HostRuntime) {
+    assert!(rt; seals_au2());
+    assert!(rt; seals_dt());
+}
+
+fn tells_messages() -> bool {
+    let user = [7; 1024];
+    !is_message(&[]) && is_message(&[7]) && is_message(&user[..1023]) && !is_message(&user)
+}
+
+fn tells_disconnections() -> bool {
+    peers_di(DI, true) == Some((4, 1))
+        && peers_di(DI, false).is_none()
+        && peers_di(AU3, false).is_none()
+        && peers_di(&DI[..2], true).is_none()
+}
+
+#[test]
+fn tells_messages_and_disconnections(rt: HostRuntime) {
+    assert!(rt; tells_messages());
+    assert!(rt; tells_disconnections());
+}
+
+// A header, how many octets there are, each like it, and what is wrong with them, if anything.
+const READ: &str = "\
+42 0|Short { need: 1, found: 0 }
+42 12|Short { need: 13, found: 12 }
+43 14|Long { max: 13, found: 14 }
+24 20|Short { need: 21, found: 20 }
+25 22|Long { max: 21, found: 22 }
+06 8|Short { need: 9, found: 8 }
+07 10|Long { max: 9, found: 10 }
+12 8|Short { need: 9, found: 8 }
+13 10|Long { max: 9, found: 10 }
+0a 9|Short { need: 10, found: 9 }
+0b 1033|Long { max: 1032, found: 1033 }
+10 2|Short { need: 3, found: 2 }
+11 4|Long { max: 3, found: 4 }
+ff 1|Kind(255)
+0c 13|Kind(12)
+43 13|
+24 21|
+07 9|
+12 9|
+0b 10|
+0a 1032|
+10 3|";
+
+// The octets of a row, of which there are at most 1100.
+fn octets_like(alloc: Global, row: &str) -> Result<Vec<u8>, Fail> {
+    let (header, count) = row.split_once(' ').ok_or("no count")?;
+    let mut octets = Vec::new(alloc);
+    octets_of(header.as_bytes(), &mut octets)?;
+    let header = octets.first().copied().unwrap_or(0);
+    let count = decimal(count.as_bytes()).ok_or("no count")?.min(1_100);
+    octets.clear();
+    octets.resize(count as usize, header)?;
+    Ok(octets)
+}
+
+// What is wrong with octets, or nothing.
+fn fault_of(alloc: Global, octets: &[u8]) -> Result<String, Fail> {
+    match read(octets) {
+        Ok(_) => Ok(String::new(alloc)),
+        Err(fault) => Ok(format!(in alloc; "{fault:?}")?),
     }
-    assert_eq!(rt; peers_di(DI, true), Some((4, 1)));
-    assert_eq!(rt; peers_di(DI, false), None);
-    assert_eq!(rt; peers_di(AU3, false), None);
-    assert_eq!(rt; peers_di(&DI[..2], true), None);
-    Ok(())
 }
 
-fn short(need: usize, found: usize) -> SaFault {
-    SaFault::Short { need, found }
-}
-
-fn long(max: usize, found: usize) -> SaFault {
-    SaFault::Long { max, found }
+fn is_read_so(alloc: Global, row: &str) -> Result<bool, Fail> {
+    let (octets, fault) = row.split_once('|').ok_or("no fault")?;
+    let octets = octets_like(alloc, octets)?;
+    Ok(fault_of(alloc, octets.as_slice())?.as_str() == fault)
 }
 
 #[test]
 fn refuses_what_is_no_sapdu(rt: HostRuntime) -> Result<(), Fail> {
-    assert_eq!(rt; read(&[]).err(), Some(short(1, 0)));
-    let faults = [
-        (0x42, 12, short(13, 12)),
-        (0x43, 14, long(13, 14)),
-        (0x24, 20, short(21, 20)),
-        (0x25, 22, long(21, 22)),
-        (0x06, 8, short(9, 8)),
-        (0x07, 10, long(9, 10)),
-        (0x12, 8, short(9, 8)),
-        (0x13, 10, long(9, 10)),
-        (0x0A, 9, short(10, 9)),
-        (0x0B, 1033, long(1032, 1033)),
-        (0x10, 2, short(3, 2)),
-        (0x11, 4, long(3, 4)),
-        (0xFF, 1, SaFault::Kind(0xFF)),
-        (0x0C, 13, SaFault::Kind(0x0C)),
-    ];
-    for (header, found, fault) in faults {
-        let octets = vec![in rt.alloc(); header; found]?;
-        assert_eq!(rt; read(&octets).err(), Some(fault), "{header} {found}");
-    }
-    let lengths = [
-        (0x43, 13),
-        (0x24, 21),
-        (0x07, 9),
-        (0x12, 9),
-        (0x0B, 10),
-        (0x0A, 1032),
-        (0x10, 3),
-    ];
-    for (header, found) in lengths {
-        let octets = vec![in rt.alloc(); header; found]?;
-        assert!(rt; read(&octets).is_ok(), "{header} {found}");
+    for row in READ.split('\n') {
+        assert!(rt; is_read_so(rt.alloc(), row)?, "{row}");
     }
     Ok(())
 }

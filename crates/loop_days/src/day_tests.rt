@@ -3,13 +3,12 @@
 use crate::lines::{count_of, lines_of};
 use crate::script::Script;
 use crate::serving::{randoms_behind, serve_in_memory};
-use crate::train::{Train, keys};
+use crate::train::{keys, trains};
 use er_base::NoMemory;
 use er_trace::read;
 use er_users::{Echo, SafeUser};
 use key_store::KeyStore;
 use link_trait::MemorySink;
-use rand_core::Rng;
 use std::alloc::Global;
 use std::test::Fail;
 use trace_replay::replay;
@@ -24,6 +23,9 @@ const ORDERS: [[u8; 3]; 6] = [
     [2, 1, 0],
 ];
 
+// The position reports of a train.
+const REPORTS: u8 = 10;
+
 // The rounds in which each train speaks, from its call until all its reports were said back.
 const WHOLE: u8 = 16;
 
@@ -33,45 +35,16 @@ const UNTIL_IT_FAILS: u8 = 7;
 // A set-up frame.
 const LATE: &[u8] = &[0x7e, 0x01, 0x3f, 0xeb, 0xdf, 0x7e];
 
-// The train that is accepted behind so many others.
-fn train(alloc: Global, behind: u8) -> Result<Train, NoMemory> {
-    let ra = randoms_behind(behind).next_u64();
-    Train::begin(alloc, behind.saturating_add(5), ra)
-}
-
-// The trains of a day.
-fn four_trains(alloc: Global) -> Result<Vec<Train>, NoMemory> {
-    let mut trains = Vec::new(alloc);
-    for behind in 0..4 {
-        trains.push(train(alloc, behind)?)?;
-    }
-    Ok(trains)
-}
-
-// One of the trains speaks, over the connection that has its place.
-fn speak(
-    alloc: Global,
-    keys: &KeyStore,
-    place: u8,
-    trains: &mut Vec<Train>,
-    script: &mut Script,
-) -> Result<(), NoMemory> {
-    match trains.get_mut(usize::from(place)) {
-        Some(train) => script.speak(alloc, keys, u64::from(place) + 1, train),
-        None => Ok(()),
-    }
-}
-
 // The script of a day. The wire of the second train fails at a write of its last round.
 fn day(alloc: Global, keys: &KeyStore, order: [u8; 3]) -> Result<Script, NoMemory> {
-    let mut trains = four_trains(alloc)?;
+    let mut trains = trains(alloc, 4, 0, REPORTS)?;
     let mut script = Script::new(alloc);
     for _ in 0..3 {
         script.accept()?;
     }
     for round in 0..UNTIL_IT_FAILS {
         for place in order {
-            speak(alloc, keys, place, &mut trains, &mut script)?;
+            script.speak(alloc, keys, place, &mut trains)?;
             if place == 1 && round + 1 == UNTIL_IT_FAILS {
                 script.fail_here();
             }
@@ -82,7 +55,7 @@ fn day(alloc: Global, keys: &KeyStore, order: [u8; 3]) -> Result<Script, NoMemor
     for _ in 0..WHOLE {
         for place in order {
             let place = if place == 1 { 3 } else { place };
-            speak(alloc, keys, place, &mut trains, &mut script)?;
+            script.speak(alloc, keys, place, &mut trains)?;
         }
     }
     Ok(script)
@@ -90,11 +63,11 @@ fn day(alloc: Global, keys: &KeyStore, order: [u8; 3]) -> Result<Script, NoMemor
 
 // The script of one train.
 fn alone(alloc: Global, keys: &KeyStore, behind: u8) -> Result<Script, NoMemory> {
-    let mut train = train(alloc, behind)?;
+    let mut train = trains(alloc, 1, behind, REPORTS)?;
     let mut script = Script::new(alloc);
     script.accept()?;
     for _ in 0..WHOLE {
-        script.speak(alloc, keys, 1, &mut train)?;
+        script.speak(alloc, keys, 0, &mut train)?;
     }
     Ok(script)
 }

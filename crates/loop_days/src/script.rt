@@ -1,7 +1,8 @@
 //! What happens at wires in memory, act by act.
 
+use crate::serving::bring;
 use crate::train::Train;
-use er_base::{NoMemory, Octets};
+use er_base::NoMemory;
 use key_store::KeyStore;
 use link_trait::Act;
 use std::alloc::Global;
@@ -54,25 +55,42 @@ impl Script {
         conn: u64,
         octets: &[u8],
     ) -> Result<(), NoMemory> {
-        let octets = Octets::new(Vec::from_slice(alloc, octets)?);
-        self.act(Act::Bring { conn, octets }, 1)
+        self.act(bring(alloc, conn, octets)?, 1)
     }
 
-    /// A train sends what it has to send, if anything.
+    /// The train of this place sends what it has to send, if anything, over the connection of that place.
     pub(crate) fn speak(
         &mut self,
         alloc: Global,
         keys: &KeyStore,
-        conn: u64,
-        train: &mut Train,
+        place: u8,
+        trains: &mut Vec<Train>,
     ) -> Result<(), NoMemory> {
+        let Some(train) = trains.get_mut(usize::from(place)) else {
+            return Ok(());
+        };
         let (piece, is_answered) = train.speak(keys);
         if piece.is_empty() {
             return Ok(());
         }
-        let octets = Octets::new(Vec::from_slice(alloc, piece.as_slice())?);
+        let conn = u64::from(place) + 1;
         let calls = if is_answered { 3 } else { 2 };
-        self.act(Act::Bring { conn, octets }, calls)
+        self.act(bring(alloc, conn, piece.as_slice())?, calls)
+    }
+
+    /// The train of this place leaves with this sub-reason.
+    pub(crate) fn leave(
+        &mut self,
+        alloc: Global,
+        keys: &KeyStore,
+        place: u8,
+        trains: &mut Vec<Train>,
+        sub: u8,
+    ) -> Result<(), NoMemory> {
+        if let Some(train) = trains.get_mut(usize::from(place)) {
+            train.leave(sub);
+        }
+        self.speak(alloc, keys, place, trains)
     }
 
     /// The last call so far is to fail.

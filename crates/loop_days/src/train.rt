@@ -1,11 +1,13 @@
 //! A train: what it sends, act by act.
 
+use crate::serving::randoms_behind;
 use arrayvec::ArrayVec;
 use des_block::TripleKey;
 use er_base::NoMemory;
 use er_end::End;
 use er_settings::Settings;
 use key_store::{KeyFileFault, KeyStore};
+use rand_core::Rng;
 use std::alloc::Global;
 
 /// Octets that are read, or written, at once.
@@ -13,9 +15,6 @@ pub(crate) type Piece = ArrayVec<u8, 512>;
 
 /// The radio block centre that is called.
 pub(crate) const CENTRE: u32 = 9;
-
-/// The position reports of a day.
-pub(crate) const REPORTS: u8 = 10;
 
 /// The KMAC of every train.
 pub(crate) const KMAC: TripleKey = TripleKey {
@@ -58,6 +57,7 @@ pub(crate) struct Train {
     centre: End,
     next: Piece,
     is_connected: bool,
+    reports: u8,
     reported: u8,
 }
 
@@ -106,9 +106,29 @@ fn hear(end: &mut End, keys: &KeyStore, is_echo: bool, octets: &[u8], out: &mut 
     is_connected
 }
 
+// The train that is accepted behind so many others, with so many position reports.
+fn accepted_behind(alloc: Global, others: u8, reports: u8) -> Result<Train, NoMemory> {
+    let ra = randoms_behind(others).next_u64();
+    Train::begin(alloc, others.saturating_add(5), ra, reports)
+}
+
+/// So many trains, with so many position reports each, of which the first is accepted behind so many others.
+pub(crate) fn trains(
+    alloc: Global,
+    count: u8,
+    others: u8,
+    reports: u8,
+) -> Result<Vec<Train>, NoMemory> {
+    let mut trains = Vec::new(alloc);
+    for place in 0..count {
+        trains.push(accepted_behind(alloc, others.saturating_add(place), reports)?)?;
+    }
+    Ok(trains)
+}
+
 impl Train {
     /// The train of this engine, whose call is answered with this random number.
-    pub(crate) fn begin(alloc: Global, engine: u8, ra: u64) -> Result<Train, NoMemory> {
+    fn begin(alloc: Global, engine: u8, ra: u64, reports: u8) -> Result<Train, NoMemory> {
         let settings = Settings::usual();
         let engine = u32::from(engine);
         let rb = u64::from(engine);
@@ -120,6 +140,7 @@ impl Train {
             centre: End::answer(alloc, &settings, CENTRE, ra, 0)?,
             next,
             is_connected: false,
+            reports,
             reported: 0,
         })
     }
@@ -140,7 +161,7 @@ impl Train {
 
     // The next position report, where there is one.
     fn report(&mut self) {
-        if self.is_connected && self.reported < REPORTS {
+        if self.is_connected && self.reported < self.reports {
             self.reported += 1;
             if let Ok(deeds) = self.end.send(0, &report(self.reported)) {
                 put(&mut self.next, deeds.out);

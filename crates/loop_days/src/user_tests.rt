@@ -6,13 +6,12 @@ ghost use Rattle.er_users.specs.Users.{Callers, mind_of};
 use crate::lines::{count_of, lines_of};
 use crate::script::Script;
 use crate::serving::{randoms_behind, serve_in_memory};
-use crate::train::{Train, keys, put};
+use crate::train::{Train, keys, put, trains};
 use arrayvec::ArrayVec;
 use er_base::NoMemory;
 use er_end::SendRefused;
 use er_users::{Lister, Replies, SafeUser};
 use key_store::KeyStore;
-use rand_core::Rng;
 use std::alloc::Global;
 use std::cell::RefCell;
 use std::rc::Rc;
@@ -71,44 +70,38 @@ impl SafeUser for Witness {
     }
 }
 
-// Two trains, of the engines 5 and 6.
-fn two_trains(alloc: Global) -> Result<(Train, Train), NoMemory> {
-    let first = Train::begin(alloc, 5, randoms_behind(0).next_u64())?;
-    let second = Train::begin(alloc, 6, randoms_behind(1).next_u64())?;
-    Ok((first, second))
-}
-
 // Two trains are accepted, and speak in turn for so many rounds.
 fn begun(
     alloc: Global,
     keys: &KeyStore,
     rounds: u8,
-    trains: &mut (Train, Train),
+    trains: &mut Vec<Train>,
 ) -> Result<Script, NoMemory> {
     let mut script = Script::new(alloc);
     script.accept()?;
     script.accept()?;
     for _ in 0..rounds {
-        script.speak(alloc, keys, 1, &mut trains.0)?;
-        script.speak(alloc, keys, 2, &mut trains.1)?;
+        for place in 0..2 {
+            script.speak(alloc, keys, place, trains)?;
+        }
     }
     Ok(script)
 }
 
 // What two trains do in three rounds.
 fn three_rounds(alloc: Global, keys: &KeyStore) -> Result<Script, NoMemory> {
-    let mut trains = two_trains(alloc)?;
-    begun(alloc, keys, 3, &mut trains)
+    let mut trains = trains(alloc, 2, 0, 10)?;
+    let script = begun(alloc, keys, 3, &mut trains)?;
+    Ok(script)
 }
 
 // What two trains do, of which the first takes nothing any more and leaves behind its third report, and the second is cut off.
 fn one_leaves(alloc: Global, keys: &KeyStore) -> Result<Script, NoMemory> {
-    let mut trains = two_trains(alloc)?;
+    let mut trains = trains(alloc, 2, 0, 10)?;
     let mut script = begun(alloc, keys, 5, &mut trains)?;
     script.stop_taking(1)?;
-    trains.0.leave(7);
-    script.speak(alloc, keys, 1, &mut trains.0)?;
-    script.speak(alloc, keys, 2, &mut trains.1)?;
+    script.leave(alloc, keys, 0, &mut trains, 7)?;
+    script.speak(alloc, keys, 1, &mut trains)?;
     script.shut(2)?;
     Ok(script)
 }

@@ -1,7 +1,7 @@
 //! Wires over TCP sockets, the trusted edge of the stack to the network: a few lines a call over `mio`.
 //!
 //! This profile's own. It is proved against the trait, and tells nothing of what a socket holds or delivers: that it
-//! reaches the real thing is shown by its tests.
+//! reaches the real thing is shown by the tests of wire_tests.
 #![tactic(auto)]
 
 mod accepting;
@@ -10,13 +10,10 @@ mod lines;
 mod moments;
 mod options;
 mod queue;
-#[cfg(test)]
-mod script_tests;
 mod sockets;
-#[cfg(test)]
-mod tests;
 mod wires;
 
 pub use faults::WireFault;
 pub use lines::MOST_CONNECTIONS;
+pub use options::set_for_frames;
 pub use wires::MioWires;

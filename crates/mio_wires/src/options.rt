@@ -1,6 +1,4 @@
 // What each socket of a connection is set to.
-ghost use Rattle.libc.specs.Net.{SockOption};
-
 use libc::net as c;
 use std::os::fd::AsRawFd;
 
@@ -12,8 +10,10 @@ const BETWEEN: i32 = 10;
 
 const TIMES: i32 = 3;
 
-// Small pieces are sent at once, and a peer that is gone without a word is noticed within a minute. What can't be set
-// stays as it is: the connection works without it. A connection that is accepted is set as its listener is then, by the system.
+/// Sets a socket for frames.
+///
+/// Small pieces are sent at once, and a peer that is gone without a word is noticed within a minute. What can't be set
+/// stays as it is: the connection works without it. A connection that is accepted is set as its listener is then, by the system.
 pub fn set_for_frames<S: AsRawFd>(socket: &S) {
     let fd = socket.as_raw_fd();
     let on = octets_of(1);
@@ -25,28 +25,6 @@ pub fn set_for_frames<S: AsRawFd>(socket: &S) {
     let _idle = unsafe { c::setsockopt(fd, c::IPPROTO_TCP, c::TCP_KEEPIDLE, &idle, 4) };
     let _between = unsafe { c::setsockopt(fd, c::IPPROTO_TCP, c::TCP_KEEPINTVL, &between, 4) };
     let _times = unsafe { c::setsockopt(fd, c::IPPROTO_TCP, c::TCP_KEEPCNT, &times, 4) };
-}
-
-// Whether it is set so.
-#[cfg(test)]
-pub fn is_set_for_frames<S: AsRawFd>(socket: &S) -> bool {
-    is_set(socket, c::IPPROTO_TCP, c::TCP_NODELAY, 1)
-        && is_set(socket, c::SOL_SOCKET, c::SO_KEEPALIVE, 1)
-        && is_set(socket, c::IPPROTO_TCP, c::TCP_KEEPIDLE, IDLE)
-        && is_set(socket, c::IPPROTO_TCP, c::TCP_KEEPINTVL, BETWEEN)
-        && is_set(socket, c::IPPROTO_TCP, c::TCP_KEEPCNT, TIMES)
-}
-
-// Whether an option has this value.
-#[cfg(test)]
-fn is_set<S: AsRawFd>(socket: &S, level: i32, option: i32, number: i32) -> bool
-    requires { SockOption level option }
-{
-    let mut value = [0; 16];
-    let mut size = 4;
-    let fd = socket.as_raw_fd();
-    let status = unsafe { c::getsockopt(fd, level, option, &mut value, &mut size) };
-    status == 0 && value == octets_of(number)
 }
 
 // A number as an option's value, which stands in its first four octets.

@@ -10,7 +10,11 @@ mod program_audits;
 #[cfg(test)]
 mod program_bits;
 #[cfg(test)]
+mod program_calls;
+#[cfg(test)]
 mod program_off_line;
+#[cfg(test)]
+mod program_replays;
 #[cfg(test)]
 mod program_top;
 #[cfg(test)]

@@ -9,9 +9,17 @@ use std::alloc::Global;
 
 // A clock at which it is always the moment 0.
 pub(crate) fn clock_at_0(alloc: Global) -> Result<MemoryClock, NoMemory> {
-    let mut moments = Vec::new(alloc);
-    moments.push(0)?;
+    let moments = Vec::from_slice(alloc, &[0])?;
     Ok(MemoryClock::new(moments))
+}
+
+// The words of a command.
+pub(crate) fn words(alloc: Global, text: &[&str]) -> Result<Vec<String>, NoMemory> {
+    let mut words = Vec::new(alloc);
+    for word in text {
+        words.push(String::from_str(alloc, word)?)?;
+    }
+    Ok(words)
 }
 
 // What the words ask for, where nothing is accepted.
@@ -35,4 +43,20 @@ pub(crate) fn run_off_line(
         &mut randoms,
         users,
     ))
+}
+
+// Whether the words end with this status and print this, where this write of the sink fails; there is no write 0.
+pub(crate) fn ends_so(
+    alloc: Global,
+    text: &[&str],
+    cabinet: &mut MemoryCabinet,
+    failing: u64,
+    status: u8,
+    printed: &[u8],
+) -> Result<bool, NoMemory> {
+    let words = words(alloc, text)?;
+    let mut sink = MemorySink::with_capacity(alloc, 1_000)?;
+    sink.fail(failing)?;
+    let answer = run_off_line(alloc, words.as_slice(), cabinet, &mut sink)?;
+    Ok(answer == Status(status) && sink.held() == printed)
 }

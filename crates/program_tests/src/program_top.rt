@@ -1,6 +1,6 @@
-use crate::program_off_line::run_off_line;
+use crate::program_off_line::ends_so;
 use er_base::NoMemory;
-use er_program::{MemoryCabinet, MemorySink, Status};
+use er_program::MemoryCabinet;
 use std::alloc::Global;
 use std::test::Fail;
 
@@ -58,14 +58,6 @@ fn spelled_out(alloc: Global, text: &str) -> Result<Vec<u8>, NoMemory> {
     Ok(octets)
 }
 
-fn words(alloc: Global, text: &[&str]) -> Result<Vec<String>, NoMemory> {
-    let mut words = Vec::new(alloc);
-    for word in text {
-        words.push(String::from_str(alloc, word)?)?;
-    }
-    Ok(words)
-}
-
 fn cabinet(alloc: Global, text: &str) -> Result<MemoryCabinet, NoMemory> {
     let octets = spelled_out(alloc, text)?;
     let mut cabinet = MemoryCabinet::new(alloc);
@@ -73,61 +65,57 @@ fn cabinet(alloc: Global, text: &str) -> Result<MemoryCabinet, NoMemory> {
     Ok(cabinet)
 }
 
+const DRILL: [&str; 2] = ["drill", "x"];
+
+// Whether the drill of a file ends with this status and prints this, where this write of the sink fails.
+fn drills(
+    alloc: Global,
+    file: &str,
+    failing: u64,
+    status: u8,
+    text: &str,
+) -> Result<bool, NoMemory> {
+    let mut cabinet = cabinet(alloc, file)?;
+    let text = spelled_out(alloc, text)?;
+    ends_so(
+        alloc,
+        &DRILL,
+        &mut cabinet,
+        failing,
+        status,
+        text.as_slice(),
+    )
+}
+
 #[test]
 fn files_with_their_statuses_and_texts(rt: HostRuntime) -> Result<(), Fail> {
-    let alloc = rt.alloc();
-    let words = words(alloc, &["drill", "x"])?;
-    for (file, status, printed) in &ROWS {
-        let mut cabinet = cabinet(alloc, file)?;
-        let mut sink = MemorySink::with_capacity(alloc, 1_000)?;
-        let answer = run_off_line(alloc, words.as_slice(), &mut cabinet, &mut sink)?;
-        let text = spelled_out(alloc, printed)?;
-        assert_eq!(rt; answer, Status(*status));
-        assert_eq!(rt; sink.held(), text.as_slice());
+    for (file, status, text) in ROWS {
+        assert!(rt; drills(rt.alloc(), file, 0, status, text)?, "{file}");
     }
     Ok(())
 }
 
 #[test]
 fn a_sink_that_fails(rt: HostRuntime) -> Result<(), Fail> {
-    let alloc = rt.alloc();
-    let words = words(alloc, &["drill", "x"])?;
-    for (file, call, held) in &FAILING_ROWS {
-        let mut cabinet = cabinet(alloc, file)?;
-        let mut sink = MemorySink::with_capacity(alloc, 1_000)?;
-        sink.fail(*call)?;
-        let answer = run_off_line(alloc, words.as_slice(), &mut cabinet, &mut sink)?;
-        let text = spelled_out(alloc, held)?;
-        assert_eq!(rt; answer, Status(5));
-        assert_eq!(rt; sink.held(), text.as_slice());
+    for (file, write, text) in FAILING_ROWS {
+        assert!(rt; drills(rt.alloc(), file, write, 5, text)?, "{file}");
     }
     Ok(())
 }
 
 #[test]
 fn words_that_fit_no_command_and_a_fetch_that_fails(rt: HostRuntime) -> Result<(), Fail> {
-    let alloc = rt.alloc();
-    let mut cabinet = cabinet(alloc, ONE_SEALED_MESSAGE)?;
+    let mut cabinet = cabinet(rt.alloc(), ONE_SEALED_MESSAGE)?;
     cabinet.fail(1)?;
-    let mut sink = MemorySink::with_capacity(alloc, 1_000)?;
-    let one_word = words(alloc, &["drill"])?;
-    let two_words = words(alloc, &["drill", "x"])?;
-    let misused = run_off_line(alloc, one_word.as_slice(), &mut cabinet, &mut sink)?;
-    let unfetched = run_off_line(alloc, two_words.as_slice(), &mut cabinet, &mut sink)?;
-    assert_eq!(rt; misused, Status(1));
-    assert_eq!(rt; unfetched, Status(2));
-    assert_eq!(rt; sink.held(), b"! usage\n! fetch x\n".as_slice());
+    assert!(rt; ends_so(rt.alloc(), &["drill"], &mut cabinet, 0, 1, b"! usage\n")?);
+    assert!(rt; ends_so(rt.alloc(), &DRILL, &mut cabinet, 0, 2, b"! fetch x\n")?);
     Ok(())
 }
 
 #[test]
 fn a_call_whose_pair_has_no_key(rt: HostRuntime) -> Result<(), Fail> {
-    let alloc = rt.alloc();
-    let mut cabinet = cabinet(alloc, "version = 1;")?;
-    let mut sink = MemorySink::with_capacity(alloc, 1_000)?;
-    let words = words(alloc, &["call", "x", "127.0.0.1:4711", "5", "9", "1"])?;
-    let answer = run_off_line(alloc, words.as_slice(), &mut cabinet, &mut sink)?;
-    assert_eq!(rt; answer, Status(4));
-    assert_eq!(rt; sink.held(), b"! keys none 5 9\n".as_slice());
+    let mut cabinet = cabinet(rt.alloc(), "version = 1;")?;
+    let words = ["call", "x", "127.0.0.1:4711", "5", "9", "1"];
+    assert!(rt; ends_so(rt.alloc(), &words, &mut cabinet, 0, 4, b"! keys none 5 9\n")?);
     Ok(())
 }

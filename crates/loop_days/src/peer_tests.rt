@@ -2,6 +2,7 @@
 
 use crate::serving::{HEADER, SET_UP, bring, clock_at_0, plan, randoms_behind, served};
 use crate::train::{CENTRE, keys};
+use er_base::NoMemory;
 use er_users::{SafeUser, Silent};
 use link_trait::{Act, MemorySink, MemoryWires};
 use readiness_loop::serve;
@@ -103,8 +104,8 @@ fn answers_of(text: &[u8]) -> u32 {
     count
 }
 
-// What is printed of a peer that sends so many set-up frames, and takes nothing.
-fn stalled(alloc: Global) -> Result<MemorySink, Fail> {
+// Wires of a peer that sends so many set-up frames, and takes nothing.
+fn full_wires(alloc: Global) -> Result<MemoryWires, NoMemory> {
     let mut octets = Vec::new(alloc);
     for _ in 0..FRAMES {
         octets.extend_from_slice(&SET_UP)?;
@@ -112,15 +113,21 @@ fn stalled(alloc: Global) -> Result<MemorySink, Fail> {
     let mut acts = Vec::new(alloc);
     acts.push(Act::Accept)?;
     acts.push(bring(alloc, 1, octets.as_slice())?)?;
-    let mut wires = MemoryWires::new(alloc, acts, 0, 1_000, 10_000_000)?;
+    MemoryWires::new(alloc, acts, 0, 1_000, 10_000_000)
+}
+
+// What is printed of that peer.
+fn stalled(alloc: Global) -> Result<MemorySink, Fail> {
+    let keys = keys(alloc)?;
+    let mut wires = full_wires(alloc)?;
     let mut clock = clock_at_0(alloc)?;
     let mut sink = MemorySink::with_capacity(alloc, 4_000_000)?;
     let mut users: Vec<Box<dyn SafeUser>> = Vec::new(alloc);
     users.push(Box::new(alloc, Silent::new())?)?;
     serve(
         alloc,
-        &keys(alloc)?,
-        &plan(),
+        &keys,
+        &plan(1_000),
         "here",
         CENTRE,
         users,
@@ -132,13 +139,14 @@ fn stalled(alloc: Global) -> Result<MemorySink, Fail> {
     Ok(sink)
 }
 
+fn is_stalled(alloc: Global) -> Result<bool, Fail> {
+    let sink = stalled(alloc)?;
+    let end = b"> 0 1 stalled\n< 1 released 1 7 local\n";
+    Ok(answers_of(sink.held()) == FRAMES && sink.held().ends_with(end))
+}
+
 #[test]
 fn a_peer_that_takes_nothing_is_stalled(rt: HostRuntime) -> Result<(), Fail> {
-    let sink = stalled(rt.alloc())?;
-    assert_eq!(rt; answers_of(sink.held()), FRAMES);
-    assert!(rt;
-        sink.held()
-            .ends_with(b"> 0 1 stalled\n< 1 released 1 7 local\n")
-    );
+    assert!(rt; is_stalled(rt.alloc())?);
     Ok(())
 }

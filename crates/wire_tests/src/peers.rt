@@ -1,8 +1,7 @@
 ghost use Rattle.std.specs.Prelude.{◌<◌, length};
 
-use crate::options::{is_set_for_frames, set_for_frames};
-use crate::{MOST_CONNECTIONS, MioWires};
 use link_trait::{Conn, Failed, Happening, ReadAnswer, Wires, WriteAnswer};
+use mio_wires::{MOST_CONNECTIONS, MioWires};
 use std::io::{Read, Write};
 use std::net::{Ipv4Addr, SocketAddr};
 use std::rt::Clock;
@@ -115,6 +114,9 @@ fn ends<W: Wires>(rt: HostRuntime, wires: &mut W) -> io::Result<bool> {
 
 // A peer comes, and goes behind six octets each way.
 fn serves_a_peer<W: Wires>(rt: HostRuntime, wires: &mut W, address: &str) -> io::Result<bool> {
+    if wires.listen(address).is_err() {
+        return Ok(false);
+    }
     let mut peer = net::TcpStream::connect(&rt, address)?;
     let is_accepted = accepted(rt, wires)? == Some(Conn(1));
     let exchanged = exchanges(rt, wires, &mut peer)?;
@@ -126,7 +128,6 @@ fn serves_a_peer<W: Wires>(rt: HostRuntime, wires: &mut W, address: &str) -> io:
 fn a_peer_is_accepted_read_answered_and_ends(rt: HostRuntime) -> Result<(), Fail> {
     let address = free_address(rt)?;
     let mut wires = MioWires::new(rt.alloc(), rt)?;
-    assert!(rt; wires.listen(address.as_str()).is_ok());
     assert!(rt; serves_a_peer(rt, &mut wires, address.as_str())?);
     Ok(())
 }
@@ -163,14 +164,14 @@ fn is_refused<W: Wires>(rt: HostRuntime, wires: &mut W, address: &str) -> io::Re
     }
 }
 
-// Whether nothing is listened at: an address that is taken, and texts that are none.
+// Whether nothing is listened at, an address that is taken and texts that are none, and no name is dialled.
 fn listens_nowhere<W: Wires>(wires: &mut W, taken: &str) -> bool {
     for address in [taken, "", "localhost:4711", "127.0.0.1", "127.0.0.1:65536"] {
         if wires.listen(address).is_ok() {
             return false;
         }
     }
-    true
+    wires.dial("localhost:4711").is_err()
 }
 
 #[test]
@@ -179,7 +180,6 @@ fn calls_that_fail(rt: HostRuntime) -> Result<(), Fail> {
     let taken = address_of(rt, &listener)?;
     let mut wires = MioWires::new(rt.alloc(), rt)?;
     assert!(rt; listens_nowhere(&mut wires, taken.as_str()));
-    assert!(rt; wires.dial("localhost:4711").is_err());
     drop(listener);
     assert!(rt; is_refused(rt, &mut wires, taken.as_str())?);
     Ok(())
@@ -192,6 +192,9 @@ fn holds_one_back<W: Wires>(
     address: &str,
     peers: &mut Vec<net::TcpStream>,
 ) -> Result<bool, Fail> {
+    if wires.listen(address).is_err() {
+        return Ok(false);
+    }
     for number in 1..=MOST_CONNECTIONS as u64 {
         peers.push(net::TcpStream::connect(&rt, address)?)?;
         if accepted(rt, wires)? != Some(Conn(number)) {
@@ -213,7 +216,6 @@ fn no_more_are_accepted_than_can_be_open(rt: HostRuntime) -> Result<(), Fail> {
     let address = free_address(rt)?;
     let mut wires = MioWires::new(rt.alloc(), rt)?;
     let mut peers = Vec::new(rt.alloc());
-    assert!(rt; wires.listen(address.as_str()).is_ok());
     assert!(rt; holds_one_back(rt, &mut wires, address.as_str(), &mut peers)?);
     Ok(())
 }
@@ -286,6 +288,9 @@ fn is_accepted_beside<W: Wires>(
 
 // Whether peers are accepted, though octets of the first one wait at each turn.
 fn hears_of_others<W: Wires>(rt: HostRuntime, wires: &mut W, address: &str) -> io::Result<bool> {
+    if wires.listen(address).is_err() {
+        return Ok(false);
+    }
     let mut busy = net::TcpStream::connect(&rt, address)?;
     busy.write_all(&[7; 200])?;
     let is_first = accepted(rt, wires)? == Some(Conn(1));
@@ -297,7 +302,6 @@ fn hears_of_others<W: Wires>(rt: HostRuntime, wires: &mut W, address: &str) -> i
 fn one_that_is_always_readable_holds_nobody_back(rt: HostRuntime) -> Result<(), Fail> {
     let address = free_address(rt)?;
     let mut wires = MioWires::new(rt.alloc(), rt)?;
-    assert!(rt; wires.listen(address.as_str()).is_ok());
     assert!(rt; hears_of_others(rt, &mut wires, address.as_str())?);
     Ok(())
 }
@@ -313,24 +317,20 @@ fn is_not_told_of_room<W: Wires>(rt: HostRuntime, wires: &mut W, conn: Conn) -> 
     Ok(true)
 }
 
+// Whether it isn't of a peer that is accepted.
+fn tells_no_room<W: Wires>(rt: HostRuntime, wires: &mut W, address: &str) -> io::Result<bool> {
+    if wires.listen(address).is_err() {
+        return Ok(false);
+    }
+    let _peer = net::TcpStream::connect(&rt, address)?;
+    let is_accepted = accepted(rt, wires)? == Some(Conn(1));
+    Ok(is_accepted && is_not_told_of_room(rt, wires, Conn(1))?)
+}
+
 #[test]
 fn room_that_nobody_waits_for_is_not_told(rt: HostRuntime) -> Result<(), Fail> {
     let address = free_address(rt)?;
     let mut wires = MioWires::new(rt.alloc(), rt)?;
-    assert!(rt; wires.listen(address.as_str()).is_ok());
-    let _peer = net::TcpStream::connect(&rt, address.as_str())?;
-    assert!(rt; accepted(rt, &mut wires)? == Some(Conn(1)));
-    assert!(rt; is_not_told_of_room(rt, &mut wires, Conn(1))?);
-    Ok(())
-}
-
-#[test]
-fn an_accepted_connection_is_set_as_its_listener(rt: HostRuntime) -> Result<(), Fail> {
-    let listener = listener(rt)?;
-    set_for_frames(&listener);
-    let peer = net::TcpStream::connect(&rt, listener.local_addr()?)?;
-    let (accepted, _) = listener.accept()?;
-    assert!(rt; is_set_for_frames(&accepted));
-    assert!(rt; !is_set_for_frames(&peer));
+    assert!(rt; tells_no_room(rt, &mut wires, address.as_str())?);
     Ok(())
 }

@@ -1,11 +1,13 @@
 //! `serve` and `call` by their words, where a call of the wires or a write of the sink fails: how they end, what is printed, and where
 //! the record of calls ends.
 
-use crate::serving::{SET_UP, bring, clock_at_0, randoms_behind};
-use er_base::NoMemory;
+use crate::program_off_line::clock_at_0;
+use er_base::{NoMemory, Octets};
 use er_program::{MemoryCabinet, MemorySink, MemoryWires, Status, run};
 use er_users::{SafeUser, Silent};
 use link_trait::{Act, Happening, Wires};
+use rand_core::SeedableRng;
+use rand_pcg::Lcg64Xsh32;
 use std::alloc::Global;
 use std::test::Fail;
 
@@ -15,6 +17,9 @@ engine = 5
 rbc = 9
 kmac = \"0123456789abcdef23456789abcdef01456789abcdef0123\"
 ";
+
+// The frame by which a station is set up.
+const SET_UP: [u8; 6] = [0x7e, 0x01, 0x3f, 0xeb, 0xdf, 0x7e];
 
 const SERVE: [&str; 5] = ["serve", "keys", "here", "9", "9"];
 
@@ -88,7 +93,8 @@ fn acts(alloc: Global, words: &[&str]) -> Result<Vec<Act>, NoMemory> {
     let mut acts = Vec::new(alloc);
     if words.len() == SERVE.len() {
         acts.push(Act::Accept)?;
-        acts.push(bring(alloc, 1, &SET_UP)?)?;
+        let octets = Octets::new(Vec::from_slice(alloc, &SET_UP)?);
+        acts.push(Act::Bring { conn: 1, octets })?;
     }
     Ok(acts)
 }
@@ -119,7 +125,7 @@ fn ended(
     }
     let mut cabinet = cabinet(alloc)?;
     let mut clock = clock_at_0(alloc)?;
-    let mut randoms = randoms_behind(0);
+    let mut randoms = Lcg64Xsh32::seed_from_u64(1);
     let mut users: Vec<Box<dyn SafeUser>> = Vec::new(alloc);
     users.push(Box::new(alloc, Silent::new())?)?;
     Ok(run(

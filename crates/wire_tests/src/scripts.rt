@@ -1,9 +1,9 @@
 // One table of scripts over wires in memory and over sockets on this machine: the answers are the same, but for what the
 // trait leaves free, as in how many pieces octets come and how many turns are quiet.
-use crate::MioWires;
-use crate::tests::{accepted, address_of, listener, read_soon, soon};
+use crate::peers::{accepted, address_of, listener, read_soon, soon};
 use er_base::Octets;
 use link_trait::{Act, Conn, Happening, MemoryWires, ReadAnswer, Wires, WriteAnswer};
+use mio_wires::MioWires;
 use std::io::{Read, Write};
 use std::test::Fail;
 use std::{io, net};

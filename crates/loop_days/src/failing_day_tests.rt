@@ -1,12 +1,12 @@
 //! A small day of three trains, in which one call of the wires fails.
 
 use crate::lines::lines_of;
-use crate::serving::{Ran, bring, randoms_behind, served};
-use crate::train::{Train, keys};
+use crate::script::Script;
+use crate::serving::{Ran, served};
+use crate::train::{keys, trains};
 use er_base::{NoMemory, Octets};
 use key_store::KeyStore;
 use link_trait::Act;
-use rand_core::Rng;
 use readiness_loop::LoopFault;
 use std::alloc::Global;
 use std::test::Fail;
@@ -17,61 +17,19 @@ const ROUNDS: u8 = 9;
 // What is printed of a connection where its wire fails.
 const FAULT: &[u8] = b"> fault\n< released 1 6 local\n";
 
-// What happens at the wires, and how many calls that comes to where none fails: one to listen, one for each act, one at the end, and
-// with what a train sends one to read it and one to write what is answered.
-#[derive(Drop)]
-struct Day {
-    acts: Vec<Act>,
-    calls: u64,
-}
-
-// The trains of the day.
-fn three_trains(alloc: Global) -> Result<Vec<Train>, NoMemory> {
-    let mut trains = Vec::new(alloc);
-    for behind in 0..3 {
-        let ra = randoms_behind(behind).next_u64();
-        trains.push(Train::begin(alloc, u8::saturating_add(behind, 5), ra)?)?;
-    }
-    Ok(trains)
-}
-
-// The train of this place sends what it has to send, if anything.
-fn speak(
-    alloc: Global,
-    keys: &KeyStore,
-    place: u8,
-    trains: &mut Vec<Train>,
-    day: &mut Day,
-) -> Result<(), NoMemory> {
-    let Some(train) = trains.get_mut(usize::from(place)) else {
-        return Ok(());
-    };
-    let (piece, is_answered) = train.speak(keys);
-    if !piece.is_empty() {
-        let conn = u64::from(place) + 1;
-        day.acts.push(bring(alloc, conn, piece.as_slice())?)?;
-        let calls = if is_answered { 3 } else { 2 };
-        day.calls = day.calls.saturating_add(calls);
-    }
-    Ok(())
-}
-
 // The three trains are accepted, and speak in turn.
-fn small_day(alloc: Global, keys: &KeyStore) -> Result<Day, NoMemory> {
-    let mut day = Day {
-        acts: Vec::new(alloc),
-        calls: 5,
-    };
+fn small_day(alloc: Global, keys: &KeyStore) -> Result<Script, NoMemory> {
+    let mut trains = trains(alloc, 3, 0, 3)?;
+    let mut script = Script::new(alloc);
     for _ in 0..3 {
-        day.acts.push(Act::Accept)?;
+        script.accept()?;
     }
-    let mut trains = three_trains(alloc)?;
     for _ in 0..ROUNDS {
         for place in 0..3 {
-            speak(alloc, keys, place, &mut trains, &mut day)?;
+            script.speak(alloc, keys, place, &mut trains)?;
         }
     }
-    Ok(day)
+    Ok(script)
 }
 
 // The same acts once more.
@@ -160,11 +118,16 @@ fn calls_that_fail(alloc: Global, keys: &KeyStore, acts: &[Act]) -> Result<Optio
     Ok(None)
 }
 
+// Whether as many calls fail as the day comes to: those of its script, and the turn at the end.
+fn each_fails(alloc: Global) -> Result<bool, Fail> {
+    let keys = keys(alloc)?;
+    let day = small_day(alloc, &keys)?;
+    let failed = calls_that_fail(alloc, &keys, day.acts.as_slice())?;
+    Ok(failed == Some(day.calls.saturating_add(1)))
+}
+
 #[test]
 fn each_call_of_a_small_day_fails_by_itself(rt: HostRuntime) -> Result<(), Fail> {
-    let keys = keys(rt.alloc())?;
-    let day = small_day(rt.alloc(), &keys)?;
-    let failed = calls_that_fail(rt.alloc(), &keys, day.acts.as_slice())?;
-    assert_eq!(rt; failed, Some(day.calls));
+    assert!(rt; each_fails(rt.alloc())?);
     Ok(())
 }

@@ -1,11 +1,11 @@
-//! A call whose frame waits for room, and one whose T1 expires before a turn.
+//! Calls: what comes of them before anything is heard, a frame that waits for room, and T1 that expires before a turn.
 
-use crate::serving::{HEADER, SET_UP, clock_at_0, plan, randoms_behind};
+use crate::serving::{HEADER, SET_UP, clock, clock_at_0, plan, randoms_behind};
 use crate::train::{CENTRE, KMAC};
 use er_base::NoMemory;
 use er_users::{SafeUser, Silent};
 use link_trait::{Act, MemoryClock, MemorySink, MemoryWires};
-use readiness_loop::{LoopFault, Served, dial};
+use readiness_loop::{LoopFault, Served, Stop, dial};
 use std::alloc::Global;
 use std::test::Fail;
 
@@ -13,6 +13,9 @@ use std::test::Fail;
 const CALL: &[u8] = b"> 0 1 call 5 9 7dbcf3ee33a70be6\n< 1 octets 7e013febdf7e\n";
 
 const TICK: &[u8] = b"> 1000 1 tick\n< 1 octets 7e013febdf7e\n";
+
+// The room of the wire where nothing happens, and how many octets of the frame are given then.
+const GIVEN: [(usize, usize); 3] = [(0, 0), (4, 4), (6, 6)];
 
 // The room of the wire at first, and the rooms that come behind a write that found none; how many octets of the frame are given then.
 const ROOMS: [(usize, [usize; 2], usize); 6] = [
@@ -30,10 +33,7 @@ const TURNS: [(u64, usize, usize); 2] = [(3, 0, 1), (5, 1, 2)];
 
 // A clock at which T1 expires before the second turn: it is asked for the moment of the call, and before each turn.
 fn clock_to_t1(alloc: Global) -> Result<MemoryClock, NoMemory> {
-    let mut moments = Vec::new(alloc);
-    moments.push(0)?;
-    moments.push(0)?;
-    moments.push(1_000)?;
+    let moments = Vec::from_slice(alloc, &[0, 0, 1_000])?;
     Ok(MemoryClock::new(moments))
 }
 
@@ -45,12 +45,13 @@ struct Called {
     given: Vec<u8>,
 }
 
-// A call to the centre, in which one call of the wires fails; there is no call 0.
+// A call to the centre of at most so many turns, in which one call of the wires fails; there is no call 0.
 fn play_call(
     alloc: Global,
     acts: Vec<Act>,
     room: usize,
     mut clock: MemoryClock,
+    turns: u64,
     failing: u64,
 ) -> Result<Called, NoMemory> {
     let mut wires = MemoryWires::new(alloc, acts, room, 100, 1_000)?;
@@ -62,7 +63,7 @@ fn play_call(
     let end = dial(
         alloc,
         KMAC,
-        &plan(),
+        &plan(turns),
         "there",
         5,
         CENTRE,
@@ -97,6 +98,16 @@ fn are_frames(given: &[u8], frames: usize) -> bool {
     }
 }
 
+fn is_given_so(alloc: Global, room: usize, octets: usize) -> Result<bool, NoMemory> {
+    let called = play_call(alloc, Vec::new(alloc), room, clock(alloc)?, 1, 0)?;
+    let why = Stop::Ended;
+    Ok(
+        called.end == Ok(Served { turns: 1, why })
+            && is_printed(called.sink.held(), 0)
+            && SET_UP.get(..octets) == Some(called.given.as_slice()),
+    )
+}
+
 fn is_written_so(
     alloc: Global,
     first: usize,
@@ -107,7 +118,7 @@ fn is_written_so(
     for room in behind {
         acts.push(Act::Room { conn: 1, room })?;
     }
-    let called = play_call(alloc, acts, first, clock_at_0(alloc)?, 0)?;
+    let called = play_call(alloc, acts, first, clock_at_0(alloc)?, 1_000, 0)?;
     Ok(
         called.end.is_ok()
             && is_printed(called.sink.held(), 0)
@@ -123,12 +134,20 @@ fn is_sent_again(
 ) -> Result<bool, NoMemory> {
     let mut acts = Vec::new(alloc);
     acts.push(Act::Quiet)?;
-    let called = play_call(alloc, acts, 1_000, clock_to_t1(alloc)?, failing)?;
+    let called = play_call(alloc, acts, 1_000, clock_to_t1(alloc)?, 1_000, failing)?;
     Ok(
         called.end == Err(LoopFault::Wires)
             && is_printed(called.sink.held(), ticks)
             && are_frames(called.given.as_slice(), frames),
     )
+}
+
+#[test]
+fn a_call_gives_its_set_up_frame(rt: HostRuntime) -> Result<(), Fail> {
+    for (room, octets) in GIVEN {
+        assert!(rt; is_given_so(rt.alloc(), room, octets)?, "{room}");
+    }
+    Ok(())
 }
 
 #[test]

@@ -4,15 +4,15 @@ ghost use Rattle.std.specs.Prelude.{[], None};
 ghost use Rattle.er_users.specs.Users.{Callers, mind_of};
 
 use crate::lines::lines_of;
-use crate::serving::{bring, plan, randoms_behind};
-use crate::train::{CENTRE, Train, keys, put};
+use crate::script::Script;
+use crate::serving::{plan, randoms_behind};
+use crate::train::{CENTRE, keys, put, trains};
 use arrayvec::ArrayVec;
 use er_base::NoMemory;
 use er_end::SendRefused;
 use er_users::{Replies, SafeUser};
 use key_store::KeyStore;
 use link_trait::{Act, Clock, MemorySink, MemoryWires};
-use rand_core::Rng;
 use readiness_loop::serve;
 use std::alloc::Global;
 use std::cell::RefCell;
@@ -146,16 +146,13 @@ impl SafeUser for Talker {
 
 // A train is accepted, and speaks for so many rounds.
 fn acts(alloc: Global, keys: &KeyStore) -> Result<Vec<Act>, NoMemory> {
-    let mut train = Train::begin(alloc, 5, randoms_behind(0).next_u64())?;
-    let mut acts = Vec::new(alloc);
-    acts.push(Act::Accept)?;
+    let mut trains = trains(alloc, 1, 0, 3)?;
+    let mut script = Script::new(alloc);
+    script.accept()?;
     for _ in 0..ROUNDS {
-        let (piece, _) = train.speak(keys);
-        if !piece.is_empty() {
-            acts.push(bring(alloc, 1, piece.as_slice())?)?;
-        }
+        script.speak(alloc, keys, 0, &mut trains)?;
     }
-    Ok(acts)
+    Ok(script.acts)
 }
 
 // What is printed of the train and this user, while what happens is written down.
@@ -176,7 +173,7 @@ fn printed(
     serve(
         alloc,
         keys,
-        &plan(),
+        &plan(1_000),
         "here",
         CENTRE,
         users,
@@ -206,9 +203,8 @@ fn has(text: &[u8], part: &[u8]) -> bool {
     count_of(text, part) > 0
 }
 
-#[test]
-fn a_user_that_leaves_is_let_go_before_the_next_turn(rt: HostRuntime) -> Result<(), Fail> {
-    let alloc = rt.alloc();
+// Whether a run prints that it leaves, and its user hears it and is let go before the clock is asked again.
+fn leaves(alloc: Global) -> Result<bool, Fail> {
     let keys = keys(alloc)?;
     let happened = Rc::new(alloc, RefCell::new(Happened::new()))?;
     let leaver = Leaver {
@@ -217,14 +213,14 @@ fn a_user_that_leaves_is_let_go_before_the_next_turn(rt: HostRuntime) -> Result<
     };
     let sink = printed(alloc, &keys, Box::new(alloc, leaver)?, &happened)?;
     let lines = lines_of(alloc, sink.held(), b"1")?;
-    assert!(rt; has(lines.as_slice(), b"> release 0\n"));
     let happened = happened.try_borrow()?;
-    assert!(rt;
-        has(
-            happened.as_slice(),
-            b"message position-report-00000002\nreleased 00l\nlet go\nasked\n"
-        )
-    );
+    let heard = b"message position-report-00000002\nreleased 00l\nlet go\nasked\n";
+    Ok(has(lines.as_slice(), b"> release 0\n") && has(happened.as_slice(), heard))
+}
+
+#[test]
+fn a_user_that_leaves_is_let_go_before_the_next_turn(rt: HostRuntime) -> Result<(), Fail> {
+    assert!(rt; leaves(rt.alloc())?);
     Ok(())
 }
 
@@ -240,9 +236,17 @@ const REFUSED: [(&[u8], &[u8]); 8] = [
     (b"> send 48\n< refused full 16\n", b"H full 16\n"),
 ];
 
-#[test]
-fn a_user_hears_which_of_its_texts_are_refused(rt: HostRuntime) -> Result<(), Fail> {
-    let alloc = rt.alloc();
+// Whether each text is as often refused in the lines as the user heard.
+fn are_heard(lines: &[u8], happened: &[u8]) -> bool {
+    for (printed, heard) in REFUSED {
+        if count_of(lines, printed) != count_of(happened, heard) {
+            return false;
+        }
+    }
+    has(happened, b"G full 16\nH full 16\n")
+}
+
+fn hears_refusals(alloc: Global) -> Result<bool, Fail> {
     let keys = keys(alloc)?;
     let happened = Rc::new(alloc, RefCell::new(Happened::new()))?;
     let talker = Talker {
@@ -251,12 +255,11 @@ fn a_user_hears_which_of_its_texts_are_refused(rt: HostRuntime) -> Result<(), Fa
     let sink = printed(alloc, &keys, Box::new(alloc, talker)?, &happened)?;
     let lines = lines_of(alloc, sink.held(), b"1")?;
     let happened = happened.try_borrow()?;
-    for (printed, heard) in REFUSED {
-        assert_eq!(rt;
-            count_of(lines.as_slice(), printed),
-            count_of(happened.as_slice(), heard)
-        );
-    }
-    assert!(rt; has(happened.as_slice(), b"G full 16\nH full 16\n"));
+    Ok(are_heard(lines.as_slice(), happened.as_slice()))
+}
+
+#[test]
+fn a_user_hears_which_of_its_texts_are_refused(rt: HostRuntime) -> Result<(), Fail> {
+    assert!(rt; hears_refusals(rt.alloc())?);
     Ok(())
 }

@@ -1,10 +1,9 @@
 //! A replay, where a fetch or a write of the sink fails.
 
+use crate::program_off_line::{run_off_line, words};
 use er_base::NoMemory;
-use er_program::{MemoryCabinet, MemoryClock, MemorySink, MemoryWires, Status, run};
+use er_program::{MemoryCabinet, MemorySink, Status};
 use link_trait::{Cabinet, Sink};
-use rand_core::SeedableRng;
-use rand_pcg::Lcg64Xsh32;
 use std::alloc::Global;
 use std::test::Fail;
 
@@ -44,32 +43,14 @@ fn cabinet(alloc: Global) -> Result<MemoryCabinet, NoMemory> {
     Ok(cabinet)
 }
 
-// `replay keys trace`, where nothing is accepted.
+// `replay keys trace`.
 fn replayed(
     alloc: Global,
     cabinet: &mut MemoryCabinet,
     sink: &mut MemorySink,
 ) -> Result<Status, NoMemory> {
-    let mut words = Vec::new(alloc);
-    for word in ["replay", "keys", "trace"] {
-        words.push(String::from_str(alloc, word)?)?;
-    }
-    let mut wires = MemoryWires::new(alloc, Vec::new(alloc), 0, 8, 64)?;
-    let mut moments = Vec::new(alloc);
-    moments.push(0)?;
-    let mut clock = MemoryClock::new(moments);
-    let mut randoms = Lcg64Xsh32::seed_from_u64(1);
-    let users = Vec::new(alloc);
-    Ok(run(
-        alloc,
-        words.as_slice(),
-        cabinet,
-        sink,
-        &mut wires,
-        &mut clock,
-        &mut randoms,
-        users,
-    ))
+    let words = words(alloc, &["replay", "keys", "trace"])?;
+    run_off_line(alloc, words.as_slice(), cabinet, sink)
 }
 
 // Whether the next call is the one that is to fail, of which the one behind succeeds: so many were made.
