@@ -147,6 +147,11 @@ up_to_rests (suc m) x h =
       | inr cannot ↦ subst (λ (b : Bool). Rests (if b then sends_up_to m (sends_next x) else x)) (sym cannot) (inl cannot)
     ]
 
+pub up_to_given : (m : ℕ) (x : Station) → x.sent + m ≡ length x.handed → (sends_up_to m x).sent ≤ length (sends_up_to m x).handed
+up_to_given zero x h = omega arith
+up_to_given (suc m) x h =
+    cond_both (can_send x) (sends_up_to m (sends_next x)) x (λ t. t.sent ≤ length t.handed) (λ e. up_to_given m (sends_next x) (omega arith)) (λ e. omega arith)
+
 up_to_handed : (m : ℕ) (x : Station) → (sends_up_to m x).handed ≡ x.handed
 up_to_handed zero x = refl
 up_to_handed (suc m) x = cond_both (can_send x) (sends_up_to m (sends_next x)) x (λ t. t.handed ≡ x.handed) (λ e. up_to_handed m (sends_next x)) (λ e. refl)

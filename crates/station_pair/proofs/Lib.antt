@@ -36,4 +36,6 @@ pub mod Mending
 pub mod MendRows
 pub mod Repeats
 pub mod Recovers
+pub mod Ticks
 pub mod Recovered
+pub mod MendCalls

@@ -1,12 +1,12 @@
 -- A loss-free line: each call keeps the shape of what flows, whatever layers stand above.
-use Rattle.std.proofs.Common.{if◌then◌else◌, ◌≡◌, ℕ, zero, suc, ◌+◌, ◌≤◌, inl, inr, Bool, true, false, List, [], ◌∷◌, ◌++◌, length, None, refl, sym, ◌∙◌, ap, subst, arith, length-append, append_assoc, append-nil, true≢false}
+use Rattle.std.proofs.Common.{if◌then◌else◌, ◌≡◌, ℕ, ◌+◌, ◌≤◌, inl, inr, Bool, true, false, List, [], ◌∷◌, ◌++◌, length, None, refl, sym, ◌∙◌, ap, subst, arith, length-append, append_assoc, append-nil, true≢false}
 use Rattle.std.proofs.lemmas.Bool.{cond_both}
 use Rattle.hdlc_frames.specs.Laws.{ControlReadsBack}
 use Rattle.station_model.specs.declared.phase.Phase.{Phase}
 use Rattle.station_model.specs.declared.phase.Phase.TheVariants.{Up}
 use Rattle.station_model.specs.Frames.{Frame, Info, Rr, Rej, Srej, SetUp, Disc, Dm, Ua, shown}
 use Rattle.station_model.specs.Stations.{Station, is_up, is_down, sees, settled}
-use Rattle.station_model.specs.Sending.{can_send, waiting, sends_next, sends_up_to, sends_waiting, settles, expires_if_due}
+use Rattle.station_model.specs.Sending.{can_send, waiting, sends_waiting, settles, expires_if_due}
 use Rattle.station_model.specs.Receiving.{acknowledges, marks_busy, agrees, comes_up}
 use Rattle.station_model.specs.Selective.{receives_as}
 use Rattle.station_model.specs.Calls.{hands, finishes, ticks}
@@ -16,17 +16,12 @@ use Rattle.station_pair.specs.Flowing.{one_if, Still, AtRest, Fresh, Asked, Agre
 use Rattle.station_pair.specs.Keeping.{found}
 use Rattle.station_pair.specs.LossFree.{FlowKeeps, FlowBounds}
 use Rattle.station_pair.proofs.Hearing.{row_as}
-use Rattle.station_pair.proofs.Flows.{still_swap, still_back, Within, Done, up_to_flows, up_to_rests, settles_done, takes_next, heard_live, heard_row, info_is, rr_is, info_flows, rr_heard_flows, not_due}
+use Rattle.station_pair.proofs.Flows.{still_swap, still_back, Within, Done, up_to_flows, up_to_rests, up_to_given, settles_done, takes_next, heard_live, heard_row, info_is, rr_is, info_flows, rr_heard_flows, not_due}
 use Rattle.station_pair.proofs.Delivers.{stays, nothing_owed, early_cannot, called_cannot, sets_up, agreed_row}
 use Rattle.station_pair.proofs.Delivered.{bound_at, emptied_at}
 use Rattle.station_pair.proofs.Counted.{few_at}
 
 -- ---- both are up: payloads are sent, then the owed answer
-
-up_to_given : (m : ℕ) (x : Station) → x.sent + m ≡ length x.handed → (sends_up_to m x).sent ≤ length (sends_up_to m x).handed
-up_to_given zero x h = omega arith
-up_to_given (suc m) x h =
-    cond_both (can_send x) (sends_up_to m (sends_next x)) x (λ t. t.sent ≤ length t.handed) (λ e. up_to_given m (sends_next x) (omega arith)) (λ e. omega arith)
 
 flushed : (c : Bool) (n : ℕ) (w : List Frame) (x : Station) (l : List Frame) (y : Station) → x.sent ≤ length x.handed → Within c n w x l y → Flushed c n w (sends_waiting x) l y
 flushed c n w x l y given h = (up_to_flows c n w (waiting x) x l y h, up_to_rests (waiting x) x (omega arith), up_to_given (waiting x) x (omega arith))
@@ -37,10 +32,10 @@ done c n w x l y h =
 
 -- ---- stations that can't send yet
 
-unsent : (x : Station) → can_send x ≡ false → sends_waiting x ≡ x
+pub unsent : (x : Station) → can_send x ≡ false → sends_waiting x ≡ x
 unsent x cannot = stays (waiting x) x cannot
 
-unsent_hands : (now : ℕ) (p : List ℕ) (x : Station) → is_down x.phase ≡ false → can_send x ≡ false → hands now p x ≡ record (sees now x) { handed = x.handed ++ p ∷ [] }
+pub unsent_hands : (now : ℕ) (p : List ℕ) (x : Station) → is_down x.phase ≡ false → can_send x ≡ false → hands now p x ≡ record (sees now x) { handed = x.handed ++ p ∷ [] }
 unsent_hands now p x live cannot =
     ap (λ (b : Bool). if b then x else sends_waiting (record (sees now x) { handed = x.handed ++ p ∷ [] })) live ∙ unsent (record (sees now x) { handed = x.handed ++ p ∷ [] }) cannot
 
@@ -48,7 +43,7 @@ unsent_ticks : (now : ℕ) (x : Station) → is_down x.phase ≡ false → is_la
 unsent_ticks now x live late cannot =
     ap (λ (b : Bool). if b then x else sends_waiting (expires_if_due (sees now x))) live ∙ ap sends_waiting (not_due now x late) ∙ unsent (sees now x) cannot
 
-unsent_finishes : (x : Station) → x.owed ≡ false → finishes x ≡ x
+pub unsent_finishes : (x : Station) → x.owed ≡ false → finishes x ≡ x
 unsent_finishes x owes = cond_both (is_down x.phase) x (settles x) (λ t. t ≡ x) (λ e. refl) (λ e. nothing_owed x owes)
 
 -- ---- a call begins

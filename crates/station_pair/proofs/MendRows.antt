@@ -11,12 +11,13 @@ use Rattle.station_model.specs.Sending.{sends_again, starts_timer}
 use Rattle.station_model.specs.Receiving.{strays, named, acknowledges, acknowledging, by_number, accepts, rejects, takes, marks_busy, repeats_rejected}
 use Rattle.station_model.specs.Selective.{held_for, is_found, without_gap, takes_run, missing_below, holds, says_next, files_at, files, repeats_at, repeats_one}
 use Rattle.station_pair.specs.Invariant.{Half, Pair, infos, numbers, marks}
+use Rattle.station_pair.specs.Mending.{Comes, Mends, Waits, leads}
 use Rattle.station_pair.proofs.Ways.{forward_le, way_bounds, way_tells}
 use Rattle.station_pair.proofs.Rows.{found, no_foreign, named_is, span_below}
 use Rattle.station_pair.proofs.Hearing.{row_as}
 use Rattle.station_pair.proofs.SelectiveRows.{named_at, named_none_or}
 use Rattle.station_pair.proofs.Gaps.{held_kept, held_push}
-use Rattle.station_pair.proofs.Mending.{leads, Waits, Comes, NearIn, Mends, MendsIn, puts_shown_mends, puts_again_mends, asked_mends, sends_again_mends}
+use Rattle.station_pair.proofs.Mending.{NearIn, MendsIn, puts_shown_mends, puts_again_mends, asked_mends, sends_again_mends}
 
 -- ---- N(R)
 

@@ -1,68 +1,19 @@
 -- Two stations that are up, once each sent again what was unacknowledged: while frames are given alone, what waits leads to all that was sent.
 -- What a station sends keeps that. Everywhere x acts and y doesn't, and w waited from x before the call.
-use Rattle.std.proofs.Common.{if◌then◌else◌, ◌≡◌, ℕ, zero, suc, ◌+◌, ◌-◌, ◌<◌, ◌≤◌, ◌⊎◌, inl, inr, Bool, true, false, List, [], ◌∷◌, ◌++◌, length, map, refl, sym, ◌∙◌, ap, subst, arith, append_assoc, append-nil, eq-eqb, eqb-true}
+use Rattle.std.proofs.Common.{if◌then◌else◌, ◌≡◌, ℕ, zero, suc, ◌+◌, ◌-◌, ◌<◌, ◌≤◌, inl, inr, Bool, true, false, List, [], ◌∷◌, ◌++◌, length, map, refl, sym, ◌∙◌, ap, subst, arith, append_assoc, append-nil, eq-eqb, eqb-true}
 use Rattle.std.specs.Prelude.{slice_index_or, ◌==◌}
 use Rattle.std.proofs.lemmas.Bool.{cases_Bool, cases_lt, cond_both}
-use Rattle.station_model.specs.declared.phase.Phase.TheVariants.{Up}
-use Rattle.station_model.specs.Frames.{Frame, Info, Rr, Rej, Srej, SetUp, Disc, Dm, Ua}
-use Rattle.station_model.specs.Stations.{Station, is_down, puts}
+use Rattle.station_model.specs.Frames.{Frame, Rr, Srej}
+use Rattle.station_model.specs.Stations.{Station, is_down, sees, puts}
 use Rattle.station_model.specs.Sending.{info_at, can_send, waiting, frames_again, sends_next, sends_up_to, sends_waiting, sends_again, settles}
-use Rattle.station_model.specs.Selective.{held_for, is_found}
-use Rattle.station_model.specs.Calls.{finishes}
+use Rattle.station_model.specs.Calls.{hands, finishes}
 use Rattle.station_pair.specs.Invariant.{infos, numbers, info_of, number_of}
 use Rattle.station_pair.specs.Flowing.{Ends}
+use Rattle.station_pair.specs.Mending.{AllExchange, Comes, IsExchange, Mends, Near, Toward, Waits, leads}
 use Rattle.station_pair.proofs.Keeps.{more}
 use Rattle.station_pair.proofs.Flows.{ends_push}
 
 -- ---- what waits
-
--- the number V(R) behind the I frames that wait, if each is taken where it is the next one
-abbrev pub leads : ℕ → List (ℕ × List ℕ) → ℕ
-leads next [] = next
-leads next (f ∷ fs) = if next == f.0 then leads (next + 1) fs else leads next fs
-
-abbrev pub Waits : ℕ → List (ℕ × List ℕ) → Type 0
-Waits m [] = ⊥
-Waits m (f ∷ fs) = (f.0 ≡ m) ⊎ Waits m fs
-
--- all that was sent comes: with go-back in its order; with selective reject each number is held or waits
-abbrev pub Comes : (selective : Bool) (next : ℕ) (held waits : List (ℕ × List ℕ)) (sent : ℕ) → Type 0
-Comes true next held waits sent = (m : ℕ) → next ≤ m → m < sent → (is_found (held_for m held) ≡ true) ⊎ Waits m waits
-Comes false next held waits sent = leads next waits ≡ sent
-
--- of what x sends to y: and where no I frame waits, the last N(R) that waits is V(R), or y owes an answer
-abbrev pub Toward : (selective : Bool) → List (ℕ × List ℕ) → List ℕ → Station → Station → Type 0
-Toward selective waits shows x y =
-    Comes selective (length y.taken) y.held waits x.sent × (y.owed ≡ false → waits ≡ [] → Ends x.acked shows (length y.taken))
-
--- I frames, RR, REJ and SREJ alone wait
-abbrev pub IsExchange : Frame → Type 0
-IsExchange (Info ns nr payload) = Unit {0}
-IsExchange (Rr nr) = Unit {0}
-IsExchange (Rej nr) = Unit {0}
-IsExchange (Srej nr) = Unit {0}
-IsExchange SetUp = ⊥
-IsExchange Disc = ⊥
-IsExchange Dm = ⊥
-IsExchange (Ua final) = ⊥
-
-abbrev pub AllExchange : List Frame → Type 0
-AllExchange [] = Unit {0}
-AllExchange (f ∷ fs) = IsExchange f × AllExchange fs
-
--- without the answer of x
-abbrev pub Near : (selective : Bool) → List Frame → Station → List Frame → Station → Type 0
-Near selective lx x ly y =
-    Toward selective (infos lx) (numbers ly) x y
-    × Comes selective (length x.taken) x.held (infos ly) y.sent
-    × AllExchange lx
-    × AllExchange ly
-    × (x.phase ≡ Up)
-    × (y.phase ≡ Up)
-
-abbrev pub Mends : (selective : Bool) → List Frame → Station → List Frame → Station → Type 0
-Mends selective lx x ly y =
-    Near selective lx x ly y × (x.owed ≡ false → infos ly ≡ [] → Ends y.acked (numbers lx) (length x.taken))
 
 pub mends_swap : (selective : Bool) (lx : List Frame) (x : Station) (ly : List Frame) (y : Station) → Mends selective lx x ly y → Mends selective ly y lx x
 mends_swap selective lx x ly y h = (((h.0.1, h.1), h.0.0.0, h.0.3, h.0.2, h.0.5, h.0.4), h.0.0.1)
@@ -235,7 +186,15 @@ module _ (selective : Bool) (w : List Frame) (l : List Frame) (y : Station) wher
       cond_both x.owed (record (puts (Rr (length x.taken)) x) { owed = false }) x (λ t. MendsIn selective w t l y)
       (λ owed. puts_shown_mends x false (Rr (length x.taken)) tt refl refl h.0) (λ owes. h)
 
-  pub ends_mends : (x : Station) → MendsIn selective w x l y → MendsIn selective w (finishes (sends_waiting x)) l y
-  ends_mends x h =
-      let g = up_to_mends (waiting x) x h in
-      cond_both (is_down (sends_waiting x).phase) (sends_waiting x) (settles (sends_waiting x)) (λ t. MendsIn selective w t l y) (λ e. g) (λ e. settles_mends (sends_waiting x) g)
+  pub waiting_mends : (x : Station) → MendsIn selective w x l y → MendsIn selective w (sends_waiting x) l y
+  waiting_mends x h = up_to_mends (waiting x) x h
+
+  -- ---- the calls
+
+  pub hands_mends : (now : ℕ) (q : List ℕ) (x : Station) → MendsIn selective w x l y → MendsIn selective w (hands now q x) l y
+  hands_mends now q x h =
+      let z : Station = record (sees now x) { handed = x.handed ++ q ∷ [] } in
+      cond_both (is_down x.phase) x (sends_waiting z) (λ t. MendsIn selective w t l y) (λ down. h) (λ live. waiting_mends z h)
+
+  pub finishes_mends : (x : Station) → MendsIn selective w x l y → MendsIn selective w (finishes x) l y
+  finishes_mends x h = cond_both (is_down x.phase) x (settles x) (λ t. MendsIn selective w t l y) (λ e. h) (λ e. settles_mends x h)

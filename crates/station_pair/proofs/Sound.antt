@@ -1,51 +1,15 @@
 -- One station, whatever its line loses and repeats: what holds of it alone at any moment, and that no frame of a station that isn't released
 -- releases the other one. Everywhere x acts and y doesn't, and w waited from x before the call.
-use Rattle.std.proofs.Common.{if◌then◌else◌, ◌≡◌, ℕ, zero, suc, ◌+◌, ◌-◌, ◌≤◌, Bool, true, false, List, [], ◌∷◌, ◌++◌, length, Option, Some, None, refl, sym, subst, arith, ltb-true, append_assoc, append-nil}
+use Rattle.std.proofs.Common.{if◌then◌else◌, ◌≡◌, ℕ, zero, suc, ◌+◌, ◌-◌, ◌≤◌, Bool, true, false, List, [], ◌∷◌, ◌++◌, Some, None, refl, sym, subst, arith, ltb-true, append_assoc, append-nil}
 use Rattle.std.specs.Prelude.{nat_lt}
 use Rattle.std.proofs.lemmas.Bool.{ltb-false}
 use Rattle.er_base.specs.declared.cause.Cause.{Cause}
-use Rattle.station_model.specs.declared.phase.Phase.{Phase}
-use Rattle.station_model.specs.declared.phase.Phase.TheVariants.{Idle, Setting, Up, Down}
-use Rattle.station_model.specs.Frames.{Frame, Info, Rr, Rej, Srej, SetUp, Disc, Dm, Ua}
-use Rattle.station_model.specs.Stations.{Station, is_down, puts}
+use Rattle.station_model.specs.declared.phase.Phase.TheVariants.{Up}
+use Rattle.station_model.specs.Frames.{Frame}
+use Rattle.station_model.specs.Stations.{Station, puts}
 use Rattle.station_model.specs.Sending.{info_at, frames_again, sends_again, starts_timer, releases}
 use Rattle.station_model.specs.Receiving.{acknowledges}
-use Rattle.station_model.specs.Selective.{held_for}
-
--- a frame that a station sends before it is released
-abbrev pub IsPolite : Frame → Type 0
-IsPolite (Info ns nr payload) = Unit {0}
-IsPolite (Rr nr) = Unit {0}
-IsPolite (Rej nr) = Unit {0}
-IsPolite (Srej nr) = Unit {0}
-IsPolite SetUp = Unit {0}
-IsPolite Disc = ⊥
-IsPolite Dm = ⊥
-IsPolite (Ua final) = Unit {0}
-
-abbrev pub AllPolite : List Frame → Type 0
-AllPolite [] = Unit {0}
-AllPolite (f ∷ fs) = IsPolite f × AllPolite fs
-
--- T1 runs exactly while frames are unacknowledged, or while the set-up is unanswered; where it doesn't run no expiry is counted
-abbrev pub Timed : Phase → Option ℕ → (expiries acked sent : ℕ) → Type 0
-Timed Idle timer expiries acked sent = (timer ≡ None) × (expiries ≡ 0)
-Timed Setting timer expiries acked sent = timer ≡ None → ⊥
-Timed Up timer expiries acked sent = (timer ≡ None → (acked ≡ sent) × (expiries ≡ 0)) × (acked ≡ sent → timer ≡ None) × (acked ≤ sent)
-Timed Down timer expiries acked sent = timer ≡ None
-
--- of a station and the frames that wait from it: its role and its window stay, its peer is never busy; the called one sends once it took a
--- payload; the next frame isn't held; and in Idle it said nothing
-abbrev pub Own : (calling : Bool) (window : ℕ) → List Frame → Station → Type 0
-Own calling window lx x =
-    (x.calling ≡ calling)
-    × (x.window ≡ window)
-    × (x.busy ≡ false)
-    × (calling ≡ false → length x.taken ≡ 0 → x.sent ≡ 0)
-    × Timed x.phase x.timer x.expiries x.acked x.sent
-    × (held_for (length x.taken) x.held ≡ None)
-    × (is_down x.phase ≡ false → AllPolite lx)
-    × (x.phase ≡ Idle → (lx ≡ []) × (x.owed ≡ false))
+use Rattle.station_pair.specs.Mending.{AllPolite, IsPolite, Own, Timed}
 
 -- within a call
 abbrev pub OwnIn : (calling : Bool) (window : ℕ) → List Frame → Station → Type 0

@@ -12,25 +12,27 @@ use Rattle.station_model.specs.declared.phase.Phase.TheVariants.{Idle, Setting, 
 use Rattle.station_model.specs.Frames.{Frame, Rr, SetUp, Disc, shown, information}
 use Rattle.station_model.specs.Stations.{Station, is_up, is_down, sees, puts}
 use Rattle.station_model.specs.Sending.{info_at, can_send, waiting, sends_next, sends_up_to, sends_waiting, sends_again, starts_timer, settles, gives_up, counts_expiry, expires_at, expires, expires_if_due, is_due, started}
-use Rattle.station_model.specs.Calls.{hands, finishes, ticks, closes_at}
+use Rattle.station_model.specs.Calls.{hands, finishes, ticks, closes_at, closes}
+use Rattle.station_model.specs.Selective.{receives_as}
 use Rattle.station_model.specs.Events.{quits}
 use Rattle.station_pair.specs.Invariant.{Both}
 use Rattle.station_pair.specs.Keeping.{found}
 use Rattle.station_pair.specs.Flowing.{Rests}
+use Rattle.station_pair.specs.Mending.{IsPolite, Rested, Timed}
 use Rattle.station_pair.proofs.Hearing.{row_as, hears_as, received}
 use Rattle.station_pair.proofs.Telling.{phases_stay}
 use Rattle.station_pair.proofs.Events.{row_keeps}
-use Rattle.station_pair.proofs.Flows.{heard_row, up_to_rests}
+use Rattle.station_pair.proofs.Flows.{heard_row, up_to_rests, up_to_given}
 use Rattle.station_pair.proofs.Lines.{answered}
 use Rattle.station_pair.proofs.Delivers.{early_cannot}
-use Rattle.station_pair.proofs.Sound.{IsPolite, Timed, OwnIn, polite_said, own_again, own_dead}
+use Rattle.station_pair.proofs.Sound.{OwnIn, polite_said, own_again, own_dead}
 use Rattle.station_pair.proofs.SoundRows.{Wakes, go_back_wakes, selective_wakes}
 
--- behind a call
-abbrev pub Rested : Station → Type 0
-Rested x = Rests x × (is_down x.phase ≡ false → x.owed ≡ false)
+-- within a call: what a part of it leaves of a station in this phase
+abbrev pub InCall : (calling : Bool) (window : ℕ) → List Frame → Phase → Station → Type 0
+InCall calling window w p t = OwnIn calling window w t × Rests t × (t.sent ≤ length t.handed) × (t.phase ≡ Idle → p ≡ Idle)
 
--- what a call leaves of a station in this phase
+-- what the whole call leaves
 abbrev pub Leaves : (calling : Bool) (window : ℕ) → List Frame → Phase → Station → Type 0
 Leaves calling window w p t = OwnIn calling window w t × Rested t × (t.phase ≡ Idle → p ≡ Idle)
 
@@ -107,20 +109,21 @@ module _ (c : Bool) (wd : ℕ) (w : List Frame) where
       ))
       (λ owes. (h, (rests, λ live. owes), went))
 
-  finishes_leaves : (p : Phase) (x : Station) → Rests x → (x.phase ≡ Idle → p ≡ Idle) → OwnIn c wd w x → Leaves c wd w p (finishes x)
-  finishes_leaves p x rests went h =
-      cond_both (is_down x.phase) x (settles x) (Leaves c wd w p) (λ down. (h, (rests, λ live. absurd (true≢false (sym down ∙ live))), went)) (λ live. settles_leaves p x rests went h)
+  pub finishes_leaves : (p : Phase) (x : Station) → InCall c wd w p x → Leaves c wd w p (finishes x)
+  finishes_leaves p x h =
+      cond_both (is_down x.phase) x (settles x) (Leaves c wd w p) (λ down. (h.0, (h.1, λ live. absurd (true≢false (sym down ∙ live))), h.3)) (λ live. settles_leaves p x h.1 h.3 h.0)
 
-  pub ends_leaves : (p : Phase) (x : Station) → x.sent ≤ length x.handed → (x.phase ≡ Idle → p ≡ Idle) → OwnIn c wd w x → Leaves c wd w p (finishes (sends_waiting x))
-  ends_leaves p x given went h =
-      finishes_leaves p (sends_waiting x) (up_to_rests (waiting x) x (omega arith)) (λ idle. went (sym (up_to_phase (waiting x) x) ∙ idle)) (up_to_own (waiting x) x h)
+  pub waiting_in : (p : Phase) (x : Station) → x.sent ≤ length x.handed → (x.phase ≡ Idle → p ≡ Idle) → OwnIn c wd w x → InCall c wd w p (sends_waiting x)
+  waiting_in p x given went h = (
+    up_to_own (waiting x) x h,
+    up_to_rests (waiting x) x (omega arith),
+    up_to_given (waiting x) x (omega arith),
+    λ idle. went (sym (up_to_phase (waiting x) x) ∙ idle),
+  )
 
   -- a released station stays as it is
-  down_leaves : (p : Phase) (x : Station) → is_down p ≡ true → x.phase ≡ p → OwnIn c wd w x → Leaves c wd w p (finishes x)
-  down_leaves p x down is h =
-      cond_both (is_down x.phase) x (settles x) (Leaves c wd w p)
-      (λ e. (h, (inl (early_cannot x (not_up x.phase e)), λ live. absurd (true≢false (sym e ∙ live))), λ idle. sym is ∙ idle))
-      (λ live. absurd (true≢false (sym down ∙ ap is_down (sym is) ∙ live)))
+  down_in : (x : Station) → is_down x.phase ≡ true → x.sent ≤ length x.handed → OwnIn c wd w x → InCall c wd w x.phase x
+  down_in x down given h = (h, inl (early_cannot x (not_up x.phase down)), given, λ idle. idle)
     where
       not_up : (q : Phase) → is_down q ≡ true → is_up q ≡ false
       not_up Idle e = absurd cc
@@ -130,11 +133,14 @@ module _ (c : Bool) (wd : ℕ) (w : List Frame) where
 
   -- ---- a payload is handed down, time goes on
 
+  pub hands_in : (now : ℕ) (q : List ℕ) (x : Station) → x.sent ≤ length x.handed → OwnIn c wd w x → InCall c wd w x.phase (hands now q x)
+  hands_in now q x given h =
+      cond_both (is_down x.phase) x (sends_waiting (record (sees now x) { handed = x.handed ++ q ∷ [] })) (InCall c wd w x.phase)
+      (λ down. down_in x down given h)
+      (λ live. waiting_in x.phase (record (sees now x) { handed = x.handed ++ q ∷ [] }) (let l = length-append x.handed (q ∷ []) in omega (arith, given, l)) (λ idle. idle) h)
+
   pub hands_leaves : (now : ℕ) (q : List ℕ) (x : Station) → x.sent ≤ length x.handed → OwnIn c wd w x → Leaves c wd w x.phase (finishes (hands now q x))
-  hands_leaves now q x given h =
-      cond_both (is_down x.phase) x (sends_waiting (record (sees now x) { handed = x.handed ++ q ∷ [] })) (λ t. Leaves c wd w x.phase (finishes t))
-      (λ down. down_leaves x.phase x down refl h)
-      (λ live. ends_leaves x.phase (record (sees now x) { handed = x.handed ++ q ∷ [] }) (let l = length-append x.handed (q ∷ []) in omega (arith, given, l)) (λ idle. idle) h)
+  hands_leaves now q x given h = finishes_leaves x.phase (hands now q x) (hands_in now q x given h)
 
   expires_own : (p : Phase) (x : Station) → (x.timer ≡ None → ⊥) → OwnIn c wd w (record x { phase = p }) → OwnIn c wd w (expires_at p (record x { phase = p })) × ((expires_at p (record x { phase = p })).phase ≡ Idle → p ≡ Idle)
   expires_own Idle x runs h = (h, λ e. e)
@@ -158,14 +164,17 @@ module _ (c : Bool) (wd : ℕ) (w : List Frame) where
       cond_both (nat_lt x.n2 (x.expiries + 1)) (gives_up NoProgress x) (starts_timer (sends_again (counts_expiry x))) (λ t. (t.sent ≡ x.sent) × (t.handed ≡ x.handed)) (λ e. (refl, refl)) (λ e. (refl, refl))
   expires_handed Down x = (refl, refl)
 
-  pub ticks_leaves : (now : ℕ) (x : Station) → x.sent ≤ length x.handed → OwnIn c wd w x → Leaves c wd w x.phase (finishes (ticks now x))
-  ticks_leaves now x given h =
-      cond_both (is_down x.phase) x (sends_waiting (expires_if_due (sees now x))) (λ t. Leaves c wd w x.phase (finishes t))
-      (λ down. down_leaves x.phase x down refl h)
-      (λ live. cond_both (is_due (sees now x).timer (sees now x).moment) (expires (sees now x)) (sees now x) (λ t. Leaves c wd w x.phase (finishes (sends_waiting t)))
+  pub ticks_in : (now : ℕ) (x : Station) → x.sent ≤ length x.handed → OwnIn c wd w x → InCall c wd w x.phase (ticks now x)
+  ticks_in now x given h =
+      cond_both (is_down x.phase) x (sends_waiting (expires_if_due (sees now x))) (InCall c wd w x.phase)
+      (λ down. down_in x down given h)
+      (λ live. cond_both (is_due (sees now x).timer (sees now x).moment) (expires (sees now x)) (sees now x) (λ t. InCall c wd w x.phase (sends_waiting t))
       (λ due. let o = expires_own x.phase (sees now x) (due_runs x.timer (sees now x).moment due) h in let g = expires_handed x.phase (sees now x) in
-      ends_leaves x.phase (expires (sees now x)) (subst (λ (n : ℕ). n ≤ length (expires (sees now x)).handed) (sym g.0) (subst (λ (hs : List (List ℕ)). x.sent ≤ length hs) (sym g.1) given)) o.1 o.0)
-      (λ early. ends_leaves x.phase (sees now x) given (λ idle. idle) h))
+      waiting_in x.phase (expires (sees now x)) (subst (λ (n : ℕ). n ≤ length (expires (sees now x)).handed) (sym g.0) (subst (λ (hs : List (List ℕ)). x.sent ≤ length hs) (sym g.1) given)) o.1 o.0)
+      (λ early. waiting_in x.phase (sees now x) given (λ idle. idle) h))
+
+  pub ticks_leaves : (now : ℕ) (x : Station) → x.sent ≤ length x.handed → OwnIn c wd w x → Leaves c wd w x.phase (finishes (ticks now x))
+  ticks_leaves now x given h = finishes_leaves x.phase (ticks now x) (ticks_in now x given h)
 
   -- ---- its user releases
 
@@ -174,6 +183,18 @@ module _ (c : Bool) (wd : ℕ) (w : List Frame) where
   closes_own Setting x h = (h.0, h.1, h.2, h.3, refl, h.5, λ live. absurd cc, λ e. absurd cc)
   closes_own Up x h = (h.0, h.1, h.2, h.3, refl, h.5, λ live. absurd cc, λ e. absurd cc)
   closes_own Down x h = (h.0, h.1, h.2, h.3, refl, h.5, λ live. absurd cc, λ e. absurd cc)
+
+  closes_given : (p : Phase) (x : Station) → x.sent ≤ length x.handed → (closes_at p x).sent ≤ length (closes_at p x).handed
+  closes_given Idle x h = h
+  closes_given Setting x h = h
+  closes_given Up x h = h
+  closes_given Down x h = h
+
+  -- the layer above ends the link
+  pub closes_in : (x : Station) → x.sent ≤ length x.handed → OwnIn c wd w x → InCall c wd w x.phase (closes x)
+  closes_in x given h =
+      cond_both (is_down x.phase) x (record (closes_at x.phase x) { phase = Down; timer = None }) (InCall c wd w x.phase)
+      (λ down. down_in x down given h) (λ live. (closes_own x.phase x h, inl refl, closes_given x.phase x given, λ e. absurd cc))
 
   pub quits_leaves : (sub : ℕ) (x : Station) → is_down x.phase ≡ false → OwnIn c wd w x → Leaves c wd w x.phase (quits sub x)
   quits_leaves sub x live h =
@@ -194,22 +215,24 @@ rows false k c wd w x f fs y b h = go_back_wakes k c wd w x.phase x f fs y b h
 abbrev pub Lives : (calling : Bool) (window : ℕ) → List Frame → Phase → Frame → Station → Type 0
 Lives calling window w p f t = Leaves calling window w p t × (IsPolite f → is_down p ≡ false → is_down t.phase ≡ false)
 
-finishes_phase : (x : Station) → (finishes x).phase ≡ x.phase
-finishes_phase x = phases_stay.finishes x
-
-pub answered_lives : ControlReadsBack → (selective : Bool) (k : ℕ) (c : Bool) (wd : ℕ) (w : List Frame) (now : ℕ) (x : Station) (f : Frame) (fs : List Frame) (y : Station)
-    → Both selective k w x (f ∷ fs) y → OwnIn c wd w x → Lives c wd w x.phase f (answered selective now y f x)
-answered_lives law selective k c wd w now x f fs y b h =
+pub received_lives : ControlReadsBack → (selective : Bool) (k : ℕ) (c : Bool) (wd : ℕ) (w : List Frame) (now : ℕ) (x : Station) (f : Frame) (fs : List Frame) (y : Station)
+    → Both selective k w x (f ∷ fs) y → OwnIn c wd w x
+    → InCall c wd w x.phase (receives_as selective now (found y f) x) × (IsPolite f → is_down x.phase ≡ false → is_down (receives_as selective now (found y f) x).phase ≡ false)
+received_lives law selective k c wd w now x f fs y b h =
     let z : Station = sees now x in
     let t : Station = hears_as selective (found y f) z in
     let e : row_as selective x.phase z (shown x.extended f) (information f) ≡ t = sym (heard_row law selective k (w ++ x.said) z f fs y b) in
     let g : Wakes c wd w x.phase f t = subst (λ (t : Station). Wakes c wd w x.phase f t) e (rows selective k c wd w z f fs y b h) in
     let given : t.sent ≤ length t.handed =
     subst (λ (t : Station). t.sent ≤ length t.handed) e (row_keeps selective k w z f fs y b).0.0.given in
-    subst (λ (u : Station). Lives c wd w x.phase f (finishes u)) (sym (received selective now (found y f) x))
-    (cond_both (is_down x.phase) x (sends_waiting t) (λ u. Lives c wd w x.phase f (finishes u))
-    (λ down. (down_leaves c wd w x.phase x down refl h, λ polite live. absurd (true≢false (sym down ∙ live))))
-    (λ live. (
-      ends_leaves c wd w x.phase t given g.2 g.0,
-      λ polite l. ap is_down (finishes_phase (sends_waiting t) ∙ up_to_phase c wd w (waiting t) t) ∙ g.1 polite l,
-    )))
+    subst (λ (u : Station). InCall c wd w x.phase u × (IsPolite f → is_down x.phase ≡ false → is_down u.phase ≡ false)) (sym (received selective now (found y f) x))
+    (cond_both (is_down x.phase) x (sends_waiting t) (λ u. InCall c wd w x.phase u × (IsPolite f → is_down x.phase ≡ false → is_down u.phase ≡ false))
+    (λ down. (down_in c wd w x down b.0.0.given h, λ polite live. live))
+    (λ live. (waiting_in c wd w x.phase t given g.2 g.0, λ polite l. ap is_down (up_to_phase c wd w (waiting t) t) ∙ g.1 polite l)))
+
+pub answered_lives : ControlReadsBack → (selective : Bool) (k : ℕ) (c : Bool) (wd : ℕ) (w : List Frame) (now : ℕ) (x : Station) (f : Frame) (fs : List Frame) (y : Station)
+    → Both selective k w x (f ∷ fs) y → OwnIn c wd w x → Lives c wd w x.phase f (answered selective now y f x)
+answered_lives law selective k c wd w now x f fs y b h =
+    let t : Station = receives_as selective now (found y f) x in
+    let g = received_lives law selective k c wd w now x f fs y b h in
+    (finishes_leaves c wd w x.phase t g.0, λ polite l. ap is_down (phases_stay.finishes t) ∙ g.1 polite l)

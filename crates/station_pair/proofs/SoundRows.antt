@@ -13,11 +13,12 @@ use Rattle.station_model.specs.Sending.{info_at, refuses_frame, sends_again, sta
 use Rattle.station_model.specs.Receiving.{strays, named, acknowledges, acknowledging, by_number, accepts, rejects, takes, marks_busy, repeats_rejected, agrees, comes_up, row_idle, row_up, row}
 use Rattle.station_model.specs.Selective.{held_for, is_found, without_gap, takes_run, missing_below, holds, says_next, files_at, files, repeats_at, repeats_one, sets_up_selective_again, selective_row_up, selective_row}
 use Rattle.station_pair.specs.Invariant.{Half, IsSpan, Both, marks}
+use Rattle.station_pair.specs.Mending.{AllPolite, IsPolite}
 use Rattle.station_pair.proofs.Ways.{climbs_le, way_bounds}
 use Rattle.station_pair.proofs.Rows.{no_foreign, set_up_at, named_is}
 use Rattle.station_pair.proofs.SelectiveRows.{named_none_or}
 use Rattle.station_pair.proofs.Gaps.{next_not_held, held_others}
-use Rattle.station_pair.proofs.Sound.{IsPolite, AllPolite, OwnIn, polite_said, own_puts, own_ack, own_again, own_dead}
+use Rattle.station_pair.proofs.Sound.{OwnIn, polite_said, own_puts, own_ack, own_again, own_dead}
 
 length_more : (ps qs : List (List ℕ)) (q : List ℕ) → length (ps ++ q ∷ qs) ≡ 0 → ⊥
 length_more ps qs q e = let l = length-append ps (q ∷ qs) in omega (arith, e, l)

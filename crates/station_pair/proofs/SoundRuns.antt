@@ -16,12 +16,12 @@ use Rattle.station_pair.specs.Steps.{LinkStep, Send, Pass, Lose, Repeat, Alter, 
 use Rattle.station_pair.specs.Laws.{Opening, after}
 use Rattle.station_pair.specs.Timers.{TimedAt, TimersRun}
 use Rattle.station_pair.specs.Recovery.{ArePasses, AreLive, PassesRelease}
+use Rattle.station_pair.specs.Mending.{Own, Timed}
 use Rattle.station_pair.proofs.Events.{finishes_keeps, hands_keeps, ticks_keeps, quits_keeps}
 use Rattle.station_pair.proofs.Lines.{turned, first_of_line, lost, repeated}
 use Rattle.station_pair.proofs.Opened.{span_of, opened_stands}
 use Rattle.station_pair.proofs.Runs.{Frames, refused_long, passed_kept, drained_kept, sent_kept, lost_kept, repeated_kept, released_kept}
 use Rattle.station_pair.proofs.Telling.{phases_stay, ticks_tell}
-use Rattle.station_pair.proofs.Sound.{Timed, Own}
 use Rattle.station_pair.proofs.SoundCalls.{hands_leaves, ticks_leaves, quits_leaves}
 use Rattle.station_pair.proofs.Sounds.{Claim, Sounds, own_gone, own_twice, e_does, r_does, e_ready, r_ready, e_own, r_own, same, ToR, ToE, passed, passes_keep}
 

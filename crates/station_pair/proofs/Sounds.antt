@@ -11,10 +11,11 @@ use Rattle.station_pair.specs.Links.{Came, Link, line_of, did, hears_each, reads
 use Rattle.station_pair.specs.Steps.{LinkStep, Send, Pass, Lose, Repeat, Alter, Put, UserRelease, Drain, Tick, pass, happens, run}
 use Rattle.station_pair.specs.Invariant.{Pair, Both}
 use Rattle.station_pair.specs.Recovery.{ArePasses, AreLive}
+use Rattle.station_pair.specs.Mending.{Own, Rested}
 use Rattle.station_pair.proofs.Lines.{octets_of, Stands, turned, begun, acted, First, first_of_line, answered, one_event, flag_behind, answered_keeps}
 use Rattle.station_pair.proofs.Runs.{Frames}
-use Rattle.station_pair.proofs.Sound.{Own, OwnIn}
-use Rattle.station_pair.proofs.SoundCalls.{Rested, Leaves, answered_lives}
+use Rattle.station_pair.proofs.Sound.{OwnIn}
+use Rattle.station_pair.proofs.SoundCalls.{Leaves, answered_lives}
 
 -- what is claimed besides of the kind, the frames that wait and the stations: from e, e, from r, r
 abbrev pub Claim : Type 1

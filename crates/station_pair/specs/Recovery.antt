@@ -1,6 +1,6 @@
 -- What two stations recover from (ISO/IEC 13239, asynchronous balanced mode): a line that lost and repeated frames, and then for a while
 -- loses none, by T1 alone.
-use Rattle.std.specs.Prelude.{◌≡◌, ◌⊎◌, ℕ, ◌+◌, ◌*◌, ◌<◌, ◌≤◌, Bool, true, false, List, [], ◌∷◌, ◌++◌, length, None}
+use Rattle.std.specs.Prelude.{◌≡◌, ◌⊎◌, ℕ, ◌+◌, ◌*◌, ◌<◌, ◌≤◌, true, false, List, [], ◌∷◌, ◌++◌, length, None}
 use Rattle.station_model.specs.declared.phase.Phase.TheVariants.{Up}
 use Rattle.station_model.specs.Stations.{Station, is_down}
 use Rattle.station_model.specs.Events.{is_late}

@@ -3,6 +3,7 @@
 ghost use Rattle.station_pair.specs.Keeping.{CallsKeep, FramesGive, PhasesStay, ReceivesTell, TicksTell};
 ghost use Rattle.station_pair.specs.LossFree.{FlowBounds, FlowKeeps};
 ghost use Rattle.station_pair.specs.Recovery.{DrainEmptiesLive, PassesBound, PassesRelease, Recovery};
+ghost use Rattle.station_pair.specs.Repairs.{MendEnds, MendKeeps};
 ghost use Rattle.station_pair.specs.Timers.{Renewal, TimersRun};
 ghost use Rattle.station_pair.specs.Laws.{Prefix, LosingLineReasons, Delivery, DeliveryBound, DrainEmpties, DeliveriesBound, FewWait};
 
@@ -119,4 +120,16 @@ pub fn passes_are_bounded()
     control_reads_back();
     flag_parts();
     frame_alone();
+}
+
+/// Whatever layers stand above two stations: each call keeps what a recovery rests on, and the two ticks lead to what repairs a loss; once no
+/// frame waits behind them, all was taken: at the calling station where it was handed a payload itself.
+pub fn mending_keeps()
+    ensures calls { MendKeeps }
+    ensures done { MendEnds }
+{
+    control_reads_back();
+    station_model::laws::receives_give();
+    station_model::laws::releases_are_told();
+    station_model::laws::released_are_inert();
 }
