@@ -18,16 +18,16 @@ use Rattle.x224_class2.specs.declared.stage.Stage.{Stage}
 use Rattle.x224_class2.specs.declared.stage.Stage.TheVariants as stages
 use Rattle.end_model.specs.Layers.{Core, model}
 use Rattle.end_model.specs.Steps.{goes_on, is_connected}
-use Rattle.end_pair.specs.Openings.{Opening}
+use Rattle.end_pair.specs.Openings.{Opening, Agree}
 use Rattle.end_pair.specs.Links.{Link}
-use Rattle.end_pair.specs.Laws.{after, IsEmpty, Delivery}
+use Rattle.end_pair.specs.Laws.{after, IsEmpty, HasAll, Delivery}
 use Rattle.end_pair.proofs.Lists.{number, number_same, ends_one}
 use Rattle.end_pair.proofs.Locals.{dts, aks}
 use Rattle.end_pair.proofs.Constants.{said_all}
 use Rattle.end_pair.proofs.Own.{Stages, EdgeIs, Joint, PhaseIs, Own, users, heard, block, Spelled}
 use Rattle.end_pair.proofs.Below.{Below}
 use Rattle.end_pair.proofs.Moves.{turn_is, credit_known}
-use Rattle.end_pair.proofs.Worlds.{none_on_line}
+use Rattle.end_pair.proofs.Worlds.{Holds, none_on_line}
 use Rattle.end_pair.proofs.Stations.{Free}
 use Rattle.end_pair.proofs.Flowing.{Flows}
 use Rattle.end_pair.proofs.Drained.{after_flows}
@@ -142,9 +142,10 @@ pub record Quiet (s : Opening) (l : Link) : Type 0 where
   pub to_r : QuietPair s true l.e.core l.r.core
   pub to_e : QuietPair s false l.r.core l.e.core
 
-pub quiet : Free → (s : Opening) (l : Link) → Flows s l → IsEmpty l → Quiet s l
-quiet free s l g empty =
-    let h = g.holds in
+-- of the stations: the calling one is up, and each took what the other was handed, the calling one where it was handed a payload itself
+pub quiet_at : (s : Opening) (l : Link) (h : Holds s l) → l.e.core.released ≡ None → l.r.core.released ≡ None → IsEmpty l → l.e.core.line.phase ≡ Up
+    → l.r.core.line.taken ≡ l.e.core.line.handed → (1 ≤ length l.e.core.line.handed → l.e.core.line.taken ≡ l.r.core.line.handed) → Quiet s l
+quiet_at s l h live_e live_r empty up took_r took =
     let e : Core = l.e.core in
     let r : Core = l.r.core in
     let te : Transport = e.upper.transport in
@@ -153,29 +154,25 @@ quiet free s l g empty =
     let nr : h.fr ≡ [] = none_on_line r.line h.fr (sym empty.1 ∙ h.lined_r) in
     let p : Pair false h.k [] e.line [] r.line =
     subst (λ (t : List Frame). Pair false h.k t e.line [] r.line) ne (subst (λ (t : List Frame). Pair false h.k h.fe e.line t r.line) nr h.two.lines) in
-    let q : Shape l.passes [] e.line [] r.line =
-    subst (λ (t : List Frame). Shape l.passes t e.line [] r.line) ne (subst (λ (t : List Frame). Shape l.passes h.fe e.line t r.line) nr g.shape) in
-    let b = free.bounds.emptied false h.k l.passes e.line r.line p q in
-    let ve = h.two.own_e.lives g.live_e in
-    let vr = h.two.own_r.lives g.live_r in
-    let gave_e : 1 ≤ length te.gave = caller_gave te.stage te.due (heard e r) te.gave e.line.phase b.0 ve.rested.0 ve.alive.stages in
+    let ve = h.two.own_e.lives live_e in
+    let vr = h.two.own_r.lives live_r in
+    let gave_e : 1 ≤ length te.gave = caller_gave te.stage te.due (heard e r) te.gave e.line.phase up ve.rested.0 ve.alive.stages in
     let handed_e : length e.line.handed ≡ length te.gave = ap length h.two.spelled_e ∙ length-map te.gave block in
-    let took_r : r.line.taken ≡ e.line.handed = b.2 in
-    let took_e : e.line.taken ≡ r.line.handed = b.3 (omega arith) in
+    let took_e : e.line.taken ≡ r.line.handed = took (omega arith) in
     let all_r : heard r e ≡ te.gave = all_heard r e h.two.spelled_e took_r in
     let all_e : heard e r ≡ tr.gave = all_heard e r h.two.spelled_r took_e in
     let own_e : Own s true e tr.gave = subst (λ (t : List Given). Own s true e t) all_e h.two.own_e in
     let own_r : Own s false r te.gave = subst (λ (t : List Given). Own s false r t) all_r h.two.own_r in
-    let open_r = is_open false tr.stage tr.due te.gave tr.gave r.line.phase gave_e vr.rested.0 (own_r.lives g.live_r).alive.stages in
-    let open_e = is_open true te.stage te.due tr.gave te.gave e.line.phase open_r.1 ve.rested.0 (own_e.lives g.live_e).alive.stages in
+    let open_r = is_open false tr.stage tr.due te.gave tr.gave r.line.phase gave_e vr.rested.0 (own_r.lives live_r).alive.stages in
+    let open_e = is_open true te.stage te.due tr.gave te.gave e.line.phase open_r.1 ve.rested.0 (own_e.lives live_e).alive.stages in
     let free_e = none_waits r.line.taken e.line.handed e.line.sent took_r p.0.0.chain in
     let free_r = none_waits e.line.taken r.line.handed r.line.sent took_e p.1.0.chain in
     record {
       to_r = record {
         own_x = own_e;
         own_y = own_r;
-        live_x = g.live_e;
-        live_y = g.live_r;
+        live_x = live_e;
+        live_y = live_r;
         free_x = free_e;
         free_y = free_r;
         used_y = empty.3;
@@ -185,8 +182,8 @@ quiet free s l g empty =
       to_e = record {
         own_x = own_r;
         own_y = own_e;
-        live_x = g.live_r;
-        live_y = g.live_e;
+        live_x = live_r;
+        live_y = live_e;
         free_x = free_r;
         free_y = free_e;
         used_y = empty.2;
@@ -194,6 +191,20 @@ quiet free s l g empty =
         open_y = open_e.0;
       };
     }
+
+pub quiet : Free → (s : Opening) (l : Link) → Flows s l → IsEmpty l → Quiet s l
+quiet free s l g empty =
+    let h = g.holds in
+    let e : Core = l.e.core in
+    let r : Core = l.r.core in
+    let ne : h.fe ≡ [] = none_on_line e.line h.fe (sym empty.0 ∙ h.lined_e) in
+    let nr : h.fr ≡ [] = none_on_line r.line h.fr (sym empty.1 ∙ h.lined_r) in
+    let p : Pair false h.k [] e.line [] r.line =
+    subst (λ (t : List Frame). Pair false h.k t e.line [] r.line) ne (subst (λ (t : List Frame). Pair false h.k h.fe e.line t r.line) nr h.two.lines) in
+    let q : Shape l.passes [] e.line [] r.line =
+    subst (λ (t : List Frame). Shape l.passes t e.line [] r.line) ne (subst (λ (t : List Frame). Shape l.passes h.fe e.line t r.line) nr g.shape) in
+    let b = free.bounds.emptied false h.k l.passes e.line r.line p q in
+    quiet_at s l h g.live_e g.live_r empty b.0 b.2 b.3
 
 -- ---- both are connected
 
@@ -228,21 +239,18 @@ e_connected s (WaitAr connection) out sent came accepted j h some = absurd (some
 e_connected s (Connected peer key) out sent came accepted j h some = refl
 e_connected s (Released release known) out sent came accepted j h some = absurd j
 
-pub delivery : Free → Delivery
-delivery free s steps fits agree clean empty =
-    let l : Link = after s steps in
-    let g = after_flows free s steps fits agree clean in
-    let q = quiet free s l g empty in
+pub has_all : Below → (s : Opening) → Agree s → (l : Link) → l.e.core.released ≡ None → l.r.core.released ≡ None → Quiet s l → HasAll l
+has_all below s agree l live_e live_r q =
     let e : Core = l.e.core in
     let r : Core = l.r.core in
     let te : Transport = e.upper.transport in
     let tr : Transport = r.upper.transport in
-    let ve = (q.to_r.own_x.lives g.live_e).trusting in
-    let vr = (q.to_r.own_y.lives g.live_r).trusting in
+    let ve = (q.to_r.own_x.lives live_e).trusting in
+    let vr = (q.to_r.own_y.lives live_r).trusting in
     let je : Joint s true stages.Open e.safe.safety.phase = subst (λ (st : Stage). Joint s true st e.safe.safety.phase) q.to_r.open_x ve.joint in
     let jr : Joint s false stages.Open r.safe.safety.phase = subst (λ (st : Stage). Joint s false st r.safe.safety.phase) q.to_r.open_y vr.joint in
-    let given_r : tr.contents ≡ te.segments = all_given free.below s true e r q.to_r in
-    let given_e : te.contents ≡ tr.segments = all_given free.below s false r e q.to_e in
+    let given_r : tr.contents ≡ te.segments = all_given below s true e r q.to_r in
+    let given_e : te.contents ≡ tr.segments = all_given below s false r e q.to_e in
     let came_r : messages_in tr.contents ≡ [] → ⊥ = λ none.
     e_said s e.safe.safety.phase (messages_in te.segments) e.upper.sent (messages_in te.contents) e.upper.accepted je (ve.phase_is agree) (sym (ap messages_in given_r) ∙ none) in
     let cr = r_connected s r.safe.safety.phase (messages_in tr.segments) r.upper.sent (messages_in tr.contents) r.upper.accepted jr (vr.phase_is agree) came_r in
@@ -250,6 +258,12 @@ delivery free s steps fits agree clean empty =
     record {
       e_connected = e_connected s e.safe.safety.phase (messages_in te.segments) e.upper.sent (messages_in te.contents) e.upper.accepted je (ve.phase_is agree) came_e;
       r_connected = cr.0;
-      at_r = all_accepted free.below s true e r q.to_r;
-      at_e = all_accepted free.below s false r e q.to_e;
+      at_r = all_accepted below s true e r q.to_r;
+      at_e = all_accepted below s false r e q.to_e;
     }
+
+pub delivery : Free → Delivery
+delivery free s steps fits agree clean empty =
+    let l : Link = after s steps in
+    let g = after_flows free s steps fits agree clean in
+    has_all free.below s agree l g.live_e g.live_r (quiet free s l g empty)

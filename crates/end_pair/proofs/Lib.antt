@@ -22,10 +22,15 @@ pub mod Happens
 pub mod Worlds
 pub mod Ordered
 pub mod Stations
+pub mod Lived
+pub mod Mended
+pub mod Mending
+pub mod Lasting
 pub mod Clean
 pub mod Flowing
 pub mod Drained
 pub mod Delivered
+pub mod Repaired
 pub mod Bounded
 pub mod Together
 pub mod Apart

@@ -127,7 +127,7 @@ link_stays finds None false None x = nothing x
 
 -- ---- what goes down behind it
 
-offered_released : (n : ℕ) (x : Core) → (offers model n x).released ≡ x.released
+pub offered_released : (n : ℕ) (x : Core) → (offers model n x).released ≡ x.released
 unfolding offers
 offered_released zero x = refl
 offered_released (suc n) x = cond_both (goes_on model x) (offers model n (gives_next model x)) x (λ z. z.released ≡ x.released) (λ e. offered_released n (gives_next model x)) (λ e. refl)

@@ -286,10 +286,10 @@ pass_holds below s R l h = r_passed below s l l.from_r refl h
 -- ---- a frame is lost or repeated
 
 -- the lines changed, and the ends didn't
-two_lines : (s : Opening) (k : ℕ) (fe fr fe' fr' : List Frame) (e r : Core) → Pair false k fe' e.line fr' r.line → Two s k fe e fr r → Two s k fe' e fr' r
+pub two_lines : (s : Opening) (k : ℕ) (fe fr fe' fr' : List Frame) (e r : Core) → Pair false k fe' e.line fr' r.line → Two s k fe e fr r → Two s k fe' e fr' r
 two_lines s k fe fr fe' fr' e r p t = record { lines = p; spelled_e = t.spelled_e; spelled_r = t.spelled_r; own_e = t.own_e; own_r = t.own_r }
 
-e_changed : Below → (s : Opening) (l : Link) (h : Holds s l) (fe : List Frame) (line : List (List ℕ)) → line ≡ map (octets_from l.e.core.line) fe
+unfoldable pub e_changed : Below → (s : Opening) (l : Link) (h : Holds s l) (fe : List Frame) (line : List (List ℕ)) → line ≡ map (octets_from l.e.core.line) fe
     → Pair false h.k h.fr l.r.core.line fe l.e.core.line → Holds s (record l { from_e = line })
 e_changed below s l h fe line lined p = record {
   k = h.k;
@@ -302,7 +302,7 @@ e_changed below s l h fe line lined p = record {
   flag_r = h.flag_r;
 }
 
-r_changed : (s : Opening) (l : Link) (h : Holds s l) (fr : List Frame) (line : List (List ℕ)) → line ≡ map (octets_from l.r.core.line) fr
+unfoldable pub r_changed : (s : Opening) (l : Link) (h : Holds s l) (fr : List Frame) (line : List (List ℕ)) → line ≡ map (octets_from l.r.core.line) fr
     → Pair false h.k h.fe l.e.core.line fr l.r.core.line → Holds s (record l { from_r = line })
 r_changed s l h fr line lined p = record {
   k = h.k;
@@ -316,12 +316,12 @@ r_changed s l h fr line lined p = record {
 }
 
 -- the frames of e, as r sees them
-e_first_pair : Below → (s : Opening) (l : Link) (h : Holds s l) (octets : List ℕ) (rest : List (List ℕ)) (f : First l.e.core.line octets rest h.fe)
+pub e_first_pair : Below → (s : Opening) (l : Link) (h : Holds s l) (octets : List ℕ) (rest : List (List ℕ)) (f : First l.e.core.line octets rest h.fe)
     → Pair false h.k h.fr l.r.core.line (f.frame ∷ f.frames) l.e.core.line
 e_first_pair below s l h octets rest f =
     subst (λ (t : List Frame). Pair false h.k h.fr l.r.core.line t l.e.core.line) f.all (below.keep.swapped false h.k h.fe l.e.core.line h.fr l.r.core.line h.two.lines)
 
-r_first_pair : (s : Opening) (l : Link) (h : Holds s l) (octets : List ℕ) (rest : List (List ℕ)) (f : First l.r.core.line octets rest h.fr)
+pub r_first_pair : (s : Opening) (l : Link) (h : Holds s l) (octets : List ℕ) (rest : List (List ℕ)) (f : First l.r.core.line octets rest h.fr)
     → Pair false h.k h.fe l.e.core.line (f.frame ∷ f.frames) l.r.core.line
 r_first_pair s l h octets rest f = subst (λ (t : List Frame). Pair false h.k h.fe l.e.core.line t l.r.core.line) f.all h.two.lines
 
@@ -371,31 +371,31 @@ drained_holds below s (suc most) l h =
 
 -- ---- a line keeps its order before a step where it does so behind it
 
-give_kept : (side : Side) (event : Event) (l : Link) → (give side event l).order_kept ≡ l.order_kept
+pub give_kept : (side : Side) (event : Event) (l : Link) → (give side event l).order_kept ≡ l.order_kept
 give_kept E event l = refl
 give_kept R event l = refl
 
-passed_kept : (s : Opening) (side : Side) (line : List (List ℕ)) (l : Link) → (pass s.finder side line l).order_kept ≡ l.order_kept
+pub passed_kept : (s : Opening) (side : Side) (line : List (List ℕ)) (l : Link) → (pass s.finder side line l).order_kept ≡ l.order_kept
 passed_kept s side [] l = refl
 passed_kept s E (octets ∷ rest) l = refl
 passed_kept s R (octets ∷ rest) l = refl
 
-next_kept : (s : Opening) (side : Option Side) (overfull : Bool) (l : Link) → (pass_next s.finder side overfull l).order_kept ≡ l.order_kept
+pub next_kept : (s : Opening) (side : Option Side) (overfull : Bool) (l : Link) → (pass_next s.finder side overfull l).order_kept ≡ l.order_kept
 next_kept s None overfull l = refl
 next_kept s (Some side) true l = refl
 next_kept s (Some side) false l = passed_kept s side (line_of l side) l
 
-drained_kept : (s : Opening) (most : ℕ) (l : Link) → (drained s.finder most l).order_kept ≡ l.order_kept
+pub drained_kept : (s : Opening) (most : ℕ) (l : Link) → (drained s.finder most l).order_kept ≡ l.order_kept
 drained_kept s zero l = refl
 drained_kept s (suc most) l =
     drained_kept s most (pass_next s.finder (next_of l.from_e l.from_r) (is_overfull l) l) ∙ next_kept s (next_of l.from_e l.from_r) (is_overfull l) l
 
-lost_kept : (side : Side) (line : List (List ℕ)) (l : Link) → (lose side line l).order_kept ≡ l.order_kept
+pub lost_kept : (side : Side) (line : List (List ℕ)) (l : Link) → (lose side line l).order_kept ≡ l.order_kept
 lost_kept side [] l = refl
 lost_kept E (octets ∷ rest) l = refl
 lost_kept R (octets ∷ rest) l = refl
 
-repeated_kept : (side : Side) (line : List (List ℕ)) (l : Link) → (repeat side line l).order_kept ≡ l.order_kept
+pub repeated_kept : (side : Side) (line : List (List ℕ)) (l : Link) → (repeat side line l).order_kept ≡ l.order_kept
 repeated_kept side [] l = refl
 repeated_kept E (octets ∷ rest) l = refl
 repeated_kept R (octets ∷ rest) l = refl

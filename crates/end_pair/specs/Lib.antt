@@ -6,3 +6,4 @@ pub mod Phases
 pub mod Laws
 pub mod Ordered
 pub mod Greetings
+pub mod Recovery
