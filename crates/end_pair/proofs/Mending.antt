@@ -12,7 +12,7 @@ use Rattle.station_pair.specs.Mending.{Progress, Lossy, MayHear, MaySpeak, Betwe
 use Rattle.x224_class2.specs.Transport.{waiting_count}
 use Rattle.end_model.specs.Outcomes.{SendRefusal}
 use Rattle.end_model.specs.Layers.{Core, model}
-use Rattle.end_model.specs.Steps.{begins_at, refusal_at, is_connected, sends_unless, sent, uses, ticks, started}
+use Rattle.end_model.specs.Steps.{begins_at, refusal_at, is_connected, sends_unless, sent, uses, ticks}
 use Rattle.end_model.specs.Ends as event
 use Rattle.end_pair.specs.Openings.{Opening, Agree}
 use Rattle.end_pair.specs.Links.{Link, line_of, frames_said, frames_unless, give, opened}

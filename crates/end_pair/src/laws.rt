@@ -3,6 +3,7 @@
 ghost use Rattle.end_pair.specs.Laws.{Delivery, DeliveryBound, DrainEmpties, FewWait, InStep, LosingLineReasons, OneFrame, Prefix};
 ghost use Rattle.end_pair.specs.Ordered.{InStepWhileOrdered};
 ghost use Rattle.end_pair.specs.Greetings.{Greets};
+ghost use Rattle.end_pair.specs.Recovery.{PassesRelease, Recovery};
 
 /// A line that only loses and repeats: what an end accepted is a prefix of what the other sent, whatever the keys.
 pub fn prefix()
@@ -188,6 +189,31 @@ pub fn greets()
     station_model::laws::ticks_give();
     station_model::laws::others_keep();
     station_pair::laws::calls_keep();
+    t70_header::laws::wrapping();
+    x224_tpdu::laws::writing();
+    x224_class2::laws::segments();
+    sapdu::laws::messages();
+    sapdu::laws::spelled_is_read();
+    sapdu::laws::lengths_of_spellings();
+    safety_automaton::laws::steps();
+    safety_automaton::laws::lengths();
+    cbc_mac::laws::mac_below();
+}
+
+/// Whatever a line that keeps its order lost and repeated, while no end was released, where the radio block centre finds the engine's KMAC: all that
+/// waits is given; a moment finds each T1 that runs expired, and the time for the set-up isn't spent; all that waits is given, and all that was
+/// accepted is taken. Then both ends are live and connected, and each accepted all that the other sent, in order. While frames are given and
+/// messages taken, and nothing else happens, no live end is released.
+pub fn recovery()
+    ensures recovered { Recovery }
+    ensures live { PassesRelease }
+{
+    er_settings::laws::allowed_are_bounded();
+    station_model::laws::receives_give();
+    station_model::laws::ticks_give();
+    station_model::laws::others_keep();
+    station_pair::laws::calls_keep();
+    station_pair::laws::mending_keeps();
     t70_header::laws::wrapping();
     x224_tpdu::laws::writing();
     x224_class2::laws::segments();
