@@ -37,5 +37,6 @@ mod StackOrdered
 mod OrderUnforged
 mod OneLink
 mod Repairing
+mod StackRepairing
 mod Recovering
 pub mod StackRuns

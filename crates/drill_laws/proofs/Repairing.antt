@@ -1,12 +1,9 @@
--- A link of two stations recovers: a drain of it is passes of its pair, and a tick is a tick of the pair.
-use Rattle.std.proofs.Common.{◌≡◌, inl, inr, ℕ, zero, suc, ◌+◌, ◌≤◌, max, true, List, [], ◌∷◌, ◌++◌, length, refl, sym, ap, ap₂, subst, ◌∙◌, append-nil, append_assoc, arith}
+-- A link of two stations recovers: passes of it are passes of its pair, takes do nothing there, and a tick is a tick of the pair.
+use Rattle.std.proofs.Common.{◌≡◌, ℕ, zero, suc, ◌+◌, ◌≤◌, max, true, List, [], ◌∷◌, ◌++◌, length, refl, sym, ap, ap₂, subst, ◌∙◌, arith}
 use Rattle.std.specs.Prelude.{Option, Some, None}
-use Rattle.std.proofs.lemmas.Bool.{leb-true, le-leb}
 use Rattle.er_base.specs.declared.side.Side.{Side}
 use Rattle.er_base.specs.declared.side.Side.TheVariants.{E, R}
 use Rattle.station_model.specs.Lines.{next_of}
-use Rattle.station_model.specs.Sending.{is_due}
-use Rattle.station_model.specs.Stations.{Station}
 use Rattle.station_pair.specs.Links.{Link as Pair, opened}
 use Rattle.station_pair.specs.Steps.{happens, run}
 use Rattle.station_pair.specs.Steps as on_pair
@@ -15,31 +12,19 @@ use Rattle.station_pair.specs.Laws as of_pair
 use Rattle.station_pair.specs.Recovery.{ArePasses, AreLive, MayRepeat, IsRecovered, Recovery, PassesBound, passes_bound, bound_of}
 use Rattle.drill_model.specs.Outcomes.{Occurrence}
 use Rattle.drill_model.specs.Links.{Link, waiting_of, Pass, Tick, link_step}
-use Rattle.drill_model.specs.Worlds.{Plan, next_side, overfull_side, Drain, drain, drain_on}
+use Rattle.drill_model.specs.Worlds.{Plan, overfull_side, Drain, drain, drain_on}
 use Rattle.drill_model.specs.Kinds.{sent_by}
-use Rattle.drill_model.specs.Recovery.{IsLiveStation, MayRepeatAt, NoneWaits, IsRepairable, drain_bound, DrainEmpties}
+use Rattle.drill_model.specs.Recovery.{IsLive, GoesOnAt, GoOn, NoneWaits, IsRepairable, drain_bound, DrainEmpties}
 use Rattle.drill_model.specs.Headline.{IsConnectedEnd, HasAllPayloads}
 use Rattle.drill_laws.proofs.Tellings.{StationLaws}
 use Rattle.drill_laws.proofs.Wiring.{Sees}
-use Rattle.drill_laws.proofs.Wired.{cleared, pass_goes, tick_goes, run_append}
-
--- ---- a later moment finds as much expired
-
-due_later : (timer : Option ℕ) (now later : ℕ) → now ≤ later → is_due timer now ≡ true → is_due timer later ≡ true
-due_later None now later on due = due
-due_later (Some expiry) now later on due = let past : expiry ≤ now = leb-true expiry now due in le-leb expiry later (omega arith)
-
-may_later : (s : Station) (moment now : ℕ) → MayRepeat now s → MayRepeat (max moment now) s
-may_later s moment now may =
-    elim may [
-      | inl rests ↦ inl rests
-      | inr late ↦ inr (due_later s.timer (max s.moment now) (max s.moment (max moment now)) (omega arith) late.0, late.1)
-    ]
+use Rattle.drill_laws.proofs.Wired.{cleared, pass_goes, take_sees, tick_goes, run_append}
+use Rattle.drill_laws.proofs.OneLink.{KeptByPasses, KeptByTakes}
 
 -- ---- a link that is seen as a pair
 
 live_pair : (l : Link) (history : List Occurrence) (p : Pair) → Sees l history p → IsRepairable history l → AreLive p
-live_pair l history p v repairable = (subst IsLiveStation v.e_is repairable.e_live, subst IsLiveStation v.r_is repairable.r_live)
+live_pair l history p v repairable = (subst IsLive v.e_is repairable.e_live, subst IsLive v.r_is repairable.r_live)
 
 empty_pair : (l : Link) (history : List Occurrence) (p : Pair) → Sees l history p → NoneWaits l → of_pair.IsEmpty p
 empty_pair l history p v none = (sym v.from_e_is ∙ none.0, sym v.from_r_is ∙ none.1)
@@ -54,13 +39,14 @@ recovered l history p v r =
     }
 
 -- passes of the pair lead to this
-pub record Passed (l : Link) (history : List Occurrence) (p : Pair) : Type 0 where
+pub record Passed (p : Pair) (l : Link) (history : List Occurrence) : Type 0 where
   pub steps : List on_pair.LinkStep
   pub passes : ArePasses steps
   pub sees : Sees l history (run p steps)
 
-abbrev PassedBy : (Link → Drain) → Type 0
-PassedBy drained = (l : Link) (history : List Occurrence) (p : Pair) → Sees l history p → Passed (drained l).link (history ++ (drained l).came) p
+one_pass : (xs : List on_pair.LinkStep) (side : Side) → ArePasses xs → ArePasses (xs ++ on_pair.Pass side ∷ [])
+one_pass [] side are = (tt, tt)
+one_pass (x ∷ xs) side are = (are.0, one_pass xs side are.1)
 
 at_most : (a b c : ℕ) → a ≤ b → b ≤ c → a ≤ c
 at_most a b c x y = omega arith
@@ -89,26 +75,27 @@ module _ (laws : StationLaws) where
       (law s steps kept live first are (subst of_pair.IsEmpty (sym one) none) now (subst (λ (p : Pair). MayRepeat now p.e) (sym one) may_e)
       (subst (λ (p : Pair). MayRepeat now p.r) (sym one) may_r) second are_later (subst of_pair.IsEmpty (sym all) none_later))
 
-  -- ---- drains
+  -- ---- passes and takes of the link
 
-  drain_on_passes : (others : Link → Drain) → PassedBy others → (l : Link) (history : List Occurrence) (p : Pair) (next overfull : Option Side) → Sees l history p
-      → Passed (drain_on others l next overfull).link (history ++ (drain_on others l next overfull).came) p
-  drain_on_passes others each l history p None overfull v = record { steps = []; passes = tt; sees = rw (append-nil history) v }
-  drain_on_passes others each l history p (Some side) (Some full) v = record { steps = []; passes = tt; sees = rw (append-nil history) v }
-  drain_on_passes others each l history p (Some side) None v =
-      let a : Link × List Occurrence = link_step l (Pass side) in
-      let g = pass_goes laws l history p side (waiting_of l side) refl v in
-      let rest = each a.0 (history ++ a.1) (happens (on_pair.Pass side) p) g.sees in
+  pub passes_kept : (p : Pair) → KeptByPasses (Passed p)
+  passes_kept p l history side a =
+      let x : Link × List Occurrence = link_step l (Pass side) in
+      let g = pass_goes laws l history (run p a.steps) side (waiting_of l side) refl a.sees in
       record {
-        steps = on_pair.Pass side ∷ rest.steps;
-        passes = (tt, rest.passes);
-        sees = subst (λ (h : List Occurrence). Sees (others a.0).link h (run p (on_pair.Pass side ∷ rest.steps))) (append_assoc history a.1 (others a.0).came) rest.sees;
+        steps = a.steps ++ on_pair.Pass side ∷ [];
+        passes = one_pass a.steps side a.passes;
+        sees = subst (λ (q : Pair). Sees x.0 (history ++ x.1) q) (sym (run_append laws p a.steps (on_pair.Pass side ∷ []))) g.sees;
       }
 
-  drain_passes : (most : ℕ) → PassedBy (drain most)
-  unfolding drain
-  drain_passes zero l history p v = record { steps = []; passes = tt; sees = rw (append-nil history) v }
-  drain_passes (suc most) l history p v = drain_on_passes (drain most) (drain_passes most) l history p (next_side l) (overfull_side l) v
+  pub takes_kept : (p : Pair) → KeptByTakes (Passed p)
+  takes_kept p l history side a =
+      record { steps = a.steps; passes = a.passes; sees = take_sees laws l history (run p a.steps) side a.sees }
+
+  pub tick_kept : (l : Link) (history : List Occurrence) (p : Pair) (moment : ℕ) → Sees l history p
+      → (let t = link_step l (Tick moment) in Passed (happens (on_pair.Tick (max p.moment moment)) p) t.0 (history ++ t.1))
+  tick_kept l history p moment v = record { steps = []; passes = tt; sees = (tick_goes laws l history p moment v).sees }
+
+  -- ---- drains
 
   -- so many passes leave none waiting, where no more are ever made
   abbrev Bounded : Pair → ℕ → Type 0
@@ -183,25 +170,16 @@ module _ (laws : StationLaws) where
         (subst (λ (n : ℕ). n ≤ most) same enough))
         roomy
 
-    -- drained, ticked and drained
-    pub pair_repairs : Recovery → (first moment second : ℕ)
-        → let d = drain first l in
-        let t = link_step d.link (Tick moment) in
-        let z = drain second t.0 in
-        NoneWaits d.link → MayRepeatAt moment d.link.e → MayRepeatAt moment d.link.r → NoneWaits z.link
-        → HasAllPayloads (((history ++ d.came) ++ t.1) ++ z.came) z.link
-    pair_repairs law first moment second none may_e may_r none_later =
+    -- behind passes, a tick and passes
+    pub pair_repairs : Recovery → (m k : Link) (begun all : List Occurrence) (a : Passed (after s steps) m begun) → NoneWaits m → (moment : ℕ) → GoOn moment m
+        → (let q = run (after s steps) a.steps in Passed (happens (on_pair.Tick (max q.moment moment)) q) k all) → NoneWaits k → HasAllPayloads all k
+    pair_repairs law m k begun all a none moment go_on c none_later =
         let p : Pair = after s steps in
-        let d : Drain = drain first l in
-        let a : Passed d.link (history ++ d.came) p = drain_passes first l history p v in
         let q : Pair = run p a.steps in
         let now : ℕ = max q.moment moment in
-        let t : Link × List Occurrence = link_step d.link (Tick moment) in
-        let before : List Occurrence = (history ++ d.came) ++ t.1 in
-        let b = tick_goes laws d.link (history ++ d.came) q moment a.sees in
-        let z : Drain = drain second t.0 in
-        let c : Passed z.link (before ++ z.came) (happens (on_pair.Tick now) q) = drain_passes second t.0 before (happens (on_pair.Tick now) q) b.sees in
-        recovered z.link (before ++ z.came) (run (happens (on_pair.Tick now) q) c.steps) c.sees
-        (pair_recovers law s steps kept (live_pair l history p v repairable) a.steps a.passes (empty_pair d.link (history ++ d.came) q a.sees none) now
-        (may_later q.e q.moment moment (subst (MayRepeatAt moment) a.sees.e_is may_e)) (may_later q.r q.moment moment (subst (MayRepeatAt moment) a.sees.r_is may_r))
-        c.steps c.passes (empty_pair z.link (before ++ z.came) (run (happens (on_pair.Tick now) q) c.steps) c.sees none_later))
+        let same : max m.moment moment ≡ now = ap (λ (n : ℕ). max n moment) a.sees.moment_is in
+        let may_e : MayRepeat now q.e = subst (λ (n : ℕ). MayRepeat n q.e) same (subst (GoesOnAt (max m.moment moment)) a.sees.e_is go_on.0) in
+        let may_r : MayRepeat now q.r = subst (λ (n : ℕ). MayRepeat n q.r) same (subst (GoesOnAt (max m.moment moment)) a.sees.r_is go_on.1) in
+        recovered k all (run (happens (on_pair.Tick now) q) c.steps) c.sees
+        (pair_recovers law s steps kept (live_pair l history p v repairable) a.steps a.passes (empty_pair m begun q a.sees none) now may_e may_r c.steps c.passes
+        (empty_pair k all (run (happens (on_pair.Tick now) q) c.steps) c.sees none_later))

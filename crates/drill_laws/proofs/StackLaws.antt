@@ -91,7 +91,7 @@ module _ (settings : Settings) (l : Link) (history : List Occurrence) (t : IsSta
   abbrev p : Pair
   p = pair_of settings l history t
 
-  kept : IsOrderKeeping l.opening history → p.order_kept ≡ true
+  pub kept : IsOrderKeeping l.opening history → p.order_kept ≡ true
   kept keeping = not_false p.order_kept (sym t.sees.order ∙ keeping.ordered)
 
   pub stacked_in_order : Prefix → IsOrderKeeping l.opening history → IsInOrder history
@@ -141,10 +141,10 @@ module _ (settings : Settings) (l : Link) (history : List Occurrence) (t : IsSta
   connected_phase (Connected peer session) e = tt
   connected_phase (Released release session) e = absurd (cc)
 
-  connected_end : (end : End) (m : Stack) → end ≡ OfStack m → is_connected m.core.safe.safety.phase ≡ true → IsConnectedEnd end
+  pub connected_end : (end : End) (m : Stack) → end ≡ OfStack m → is_connected m.core.safe.safety.phase ≡ true → IsConnectedEnd end
   connected_end end m is e = subst IsConnectedEnd (sym is) (connected_phase m.core.safe.safety.phase e)
 
-  taken_of : (end : End) (m : Stack) → end ≡ OfStack m → HasTakenAll end → m.core.upper.used ≡ length m.core.upper.accepted
+  pub taken_of : (end : End) (m : Stack) → end ≡ OfStack m → HasTakenAll end → m.core.upper.used ≡ length m.core.upper.accepted
   taken_of end m is taken = subst HasTakenAll is taken
 
   pub stacked_delivers : StackLaws → IsLossFree l.opening history → IsUnforged history → claim.Delivers settings history l

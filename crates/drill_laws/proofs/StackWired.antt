@@ -123,16 +123,28 @@ waits_nothing = says_more NothingWaits [] [] [] [] false false 0 (λ side. refl)
 module _ (only : StepsOnly) (reports : CallsReport) where
   -- ---- the users
 
-  gives_goes : (k : Numbers) (l : Link) (history : List Occurrence) (p : Pair) (side : Side) (given : EndEvent) (s : on_pair.LinkStep) → FitsStep s → Sees k l history p
+  gives_sees : (k : Numbers) (l : Link) (history : List Occurrence) (p : Pair) (side : Side) (given : EndEvent) (s : on_pair.LinkStep) → Sees k l history p
       → on_pair.link_step (finds_of k) s p ≡ give side (as_given only reports (key_of k) given) p → is_late_at only reports p.moment (end_of p side) given ≡ false
-      → GoesAt k history p (drill.give l side given)
-  gives_goes k l history p side given s fit v is never =
+      → SeesAt k history (on_pair.link_step (finds_of k) s p) (drill.give l side given)
+  gives_sees k l history p side given s v is never =
       let x : Link × List Occurrence = drill.give l side given in
       let e : Event = as_given only reports (key_of k) given in
       let free : p.loss_free ≡ (p.loss_free && not (is_late_at only reports p.moment (end_of p side) given)) =
       and_true p.loss_free ∙ ap (λ (b : Bool). p.loss_free && not b) (sym never) in
       let there : SeesAt k history (freed p.loss_free (give side e p)) x = given_sees only reports k l history p side given p.loss_free v free in
-      one_goes k x.0 (history ++ x.1) p s fit (subst (λ (q : Pair). SeesAt k history q x) (freed_same side e p ∙ sym is) there)
+      subst (λ (q : Pair). SeesAt k history q x) (freed_same side e p ∙ sym is) there
+
+  gives_goes : (k : Numbers) (l : Link) (history : List Occurrence) (p : Pair) (side : Side) (given : EndEvent) (s : on_pair.LinkStep) → FitsStep s → Sees k l history p
+      → on_pair.link_step (finds_of k) s p ≡ give side (as_given only reports (key_of k) given) p → is_late_at only reports p.moment (end_of p side) given ≡ false
+      → GoesAt k history p (drill.give l side given)
+  gives_goes k l history p side given s fit v is never =
+      let x : Link × List Occurrence = drill.give l side given in
+      one_goes k x.0 (history ++ x.1) p s fit (gives_sees k l history p side given s v is never)
+
+  -- a take is that take of the pair
+  pub take_sees : (k : Numbers) (l : Link) (history : List Occurrence) (p : Pair) (side : Side) → Sees k l history p
+      → SeesAt k history (on_pair.link_step (finds_of k) (on_pair.Take side) p) (link_step l (Take side))
+  take_sees k l history p side v = gives_sees k l history p side event.Take (on_pair.Take side) v refl refl
 
   release_goes : (k : Numbers) (l : Link) (history : List Occurrence) (p : Pair) (side : Side) (sub : ℕ) → Sees k l history p → GoesAt k history p (link_step l (Release side sub))
   release_goes k l history p side sub v =
@@ -175,11 +187,17 @@ module _ (only : StepsOnly) (reports : CallsReport) where
       subst (λ (t : Pair). Sees k x.0 (history ++ (first ++ x.1)) t) same
       (subst (λ (h : List Occurrence). Sees k x.0 h (freed q.loss_free (give to e q))) (append_assoc history first x.1) there)
 
+  -- a pass is that pass of the pair
+  pub one_pass_sees : (k : Numbers) (l : Link) (history : List Occurrence) (p : Pair) (side : Side) → Sees k l history p
+      → SeesAt k history (on_pair.link_step (finds_of k) (on_pair.Pass side) p) (link_step l (Pass side))
+  one_pass_sees k l history p side v =
+      let x : Link × List Occurrence = link_step l (Pass side) in
+      subst (λ (fs : List (List ℕ)). SeesAt k history (on_pair.pass (finds_of k) side fs p) x) (sym (line_at k l history p side v)) (pass_sees k l history p side (waiting_of l side) v)
+
   pass_goes : (k : Numbers) (l : Link) (history : List Occurrence) (p : Pair) (side : Side) → Sees k l history p → GoesAt k history p (link_step l (Pass side))
   pass_goes k l history p side v =
       let x : Link × List Occurrence = link_step l (Pass side) in
-      one_goes k x.0 (history ++ x.1) p (on_pair.Pass side) tt
-      (subst (λ (fs : List (List ℕ)). SeesAt k history (on_pair.pass (finds_of k) side fs p) x) (sym (line_at k l history p side v)) (pass_sees k l history p side (waiting_of l side) v))
+      one_goes k x.0 (history ++ x.1) p (on_pair.Pass side) tt (one_pass_sees k l history p side v)
 
   -- ---- what the line does
 
@@ -275,8 +293,10 @@ module _ (only : StepsOnly) (reports : CallsReport) where
         releases = v.releases;
       }
 
-  tick_goes : (k : Numbers) (l : Link) (history : List Occurrence) (p : Pair) (moment : ℕ) → Sees k l history p → GoesAt k history p (link_step l (Tick moment))
-  tick_goes k l history p moment v =
+  -- a tick is that tick of the pair
+  pub tick_sees : (k : Numbers) (l : Link) (history : List Occurrence) (p : Pair) (moment : ℕ) → Sees k l history p
+      → SeesAt k history (on_pair.link_step (finds_of k) (on_pair.Tick moment) p) (link_step l (Tick moment))
+  tick_sees k l history p moment v =
       let to : ℕ = max p.moment moment in
       let m : Link = record l { moment = max l.moment moment } in
       let q : Pair = record p { moment = to } in
@@ -292,9 +312,13 @@ module _ (only : StepsOnly) (reports : CallsReport) where
       let second : SeesAt k (history ++ x.1) q3 y = given_sees only reports k x.0 (history ++ x.1) q2 R event.Tick free first refl in
       let is : q3 ≡ on_pair.tick moment p =
       ap (λ (b : Bool). freed b (give R TickEvent (give E TickEvent q))) (not_or p.loss_free late_e late_r) in
-      one_goes k y.0 (history ++ (x.1 ++ y.1)) p (on_pair.Tick moment) tt
-      (subst (λ (t : Pair). Sees k y.0 (history ++ (x.1 ++ y.1)) t) is
-      (subst (λ (h : List Occurrence). Sees k y.0 h q3) (append_assoc history x.1 y.1) second))
+      subst (λ (t : Pair). Sees k y.0 (history ++ (x.1 ++ y.1)) t) is
+      (subst (λ (h : List Occurrence). Sees k y.0 h q3) (append_assoc history x.1 y.1) second)
+
+  tick_goes : (k : Numbers) (l : Link) (history : List Occurrence) (p : Pair) (moment : ℕ) → Sees k l history p → GoesAt k history p (link_step l (Tick moment))
+  tick_goes k l history p moment v =
+      let x : Link × List Occurrence = link_step l (Tick moment) in
+      one_goes k x.0 (history ++ x.1) p (on_pair.Tick moment) tt (tick_sees k l history p moment v)
 
   -- ---- any step
 
@@ -308,7 +332,7 @@ module _ (only : StepsOnly) (reports : CallsReport) where
 
   -- ---- from its opening on
 
-  run_append : (finds : Finds) (p : Pair) (xs ys : List on_pair.LinkStep) → run finds p (xs ++ ys) ≡ run finds (run finds p xs) ys
+  pub run_append : (finds : Finds) (p : Pair) (xs ys : List on_pair.LinkStep) → run finds p (xs ++ ys) ≡ run finds (run finds p xs) ys
   run_append finds p [] ys = refl
   run_append finds p (s ∷ xs) ys = run_append finds (on_pair.link_step finds s p) xs ys
 

@@ -225,12 +225,20 @@ module _ (laws : StationLaws) where
       (sends_went laws q.moment payload s (ready_at l history q side u)) (and_true q.loss_free) (send_like side payload q s.released) in
       one_goes _ _ p (on_pair.Send side payload) _ done.sees (sym done.none)
 
+  take_acts : (l : Link) (history : List Occurrence) (p : Pair) (side : Side) → Sees l history p → Acts history p (give l side event.Take)
+  take_acts l history p side v =
+      let s : Station = station_of p side in
+      acts l history p side event.Take (read_of p side) (s, []) false p.loss_free p v refl (stays s (ready_at l history p side v)) (and_true p.loss_free)
+      (p.came, sym (ap (λ (t : Pair). record t { came = p.came }) (read_stays p side)))
+
+  -- a take leaves the pair as it is
+  pub take_sees : (l : Link) (history : List Occurrence) (p : Pair) (side : Side) → Sees l history p
+      → Sees (link_step l (Take side)).0 (history ++ (link_step l (Take side)).1) p
+  take_sees l history p side v = (take_acts l history p side v).sees
+
   take_goes : (l : Link) (history : List Occurrence) (p : Pair) (side : Side) → Sees l history p → GoesAt history p (give l side event.Take)
   take_goes l history p side v =
-      let s : Station = station_of p side in
-      let done : Acts history p (give l side event.Take) =
-      acts l history p side event.Take (read_of p side) (s, []) false p.loss_free p v refl (stays s (ready_at l history p side v)) (and_true p.loss_free)
-      (p.came, sym (ap (λ (t : Pair). record t { came = p.came }) (read_stays p side))) in
+      let done : Acts history p (give l side event.Take) = take_acts l history p side v in
       record { steps = []; sees = done.sees; count = sym done.none }
 
   quit_like : (side : Side) (p : Pair) (down : Bool) (t : Station)

@@ -170,14 +170,17 @@ pub fn order_is_unforged()
     drill_model::laws::histories();
 }
 
-/// On a link of level link or link-sr that keeps its order and whose stations weren't released: how many passes a drain takes at most; and a
-/// drain, a tick at which each T1 that runs is found expired, and a drain leave nothing lost.
+/// On a link of level link, link-sr or full that keeps its order, whose ends agree and of which none was released: passes and takes until no frame
+/// waits, a tick at which each T1 that runs is found expired, and passes and takes until the link is empty leave nothing lost; and, at levels link
+/// and link-sr, how many passes a drain takes at most.
 pub fn recovery()
     ensures repairs { RepairsAlways }
     ensures drains { DrainsAlways }
 {
     station_pair::laws::recovery();
     station_pair::laws::passes_are_bounded();
+    end_pair::laws::recovery();
+    stack_laws();
     er_settings::laws::allowed_are_bounded();
     station_laws();
     drill_model::laws::histories();

@@ -25,7 +25,7 @@ use Rattle.drill_model.specs.Faults.{fault_behind}
 use Rattle.drill_model.specs.Kinds.{sent_by, accepted_by, taken_by, releases_in, deliveries, IsOrderKeeping, EndsAgree, IsLossFree, bound}
 use Rattle.drill_model.specs.Effects.{Steps}
 use Rattle.drill_model.specs.Hearing.{HeardIsBrought}
-use Rattle.drill_model.specs.Recovery.{MayRepeatAt, NoneWaits, IsRepairable, DrainEmpties}
+use Rattle.drill_model.specs.Recovery.{GoOn, NoneWaits, IsRepairable, ArePassesAndTakes, AreStations, DrainEmpties}
 
 -- ---- authentic messages and peers
 
@@ -216,35 +216,38 @@ DeliversAlways =
 
 -- ---- recovery
 
--- behind these steps link n is drained, a moment comes, and it is drained again; where each drain leaves no frame waiting, each end accepted all
--- that the other sent: the calling one where it sent any itself
-abbrev pub Repairs : Plan → (before : List Step) → (n first moment second : ℕ) → Type 0
+-- behind these steps frames of link n are passed and its messages taken until no frame waits, a tick comes that finds each T1 that runs expired, and
+-- frames are passed and messages taken again until the link is empty: each end accepted all that the other sent, of two stations the calling one
+-- where it sent any itself
+abbrev pub Repairs : Plan → (before : List Step) (n : ℕ) (first : List Step) (moment : ℕ) (second : List Step) → Type 0
 Repairs plan before n first moment second =
-    let drained = world_run plan (before ++ does.Drain n first ∷ []) in
-    let all = world_run plan (before ++ does.Drain n first ∷ does.Tick moment ∷ does.Drain n second ∷ []) in
+    let given = world_run plan (before ++ first) in
+    let all = world_run plan (before ++ first ++ does.Tick moment ∷ second) in
     (l m k : Link) → link_at (world_run plan before).0 n ≡ Some l → IsRepairable (history_on n (world_run plan before).1) l
-    → link_at drained.0 n ≡ Some m → NoneWaits m → drained.0.moment ≤ moment → MayRepeatAt moment m.e → MayRepeatAt moment m.r
-    → link_at all.0 n ≡ Some k → NoneWaits k
-    → HasAllPayloads (history_on n all.1) k
+    → ArePassesAndTakes n first → link_at given.0 n ≡ Some m → NoneWaits m
+    → given.0.moment ≤ moment → GoOn moment m
+    → ArePassesAndTakes n second → link_at all.0 n ≡ Some k → IsEmpty k.opening k
+    → IsDelivered k.opening (history_on n all.1) k
 
 -- for every list of steps
 abbrev pub RepairsAlways : Type 0
 RepairsAlways =
-    (plan : Plan) (before : List Step) (n first moment second : ℕ)
-    → ((l : Link) → link_at (world_run plan before).0 n ≡ Some l → FitsSettings plan.settings l.opening)
+    (plan : Plan) (before : List Step) (n : ℕ) (first : List Step) (moment : ℕ) (second : List Step)
+    → ((l : Link) → link_at (world_run plan before).0 n ≡ Some l → FitsSettings plan.settings l.opening × FitsSteps before l.opening)
     → Repairs plan before n first moment second
 
+-- of a link of two stations
 abbrev pub DrainsAlways : Type 0
 DrainsAlways =
     (plan : Plan) (steps : List Step) (n : ℕ) (l : Link) → link_at (world_run plan steps).0 n ≡ Some l → FitsSettings plan.settings l.opening
-    → IsRepairable (history_on n (world_run plan steps).1) l → DrainEmpties plan (history_on n (world_run plan steps).1) l
+    → AreStations l.opening → IsRepairable (history_on n (world_run plan steps).1) l → DrainEmpties plan (history_on n (world_run plan steps).1) l
 
--- what is claimed of the world that a list of steps leads to: a drain of each link that is repairable, of as many passes as its bound, leaves no
--- frame waiting; and where the steps end with a drain of a link, a tick and a drain of that link, they repair it
+-- what is claimed of the world that a list of steps leads to: a drain of each link of two stations that is repairable, of as many passes as its
+-- bound, leaves no frame waiting; and where the steps end with passes and takes of a link, a tick, and passes and takes of that link, they repair it
 pub record Recovers (plan : Plan) (all : List Step) : Type 0 where
-  pub drains : (n : ℕ) (l : Link) → link_at (world_run plan all).0 n ≡ Some l
+  pub drains : (n : ℕ) (l : Link) → link_at (world_run plan all).0 n ≡ Some l → AreStations l.opening
       → IsRepairable (history_on n (world_run plan all).1) l → DrainEmpties plan (history_on n (world_run plan all).1) l
-  pub repairs : (before : List Step) (n first moment second : ℕ) → all ≡ before ++ does.Drain n first ∷ does.Tick moment ∷ does.Drain n second ∷ []
+  pub repairs : (before : List Step) (n : ℕ) (first : List Step) (moment : ℕ) (second : List Step) → all ≡ before ++ first ++ does.Tick moment ∷ second
       → Repairs plan before n first moment second
 
 -- ---- the claim
@@ -254,7 +257,7 @@ pub record Recovers (plan : Plan) (all : List Step) : Type 0 where
 -- are authentic, and what was heard is what the line brought; what a user took is a prefix of what its end accepted; where the link keeps its
 -- order, what an end accepted is a prefix of what the other sent, each release has one of the reasons of a line that only loses and repeats, and
 -- where the ends agree nothing is forged; where it is loss-free, all is delivered within its bound; at most 4,096 frames wait in one direction; and
--- a link of two stations recovers, whose line only lost and repeated and of which none was released
+-- a link of two stations or two stacks recovers, whose line only lost and repeated and of which none was released
 pub record Holds (plan : Plan) (all : List Step) : Type 0 where
   pub opens : (n : ℕ) → option_map (λ l. l.opening) (link_at (world_run plan all).0 n) ≡ opening_of plan n all
   pub steps : Steps plan all

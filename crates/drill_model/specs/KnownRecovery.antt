@@ -17,7 +17,7 @@ use Rattle.drill_model.specs.Outcomes.{Occurrence}
 use Rattle.drill_model.specs.Links.{Link}
 use Rattle.drill_model.specs.Worlds.{Plan, link_at, history_on, drain, ticks, world_run}
 use Rattle.drill_model.specs.Kinds.{accepted_by}
-use Rattle.drill_model.specs.Recovery.{MayRepeatAt, NoneWaits, IsRepairable, drain_bound}
+use Rattle.drill_model.specs.Recovery.{GoOn, NoneWaits, IsRepairable, drain_bound}
 
 -- a window of 4 and a T1 of 1,000
 abbrev plan_at : Level → Plan
@@ -43,8 +43,8 @@ losing = does.Wire 1 ∷ does.Drain 1 5 ∷ does.Send 1 E (0x41 ∷ []) ∷ does
 pub known_repairable : OfBoth (λ level l. IsRepairable (history level losing) l) losing
 unfolding drain ticks frames_of between_flags all_but_last cut verdict_on verdict_on_content checked_part check_number unescaped ends_in_escape spelling escaped escaped_octet content_of control_of fcs_of fcs_bits dividend remainder divided_once add_front sent_bits low_bits low_number
 known_repairable = (
-  record { ordered = record { numbered = tt; ordered = refl }; e_live = refl; r_live = refl },
-  record { ordered = record { numbered = tt; ordered = refl }; e_live = refl; r_live = refl },
+  record { ordered = record { numbered = tt; ordered = refl }; agree = tt; e_live = refl; r_live = refl },
+  record { ordered = record { numbered = tt; ordered = refl }; agree = tt; e_live = refl; r_live = refl },
 )
 
 -- no frame waits, and one payload was sent: at most (1 + 2 * 4) * (1 + 2) + 2 passes
@@ -61,7 +61,7 @@ unfolding drain ticks frames_of between_flags all_but_last cut verdict_on verdic
 known_missing = (((refl, refl), refl), ((refl, refl), refl))
 
 -- at 1,000 the calling station's T1 is found expired, and the called one's doesn't run; not yet at 999
-pub known_expired : OfBoth (λ level m. MayRepeatAt 1000 m.e × MayRepeatAt 1000 m.r) drained
+pub known_expired : OfBoth (λ level m. GoOn 1000 m) drained
 unfolding drain ticks frames_of between_flags all_but_last cut verdict_on verdict_on_content checked_part check_number unescaped ends_in_escape spelling escaped escaped_octet content_of control_of fcs_of fcs_bits dividend remainder divided_once add_front sent_bits low_bits low_number
 known_expired = ((inr (refl, omega arith), inl refl), (inr (refl, omega arith), inl refl))
 

@@ -17,24 +17,24 @@ use Rattle.end_model.specs.Steps.{offers}
 use Rattle.drill_model.specs.Outcomes.{RefusedNotConnected, RefusedReleased, NothingToTake, Refused, Released, Frame, Expired, UserReleased, Passed, at_end}
 use Rattle.drill_model.specs.Worlds.{Plan, On, drain, ticks, world_run}
 
-abbrev plan : Plan
+abbrev pub plan : Plan
 plan = record { level = Full; settings = usual_settings; show = false }
 
 abbrev key : TripleKey
 key = record { first = 1; second = 2; third = 3 }
 
 -- engine 5 calls the radio block centre 9
-abbrev called : Step
+abbrev pub called : Step
 called = does.Link 1 5 9 key (Some key) 0x1122334455667788 0x0102030405060708
 
 -- SABM, UA, and the CR with AU1
-abbrev set_up : List ℕ
+abbrev pub set_up : List ℕ
 set_up = (0x7e ∷ 0x01 ∷ 0x3f ∷ 0xeb ∷ 0xdf ∷ 0x7e ∷ [])
 
-abbrev answer : List ℕ
+abbrev pub answer : List ℕ
 answer = (0x7e ∷ 0x01 ∷ 0x73 ∷ 0x83 ∷ 0x57 ∷ 0x7e ∷ [])
 
-abbrev call : List ℕ
+abbrev pub call : List ℕ
 call = (
     0x7e ∷ 0x01 ∷ 0x00 ∷ 0x01 ∷ 0x00 ∷ 0x09 ∷ 0xef ∷ 0x00 ∷ 0x00 ∷ 0x00 ∷ 0x01 ∷ 0x20 ∷ 0xc0 ∷ 0x01 ∷ 0x07 ∷ 0x42 ∷ 0x00 ∷ 0x00 ∷ 0x05 ∷ 0x01
     ∷ 0x01 ∷ 0x02 ∷ 0x03 ∷ 0x04 ∷ 0x05 ∷ 0x06 ∷ 0x07 ∷ 0x08 ∷ 0xf7 ∷ 0x00 ∷ 0x7e ∷ []

@@ -23,4 +23,5 @@ pub mod KnownStacks
 pub mod KnownEffects
 pub mod KnownMessages
 pub mod KnownRecovery
+pub mod KnownStackRecovery
 pub mod Growth

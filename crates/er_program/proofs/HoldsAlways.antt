@@ -84,6 +84,11 @@ steps_fit steps (OfPair opening) all = tt
 steps_fit steps (OfStations selective) all = tt
 steps_fit steps (OfStacks engine rbc ke kr ra rb) all = all
 
+-- so are those that come first
+fit_before : (xs ys : List Step) → AllFit (xs ++ ys) → AllFit xs
+fit_before [] ys all = tt
+fit_before (x ∷ xs) ys all = (all.0, fit_before xs ys all.1)
+
 abbrev StepsAlways : Type 0
 StepsAlways = (plan : Plan) (steps : List Step) → Steps plan steps
 
@@ -144,7 +149,9 @@ holds_behind laws plan steps allowed narrow all room = record {
   room = room;
   recovers = record {
     drains = λ n l at. laws.drains plan steps n l at (settings_fit laws.opens plan steps allowed narrow n l at);
-    repairs = λ before n first moment second split. laws.repairs plan before n first moment second (settings_fit laws.opens plan before allowed narrow n);
+    repairs = λ before n first moment second split.
+        let fit : AllFit before = fit_before before first (fit_before (before ++ first) (does.Tick moment ∷ second) (subst AllFit split all)) in
+        laws.repairs plan before n first moment second (λ l at. (settings_fit laws.opens plan before allowed narrow n l at, steps_fit before l.opening fit));
   };
 }
 
