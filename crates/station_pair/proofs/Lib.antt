@@ -39,3 +39,5 @@ pub mod Recovers
 pub mod Ticks
 pub mod Recovered
 pub mod MendCalls
+pub mod Starting
+pub mod StartingCalls

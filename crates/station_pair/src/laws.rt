@@ -4,7 +4,7 @@ ghost use Rattle.station_pair.specs.Keeping.{CallsKeep, FramesGive, PhasesStay, 
 ghost use Rattle.station_pair.specs.LossFree.{FlowBounds, FlowKeeps};
 ghost use Rattle.station_pair.specs.Recovery.{DrainEmptiesLive, PassesBound, PassesRelease, Recovery};
 ghost use Rattle.station_pair.specs.Repairs.{MendEnds, MendKeeps};
-ghost use Rattle.station_pair.specs.Timers.{Renewal, TimersRun};
+ghost use Rattle.station_pair.specs.Timers.{Renewal, TimersRun, TimersStart};
 ghost use Rattle.station_pair.specs.Laws.{Prefix, LosingLineReasons, Delivery, DeliveryBound, DrainEmpties, DeliveriesBound, FewWait};
 
 use hdlc_frames::laws::{control_reads_back, flag_parts, frame_alone};
@@ -111,6 +111,13 @@ pub fn timers_run()
     flag_parts();
     frame_alone();
 }
+
+/// When T1 of a station of either kind expires, by what each call says: it starts anew with the set-up frame, with an I frame that is sent again,
+/// and at progress while one is unacknowledged; with an I frame that is sent for the first time it starts where it didn't run, and else runs on;
+/// it stops where none is unacknowledged, at the answer to the set-up and at a release.
+pub fn timers_start()
+    ensures { TimersStart }
+{}
 
 /// How many passes that takes at most, from any moment on.
 pub fn passes_are_bounded()
