@@ -23,7 +23,7 @@ TOP = os.path.dirname(os.path.dirname(os.path.abspath(__file__)))
 # Words that the tree needn't have, by the reason.
 ELSEWHERE = {
     "the toolchain's identity": "logic dac8208d650f15bf",
-    "words, flags and messages of the toolchain": "doc holes fix RT_JOBS Processes hides statements variables",
+    "words, flags and messages of the toolchain": "holes fix RT_JOBS Processes hides statements variables",
     "commands and flags of the system": "nice gc sections v2",
     "what isn't used, and why": "sigaction signalfd sigprocmask ppoll z_stream",
     "stands for any such name": "TOrd lemma my_lemma f_n New::make Tests",
