@@ -1,13 +1,14 @@
 #!/bin/sh
-# Two stations of the library wired to each other in one process: payloads and MiB a second of processor time, of 1,024 octets and
-# of 20, with windows of 7 (modulo 8) and 31 (modulo 128), with no loss and with one frame in a hundred lost, and the most memory
-# that the program took. Beside it the bare speed of a plain C deframer on octets that two such stations send, and the memory of an idle
-# end of a drill, station, deframer and room. Nothing is asserted. Needs `rt` and python3, for the last parts the built program and a C
-# compiler; writes nothing outside the crates' out/.
+# Two stations of the library wired to each other in one process, those of balanced mode and those with selective reject side by side on the same
+# line: payloads of 1,024 octets and of 20, windows of 4 and 7 (modulo 8; selective reject takes half at the most) and 31 (modulo 128), and of the
+# frames of both directions none, 1, 5 or 10 of 100 lost, drawn by one generator. Told are the payloads taken a second of processor time, the frames
+# that the sender sent for each payload taken, and the most memory that the program took; of three runs the quickest. Beside it the bare speed of a
+# plain C deframer on octets that two such stations send, and the memory of an idle end of a drill, station, deframer and room. Nothing is asserted.
+# Needs `rt` and python3, for the last parts the built program, or the one that PROGRAM names, and a C compiler; writes nothing outside the crates' out/.
 set -eu
 cd "$(dirname "$0")/.."
 program=$PWD/crates/station_bench/out/station_bench
-[ -x "$program" ] || (cd crates/station_bench && rt run -- 20 8 7 0 1 >/dev/null 2>&1)
+[ -x "$program" ] || (cd crates/station_bench && rt run -- 20 8 7 0 1 balanced >/dev/null 2>&1)
 [ -x "$program" ] || { echo "the program was not built"; exit 1; }
 command -v python3 >/dev/null || { echo "python3 is wanted, to measure; nothing is measured"; exit 0; }
 python3 - "$program" << 'PY'
@@ -17,16 +18,19 @@ def run(words):
     text = subprocess.run([sys.argv[1]] + [str(w) for w in words], stdout=subprocess.PIPE).stdout.decode().split()
     after = resource.getrusage(resource.RUSAGE_CHILDREN)
     seconds = (after.ru_utime + after.ru_stime) - (before.ru_utime + before.ru_stime)
-    return int(text[1]), int(text[5]), max(seconds, 0.001), after.ru_maxrss / 1024
+    return int(text[1]), int(text[3]), max(seconds, 0.001), after.ru_maxrss / 1024
 for length, rounds in ((1024, 200000), (20, 2000000)):
-    for modulo, window in ((8, 7), (128, 31)):
-        for every in (0, 100):
-            taken, lost, seconds, memory = run((length, modulo, window, every, rounds))
-            print(f"{length:5} octets, window {window:2}, {lost:6} frames lost: {taken / seconds:10.0f} payloads/s "
-                  f"{taken * length / seconds / 1048576:7.1f} MiB/s, {memory:4.0f} MiB")
+    for modulo, window in ((8, 4), (8, 7), (128, 31)):
+        for lost in (0, 1, 5, 10):
+            for kind in ("balanced", "selective"):
+                if kind == "selective" and window > modulo // 2:
+                    continue
+                taken, sent, seconds, memory = min((run((length, modulo, window, lost, rounds, kind)) for _ in range(3)), key=lambda it: it[2])
+                print(f"{length:5} octets, window {window:2}, {lost:2} of 100 frames lost, {kind:9}: {taken / seconds:10.0f} payloads/s, "
+                      f"{sent / max(taken, 1):5.2f} frames sent a payload, {taken * length / seconds / 1048576:7.1f} MiB/s, {memory:4.0f} MiB")
 PY
 
-drill=$PWD/crates/euroradio/out/euroradio
+drill=${PROGRAM:-$PWD/crates/euroradio/out/euroradio}
 [ -x "$drill" ] || (cd crates/euroradio && rt run >/dev/null 2>&1 || true)
 [ -x "$drill" ] || { echo "euroradio was not built; the deframer and the memory aren't measured"; exit 0; }
 work=$(mktemp -d)

@@ -1,20 +1,20 @@
 //! Which frames are lost.
 
-/// Loses one frame in so many.
+/// Loses so many frames of a hundred, drawn by a linear congruential generator, so that each run loses the same.
 #[derive(Drop)]
 pub struct Loss {
-    every: u64,
-    left: u64,
+    of_hundred: u64,
+    state: u64,
     seen: u64,
     lost: u64,
 }
 
 impl Loss {
-    /// One frame in `every` is lost, none where it is 0.
-    pub fn new(every: u64) -> Loss {
+    /// So many frames of a hundred are lost.
+    pub fn new(of_hundred: u64) -> Loss {
         Loss {
-            every,
-            left: every,
+            of_hundred,
+            state: 1,
             seen: 0,
             lost: 0,
         }
@@ -23,14 +23,13 @@ impl Loss {
     /// Whether the next frame is lost.
     pub fn loses(&mut self) -> bool {
         self.seen = self.seen.saturating_add(1);
-        if self.left > 1 {
-            self.left -= 1;
+        self.state = self
+            .state
+            .wrapping_mul(6364136223846793005)
+            .wrapping_add(1442695040888963407);
+        if (self.state >> 33) % 100 >= self.of_hundred {
             return false;
         }
-        if self.left == 0 {
-            return false;
-        }
-        self.left = self.every;
         self.lost = self.lost.saturating_add(1);
         true
     }

@@ -1,45 +1,42 @@
 //! Two ends and the octets on the way between them.
 
-ghost use Rattle.er_settings.specs.Ranges.{AllAllowed};
-
-use crate::end::{End, ROOM};
+use crate::end::End;
+use crate::kind::{Kind, ROOM};
 use crate::loss::Loss;
 use er_base::{NoMemory, Room};
-use er_settings::Settings;
 use std::alloc::Global;
 
 /// Two ends wired to each other.
 #[derive(Drop)]
-pub struct Wire {
-    calling: End,
-    called: End,
+pub struct Wire<K: Kind + Drop> {
+    calling: End<K>,
+    called: End<K>,
     forth: Room,
     back: Room,
 }
 
-impl Wire {
-    /// Both ends, of which the calling one has begun the set-up.
-    pub fn new(alloc: Global, settings: &Settings) -> Result<Wire, NoMemory>
-        requires { AllAllowed settings.now }
-    {
-        let mut calling = End::new(alloc, true, settings)?;
-        let called = End::new(alloc, false, settings)?;
+impl<K: Kind + Drop> Wire<K> {
+    /// Ends with these stations, of which the calling one has begun the set-up.
+    pub fn new(alloc: Global, calling: K, called: K) -> Result<Wire<K>, NoMemory> {
         let mut forth = Room::with_capacity(alloc, 64 * ROOM)?;
         let back = Room::with_capacity(alloc, 64 * ROOM)?;
-        calling.start(&mut forth);
+        let mut calling = End::new(calling);
+        calling.station.start(&mut forth);
         Ok(Wire {
             calling,
-            called,
+            called: End::new(called),
             forth,
             back,
         })
     }
 
-    /// A payload is handed down, and what is on the way is read, as long as the window is full.
-    pub fn round(&mut self, round: u64, payload: &[u8], loss: &mut Loss) {
-        self.calling.hand(round, payload, &mut self.forth);
-        if round % 16 == 15 {
-            self.pass(round, loss);
+    /// Rounds of one payload each: it is handed down, and each sixteenth time what is on the way is read.
+    pub fn rounds(&mut self, rounds: u64, payload: &[u8], loss: &mut Loss) {
+        for round in 0..rounds {
+            self.calling.station.hand(round, payload, &mut self.forth);
+            if round % 16 == 15 {
+                self.pass(round, loss);
+            }
         }
     }
 
@@ -51,8 +48,13 @@ impl Wire {
         self.calling
             .read(now, self.back.held(), loss, &mut self.forth);
         self.back.clear();
-        self.calling.tick(now, &mut self.forth);
-        self.called.tick(now, &mut self.back);
+        self.calling.station.tick(now, &mut self.forth);
+        self.called.station.tick(now, &mut self.back);
+    }
+
+    /// The frames that the calling end sent.
+    pub fn sent(&self) -> u64 {
+        self.called.came()
     }
 
     /// The payloads that the called end took.
