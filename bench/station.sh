@@ -1,10 +1,10 @@
 #!/bin/sh
 # Two stations of the library wired to each other in one process, those of balanced mode and those with selective reject side by side on the same
 # line: payloads of 1,024 octets and of 20, windows of 4 and 7 (modulo 8; selective reject takes half at the most) and 31 (modulo 128), and of the
-# frames of both directions none, 1, 5 or 10 of 100 lost, drawn by one generator. Told are the payloads taken a second of processor time, the frames
-# that the sender sent for each payload taken, and the most memory that the program took; of three runs the quickest. Beside it the bare speed of a
-# plain C deframer on octets that two such stations send, and the memory of an idle end of a drill, station, deframer and room. Nothing is asserted.
-# Needs `rt` and python3, for the last parts the built program, or the one that PROGRAM names, and a C compiler; writes nothing outside the crates' out/.
+# frames of both directions none, 1, 5 or 10 of 100 lost, drawn by one generator. Told are the payloads taken a second of processor time, and the
+# frames that the sender sent for each payload taken; of three runs the quickest. Beside it the bare speed of a plain C deframer on octets that two
+# such stations send, and the memory of an idle end of a drill, station, deframer and room. Nothing is asserted. Needs `rt` and python3, for the
+# last parts the built program, or the one that PROGRAM names, and a C compiler; writes nothing outside the crates' out/.
 set -eu
 cd "$(dirname "$0")/.."
 program=$PWD/crates/station_bench/out/station_bench
@@ -18,16 +18,16 @@ def run(words):
     text = subprocess.run([sys.argv[1]] + [str(w) for w in words], stdout=subprocess.PIPE).stdout.decode().split()
     after = resource.getrusage(resource.RUSAGE_CHILDREN)
     seconds = (after.ru_utime + after.ru_stime) - (before.ru_utime + before.ru_stime)
-    return int(text[1]), int(text[3]), max(seconds, 0.001), after.ru_maxrss / 1024
+    return int(text[1]), int(text[3]), max(seconds, 0.001)
 for length, rounds in ((1024, 200000), (20, 2000000)):
     for modulo, window in ((8, 4), (8, 7), (128, 31)):
         for lost in (0, 1, 5, 10):
             for kind in ("balanced", "selective"):
                 if kind == "selective" and window > modulo // 2:
                     continue
-                taken, sent, seconds, memory = min((run((length, modulo, window, lost, rounds, kind)) for _ in range(3)), key=lambda it: it[2])
+                taken, sent, seconds = min((run((length, modulo, window, lost, rounds, kind)) for _ in range(3)), key=lambda it: it[2])
                 print(f"{length:5} octets, window {window:2}, {lost:2} of 100 frames lost, {kind:9}: {taken / seconds:10.0f} payloads/s, "
-                      f"{sent / max(taken, 1):5.2f} frames sent a payload, {taken * length / seconds / 1048576:7.1f} MiB/s, {memory:4.0f} MiB")
+                      f"{sent / max(taken, 1):5.2f} frames sent a payload, {taken * length / seconds / 1048576:7.1f} MiB/s")
 PY
 
 drill=${PROGRAM:-$PWD/crates/euroradio/out/euroradio}
