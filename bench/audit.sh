@@ -58,7 +58,7 @@ def measured(name):
         told = subprocess.run([sys.executable, "bench/measure.py", program, "audit", work + "/keys", f"{work}/{name}"], stdout=subprocess.PIPE, check=True)
         seconds, memory, status = told.stdout.decode().split()
         assert status == "0", status
-        runs.append((float(seconds), int(memory)))
+        runs.append((float(seconds), round(float(memory))))
     run = subprocess.run([program, "audit", work + "/keys", f"{work}/{name}"], stdout=subprocess.PIPE, check=True)
     return min(runs)[0], max(memory for _, memory in runs), run.stdout.count(b" dt good ")
 

@@ -1,5 +1,6 @@
-"""Measures for loop.sh beside it: loop.py LOOP_BENCH EURORADIO FLOOR FOLDER, where FLOOR may be `none`."""
+"""Measures for loop.sh beside it: loop.py LOOP_BENCH EURORADIO FLOOR FOLDER ROUNDS, where LOOP_BENCH and FLOOR may be `none`."""
 
+import atexit
 import os
 import signal
 import socket
@@ -8,12 +9,15 @@ import subprocess
 import sys
 import time
 
-bench, program, floor, work = sys.argv[1:]
+bench, program, floor, work = sys.argv[1:5]
+socket_rounds = int(sys.argv[5])
 REPORTS = 1000
 CALLS = 256
 ROUNDS = 15
 # How often `serve` writes to the line of one call (counted by strace), and how many octets, about; as much comes.
 EXCHANGES, PIECE = 5, 64
+# Over sockets the servers have the first of these for themselves, as far as the machine leaves it to them, and their clients the others.
+PROCESSORS = sorted(os.sched_getaffinity(0))
 KEYS = """version = 1
 
 [[key]]
@@ -23,11 +27,10 @@ kmac = "0123456789abcdef23456789abcdef01456789abcdef0123"
 """
 
 
-def ended(child):
-    """Seconds of processor time of a child that ends."""
-    _, status, used = os.wait4(child.pid, 0)
-    child.returncode = os.waitstatus_to_exitcode(status)
-    return used.ru_utime + used.ru_stime
+def used_by(child):
+    """Nanoseconds of processor time of a child so far, which has one thread."""
+    with open(f"/proc/{child.pid}/schedstat") as text:
+        return int(text.read().split()[0])
 
 
 class Rounds:
@@ -47,8 +50,7 @@ class Rounds:
         words = self.child.stdout.readline().split()
         self.child.send_signal(signal.SIGSTOP)
         os.waitpid(self.child.pid, os.WUNTRACED)
-        with open(f"/proc/{self.child.pid}/schedstat") as text:
-            used = int(text.read().split()[0])
+        used = used_by(self.child)
         self.seconds.append((used - self.used) / 1e9)
         self.used = used
         self.count += 1
@@ -122,7 +124,8 @@ def free_port():
 def begun(words, recording):
     """A server that listens: it has written its first line."""
     with open(recording, "wb") as out:
-        server = subprocess.Popen(words, stdout=out)
+        server = subprocess.Popen(words, stdout=out, stderr=subprocess.DEVNULL)
+    atexit.register(server.kill)
     while os.path.getsize(recording) == 0:
         if server.poll() is not None:
             sys.exit(f"{words[0]} ended with {server.returncode}")
@@ -130,40 +133,32 @@ def begun(words, recording):
     return server
 
 
-def stopped(server):
-    server.send_signal(signal.SIGTERM)
-    return ended(server)
+class Called:
+    """A server that lives, and is called by processes, so many at once: what it costs a call in each round."""
 
+    def __init__(self, serving, calling, recording):
+        self.server, self.calling, self.costs = begun(serving, recording), calling, {}
+        if len(PROCESSORS) > 1:
+            os.sched_setaffinity(self.server.pid, PROCESSORS[:1])
 
-def called(address, keys, at_once):
-    for _ in range(CALLS // at_once):
-        words = [program, "call", keys, address, "5", "9", "100000"]
-        calls = [subprocess.Popen(words, stdout=subprocess.DEVNULL) for _ in range(at_once)]
-        if any(call.wait() != 0 for call in calls):
-            sys.exit("a call failed")
+    def round(self, at_once):
+        before = used_by(self.server)
+        for _ in range(CALLS // at_once):
+            calls = [subprocess.Popen(self.calling, stdout=subprocess.DEVNULL, stderr=subprocess.DEVNULL) for _ in range(at_once)]
+            if any(call.wait() != 0 for call in calls):
+                sys.exit("a call failed")
+        # Until it has seen the last connection end: it uses no more.
+        used = used_by(self.server)
+        while True:
+            time.sleep(0.05)
+            last, used = used, used_by(self.server)
+            if used == last:
+                break
+        self.costs.setdefault(at_once, []).append((used - before) / 1e3 / CALLS)
 
-
-def served(at_once, keys, recording):
-    """Seconds of `serve` for all calls, so many at once; with none, of its start."""
-    address = f"127.0.0.1:{free_port()}"
-    server = begun([program, "serve", keys, address, "9", "1000000000"], recording)
-    if at_once:
-        called(address, keys, at_once)
-        time.sleep(0.2)
-    seconds = stopped(server)
-    with open(recording, "rb") as text:
-        echoes = sum(b" send " in line for line in text)
-    if at_once and echoes != 3 * CALLS:
-        sys.exit(f"{echoes} messages were said back")
-    return seconds
-
-
-def floor_served(at_once, recording):
-    port = str(free_port())
-    server = begun([floor, "serve", port], recording)
-    if at_once:
-        subprocess.run([floor, "call", port, str(CALLS), str(at_once), str(EXCHANGES), str(PIECE)], check=True)
-    return stopped(server)
+    def end(self):
+        self.server.send_signal(signal.SIGTERM)
+        self.server.wait()
 
 
 def memory_of_accepted(keys, recording):
@@ -173,29 +168,51 @@ def memory_of_accepted(keys, recording):
     peers = [socket.create_connection(("127.0.0.1", port)) for _ in range(CALLS)]
     time.sleep(0.5)
     behind = memory(server)
-    stopped(server)
+    server.send_signal(signal.SIGTERM)
+    server.wait()
     for peer in peers:
         peer.close()
     return [(behind[word] - before[word]) / CALLS for word in ("VmRSS", "VmData")]
-
-
-def best_of(rounds, measure, *words):
-    return min(measure(*words) for _ in range(rounds))
 
 
 def over_sockets():
     keys, recording = os.path.join(work, "keys"), os.path.join(work, "recording")
     with open(keys, "w") as text:
         text.write(KEYS)
-    start = best_of(5, served, 0, keys, recording)
-    floor_start = best_of(5, floor_served, 0, recording) if floor != "none" else 0
+    address, port = f"127.0.0.1:{free_port()}", str(free_port())
+    serve = Called([program, "serve", keys, address, "9", "1000000000"], [program, "call", keys, address, "5", "9", "100000"], recording)
+    servers = [serve]
+    if len(PROCESSORS) > 1:
+        os.sched_setaffinity(0, PROCESSORS[1:])
+    if floor != "none":
+        echo = Called([floor, "serve", port], [floor, "call", port, "1", "1", str(EXCHANGES), str(PIECE)], os.path.join(work, "echoed"))
+        servers.append(echo)
+    # The first round of each isn't told: it pages in what the later ones find.
+    for round in range(socket_rounds + 1):
+        for at_once in (1, 16, 256):
+            for server in servers:
+                server.round(at_once)
+    for server in servers:
+        server.end()
+    os.sched_setaffinity(0, PROCESSORS)
+    with open(recording, "rb") as text:
+        echoes = sum(b" send " in line for line in text)
+    if echoes != 3 * CALLS * 3 * (socket_rounds + 1):
+        sys.exit(f"{echoes} messages were said back")
     for at_once in (1, 16, 256):
-        cost = (best_of(5, served, at_once, keys, recording) - start) / CALLS
+        costs = serve.costs[at_once][1:]
         beside = ""
         if floor != "none":
-            least = max(best_of(5, floor_served, at_once, recording) - floor_start, 1e-6) / CALLS
-            beside = f"; the floor {least * 1e6:6.1f} us: {cost / least:.1f} times as much"
-        print(f"over sockets, {at_once:3} of {CALLS} calls at once: {cost * 1e6:7.1f} us a call, {3 / cost:6.0f} messages/s{beside}")
+            floors = echo.costs[at_once][1:]
+            in_turn = statistics.median(cost / least for cost, least in zip(costs, floors))
+            beside = (
+                f"; the floor {min(floors):5.1f} us (median {statistics.median(floors):5.1f}): "
+                f"{min(costs) / min(floors):.2f} times as much by the least of {socket_rounds} rounds, {in_turn:.2f} at the median of the rounds"
+            )
+        print(
+            f"over sockets, {at_once:3} of {CALLS} calls at once: {min(costs):6.1f} us a call (median {statistics.median(costs):6.1f}), "
+            f"{3e6 / min(costs):6.0f} messages/s{beside}"
+        )
     if floor == "none":
         print("no C compiler: the floor was not measured")
     taken, reserved = memory_of_accepted(keys, recording)
@@ -203,5 +220,6 @@ def over_sockets():
 
 
 print(f"load of the machine: {os.getloadavg()[0]:.1f} on {os.cpu_count()} processors")
-in_memory()
+if bench != "none":
+    in_memory()
 over_sockets()

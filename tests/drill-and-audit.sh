@@ -1,6 +1,6 @@
 #!/usr/bin/env bash
 # Audits what drills passed: on a line that keeps order every SaPDU is good; on hostile lines none that was altered or is foreign is. Takes the built
-# program as it is. Closes with 'N passed, M failed'.
+# program as it is; PROGRAM names another. Closes with 'N passed, M failed'.
 set -u
 cd "$(dirname "$0")/.." || exit 1
 program=${PROGRAM:-$PWD/crates/euroradio/out/euroradio}

@@ -1,9 +1,9 @@
 #!/usr/bin/env bash
 # Records the ends of each drill of level full in examples/ and tests/rows/ as traces, and holds `replay` of each trace against what the drill
-# told. Takes the built program as it is. Closes with 'N drills, M traces, K failed'.
+# told. Takes the built program as it is; PROGRAM names another. Closes with 'N drills, M traces, K failed'.
 set -u
 cd "$(dirname "$0")/.." || exit 1
-program=$PWD/crates/euroradio/out/euroradio
+program=${PROGRAM:-$PWD/crates/euroradio/out/euroradio}
 [ -x "$program" ] || { echo "the program was not built"; exit 1; }
 command -v python3 > /dev/null || { echo "python3 is wanted, to record"; exit 0; }
 

@@ -1,10 +1,10 @@
 #!/usr/bin/env bash
 # Refuses growths of memory to the built program one at a time, while it serves a train over a loopback socket. What it printed must be a
 # beginning of a recording, told by a replay of it, and its answer want of memory. `little-memory.sh` tries a sample, `little-memory.sh all` each
-# growth until none is left to refuse, but for most of the users' boxes, which are alike (some minutes). Takes the built program as it is. Closes with 'N growths refused, M failed'.
+# growth until none is left to refuse, but for most of the users' boxes, which are alike (some minutes). Takes the built program as it is; PROGRAM names another. Closes with 'N growths refused, M failed'.
 set -u
 cd "$(dirname "$0")/.." || exit 1
-program=$PWD/crates/euroradio/out/euroradio
+program=${PROGRAM:-$PWD/crates/euroradio/out/euroradio}
 [ -x "$program" ] || { echo "the program was not built"; exit 1; }
 work=$(mktemp -d) || exit 1
 trap 'rm -rf "$work"' EXIT

@@ -32,6 +32,7 @@ LINK = re.compile(r"\]\(((?!\w+:)[^)\s]+)\)")
 # Commands that aren't run, by how they begin, and why.
 LEFT_OUT = {
     "bash .ci/run": "the gate, which runs this script",
+    "bash tests/quick.sh": "runs this script",
     "(cd crates/euroradio && rt ": "the toolchain would prove this copy anew; the gate proves, builds and runs the program before",
     "wireshark ": "opens a window",
     "sudo ": "changes the machine",

@@ -1,24 +1,25 @@
 #!/usr/bin/env bash
 # Runs the built program on each folder of tests/rows: `args` has its words, one a line; the folder's other files lie where it
 # runs; `stdout` and `status` are what it must print and end with. Each file of examples/ has such a folder, example-NAME.
-# Closes with 'N passed, M failed'.
+# PROGRAM names another program than the built one, and then nothing is built. Closes with 'N passed, M failed'.
 set -u
+[ -n "${PROGRAM:-}" ] && PROGRAM=$(realpath "$PROGRAM")
 cd "$(dirname "$0")/.." || exit 1
-top=$PWD
-program=$top/crates/euroradio/out/euroradio
+program=${PROGRAM:-$PWD/crates/euroradio/out/euroradio}
 
-# `rt run` proves what isn't proved yet, builds the program anew, and runs it once: with no words it answers 1.
-rm -f "$program"
-log=$(mktemp)
-(cd crates/euroradio && rt run > "$log" 2>&1)
-if [ ! -x "$program" ]; then
-  tail -40 "$log"
+if [ -z "${PROGRAM:-}" ]; then
+  # `rt run` proves what isn't proved yet, builds the program anew, and runs it once: with no words it answers 1.
+  rm -f "$program"
+  log=$(mktemp)
+  (cd crates/euroradio && rt run > "$log" 2>&1)
+  [ -x "$program" ] || tail -40 "$log"
   rm -f "$log"
+fi
+if [ ! -x "$program" ]; then
   echo "the program was not built"
   echo "0 passed, 1 failed"
   exit 1
 fi
-rm -f "$log"
 
 passed=0
 failed=0

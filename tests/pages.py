@@ -1,0 +1,193 @@
+"""For pages.sh beside it: pages.py [--names].
+
+What is looked for of a text in backticks; {A, B} behind /, . or :: stands for each of its parts:
+
+| In backticks | What must be there |
+|---|---|
+| a path, as `tests/rows.sh`, `er_end/specs` or `end_pair/specs/Laws.AreInStep` | a file or folder of which it is the end, with .antt or without, and the name in it |
+| `crate::name::name` | each name in that crate's code, definitions or proofs |
+| `Type::name`, `module::name` | one file that has all of them |
+| any other | each word, in any file of the tree but the pages; of `_name` a word that ends so |
+
+Comments of code and definitions don't count. Words of capitals alone stand for others, as NAME does, and what begins with / lies elsewhere. What the
+tree needn't have is in the list here. Of counts those of crates, of must-fail edits and of claims are looked at wherever a page tells ten or more.
+"""
+import fnmatch
+import os
+import re
+import subprocess
+import sys
+
+sys.dont_write_bytecode = True
+TOP = os.path.dirname(os.path.dirname(os.path.abspath(__file__)))
+# Words that the tree needn't have, by the reason.
+ELSEWHERE = {
+    "the toolchain's identity": "logic dac8208d650f15bf",
+    "words, flags and messages of the toolchain": "holes fix RT_JOBS Processes hides statements variables",
+    "commands and flags of the system": "nice gc sections v2",
+    "what isn't used, and why": "sigaction signalfd sigprocmask ppoll z_stream",
+    "stands for any such name": "TOrd lemma my_lemma f_n New::make Tests",
+}
+SPELLED = "zero one two three four five six seven eight nine ten eleven twelve thirteen fourteen fifteen sixteen seventeen eighteen nineteen".split()
+TENS = "twenty thirty forty fifty sixty seventy eighty ninety".split()
+WORD = re.compile(r"(?<![A-Za-z_0-9])[A-Za-z_][A-Za-z_0-9]*")
+PIECE = re.compile(r"(?<=/|\.|:)\{([^{}]*)\}")
+PATH = re.compile(r"(?<![\w./-])[\w.*-]+(?:/[\w.*-]+)+/?|(?<![\w./-])[\w-]+/(?!\S)")
+NAMES = re.compile(r"\w+(?:::\w+)+")
+COMMENT = {".rt": re.compile(r"//.*"), ".antt": re.compile(r"(^|\s)--(\s.*)?$", re.M)}
+
+
+class Tree:
+    def __init__(self):
+        listed = subprocess.run(["git", "ls-files", "-z"], capture_output=True, cwd=TOP, check=True).stdout.decode().split("\0")
+        self.files = {path for path in listed if os.path.isfile(os.path.join(TOP, path))}
+        self.folders = {"/".join(path.split("/")[:n]) for path in self.files for n in range(1, path.count("/") + 1)}
+        self.crates = {path.split("/")[1] for path in self.folders if path.startswith("crates/")}
+        self.words = {path: words_of(path) for path in self.files if not is_page(path)}
+        self.all = set().union(*self.words.values()) | {part for path in self.files for part in WORD.findall(path)}
+        self.ends = {path.split("/", n)[n] for path in self.files | self.folders for n in range(path.count("/") + 1)}
+        self.of_crate = {crate: set() for crate in self.crates}
+        for path, words in self.words.items():
+            parts = path.split("/")
+            if parts[0] == "crates" and parts[2:3] != ["must-fail"]:
+                self.of_crate[parts[1]] |= words
+
+    def lacks(self, text):
+        """What of a text in backticks isn't in the tree."""
+        for one in unfolded(text):
+            yield from self.lacks_one(one)
+
+    def lacks_one(self, text):
+        paths = [it for it in PATH.findall(text) if not it.startswith("/")]
+        for path in paths:
+            if not self.has_path(path.rstrip("/")):
+                yield path
+            text = text.replace(path, " ")
+        for names in NAMES.findall(text):
+            if not self.has_names(names.split("::")):
+                yield names
+            text = text.replace(names, " ")
+        text = re.sub(r"(?<!\w)/\S+", " ", text)
+        for word in WORD.findall(text):
+            if word in self.all or re.fullmatch(r"[A-Z]+[0-9]?", word):
+                continue
+            if not word.startswith("_") or not any(it.endswith(word) for it in self.all):
+                yield word
+
+    def has_path(self, path):
+        """A path is the end of one in the tree, with .antt or without; behind a file's own name may stand one in it."""
+        pattern = re.sub(r"(?<![^/])[A-Z]+(?![^/])", "*", path)
+        if "*" in pattern:
+            return any(fnmatch.fnmatchcase(end, pattern) for end in self.ends)
+        file, _, name = path.rpartition(".")
+        return path in self.ends or f"{path}.antt" in self.ends or any(name in self.words[it] for it in self.words if f"/{it}".endswith(f"/{file}.antt"))
+
+    def has_names(self, names):
+        names = [name for name in names if not re.fullmatch(r"[A-Z]+", name)]
+        if names[0] in self.crates:
+            return all(name in self.of_crate[names[0]] for name in names[1:])
+        return any(all(name in words for name in names) for words in self.words.values())
+
+
+def is_page(path):
+    return path == "README.md" or path.startswith("docs/") or path == "tests/pages.py"
+
+
+def read(path):
+    with open(os.path.join(TOP, path), encoding="utf-8", errors="replace") as file:
+        return file.read()
+
+
+def words_of(path):
+    text = read(path)
+    comment = COMMENT.get(os.path.splitext(path)[1])
+    return set(WORD.findall(comment.sub("", text) if comment else text))
+
+
+def unfolded(text):
+    """A text for each part of {A, B} in it."""
+    found = PIECE.search(text)
+    if not found:
+        return [text]
+    return [each for part in found[1].split(",") for each in unfolded(text[: found.start()] + part.strip() + text[found.end() :])]
+
+
+def in_backticks(page):
+    """(line, text) of each text in backticks outside of code blocks."""
+    lines, inside = read(page).split("\n"), False
+    for number, line in enumerate(lines):
+        if line.startswith("```"):
+            inside = not inside
+        lines[number] = "" if inside or line.startswith("```") else line
+    text = "\n".join(lines)
+    for found in re.finditer(r"(?<!`)(`+)(?!`)((?:(?!\n\n).)+?)(?<!`)\1(?!`)", text, re.S):
+        yield text[: found.start()].count("\n") + 1, found[2].strip()
+
+
+def number(text):
+    """The number that a word spells or digits write, or None."""
+    text = text.lower().replace(",", "")
+    tens, _, ones = text.partition("-")
+    if text.isdigit():
+        return int(text)
+    if text in SPELLED:
+        return SPELLED.index(text)
+    if tens in TENS and (not ones or ones in SPELLED[1:10]):
+        return 20 + 10 * TENS.index(tens) + (SPELLED.index(ones) if ones else 0)
+    return None
+
+
+def counts(tree):
+    """What the pages may count, and how many there are."""
+    of_code = [path for path in tree.files if path.startswith("crates/") and path.endswith((".rt", ".antt"))]
+    listed = re.search(r"^CLAIMS = \[\n(.*?)^\]", read("tests/closures.py"), re.M | re.S)[1]
+    return {
+        r"crates": len(tree.crates),
+        r"must-fail edits": sum(path.endswith(".edit") for path in tree.files),
+        r"claims": listed.count("\n"),
+        r"lines of code, definitions and proofs": round(sum(read(path).count("\n") for path in of_code), -4),
+    }
+
+
+def told(page, counted):
+    """(line, what, told, there) of each count on a page."""
+    text = read(page)
+    for what, there in counted.items():
+        for found in re.finditer(rf"([\w,-]+)\s+{what}\b", text):
+            said = number(found[1])
+            if said is not None and said >= 10:
+                yield text[: found.start()].count("\n") + 1, what, said, there
+
+
+def main():
+    tree = Tree()
+    elsewhere = {word for words in ELSEWHERE.values() for word in words.split()}
+    counted = counts(tree)
+    pages = ["README.md"] + [f"docs/{name}" for name in sorted(os.listdir(os.path.join(TOP, "docs"))) if name.endswith(".md")]
+    passed = failed = 0
+    for page in pages:
+        for line, text in in_backticks(page):
+            if "--names" in sys.argv[1:]:
+                print(f"{page}:{line}: {text}")
+            lacking = [word for word in tree.lacks(text) if word not in elsewhere]
+            if lacking:
+                failed += 1
+                print(f"{page}:{line}: `{text}`: the tree has no {', '.join(lacking)}")
+            else:
+                passed += 1
+        for line, what, said, there in told(page, counted):
+            if said == there:
+                passed += 1
+            else:
+                failed += 1
+                print(f"{page}:{line}: {said} {what}: there are {there}")
+    needless = sorted(word for word in elsewhere if word in tree.all)
+    if needless:
+        failed += 1
+        print(f"the list of what needn't be there names what is there: {', '.join(needless)}")
+    print(f"{passed} passed, {failed} failed")
+    return 1 if failed or not passed else 0
+
+
+if __name__ == "__main__":
+    sys.exit(main())
