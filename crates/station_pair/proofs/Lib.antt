@@ -39,3 +39,7 @@ pub mod Recovers
 pub mod Ticks
 pub mod Recovered
 pub mod MendCalls
+pub mod Filling
+pub mod FillCalls
+pub mod Calm
+pub mod Filled

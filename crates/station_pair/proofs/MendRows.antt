@@ -22,7 +22,7 @@ use Rattle.station_pair.proofs.Mending.{NearIn, MendsIn, puts_shown_mends, puts_
 -- ---- N(R)
 
 -- the first N(R) that waits is acknowledged
-numbered : (selective : Bool) (k r : ℕ) (lx : List Frame) (f : Frame) (fs : List Frame) (x y : Station) (rest : Station → Station) (P : Station → Type 0)
+pub numbered : (selective : Bool) (k r : ℕ) (lx : List Frame) (f : Frame) (fs : List Frame) (x y : Station) (rest : Station → Station) (P : Station → Type 0)
     → numbers (f ∷ fs) ≡ r ∷ numbers fs → Pair selective k lx x (f ∷ fs) y → P (rest (acknowledges r x)) → P (by_number (r % modulo x.extended) rest x)
 numbered selective k r lx f fs x y rest P is h p =
     subst (λ (n : Option ℕ). P (acknowledging n rest x))
@@ -39,44 +39,44 @@ comes_still next sent n q fs differs h = elim (cases_Bool (next == n)) [
   | inr other ↦ sym (ap (λ (b : Bool). if b then leads (next + 1) fs else leads next fs) other) ∙ h
 ]
 
-takes_mends : (k : ℕ) (w : List Frame) (x : Station) (n r : ℕ) (q : List ℕ) (fs : List Frame) (y : Station) → Pair false k (w ++ x.said) x (Info n r q ∷ fs) y
-    → Mends false (w ++ x.said) x (Info n r q ∷ fs) y → MendsIn false w (takes (n % modulo x.extended) q (acknowledges r x)) fs y
-takes_mends k w x n r q fs y p h =
+takes_mends : (k : ℕ) (w : List Frame) (x : Station) (n r : ℕ) (q : List ℕ) (fs : List Frame) (y z : Station) → Pair false k (w ++ x.said) x (Info n r q ∷ fs) y
+    → Mends false (w ++ x.said) x (Info n r q ∷ fs) z → MendsIn false w (takes (n % modulo x.extended) q (acknowledges r x)) fs z
+takes_mends k w x n r q fs y z p h =
     let a : Station = acknowledges r x in
     let len : length (x.taken ++ q ∷ []) ≡ length x.taken + 1 = (let l = length-append x.taken (q ∷ []) in omega (arith, l)) in
-    cond_both (length x.taken % modulo x.extended == n % modulo x.extended) (accepts q a) (rejects a) (λ t. MendsIn false w t fs y)
+    cond_both (length x.taken % modulo x.extended == n % modulo x.extended) (accepts q a) (rejects a) (λ t. MendsIn false w t fs z)
     (λ e.
     let same : length x.taken ≡ n = way_tells x.extended k y.handed y.acked y.sent x.taken (n, q) (infos fs) (numbers (w ++ x.said)) (span_below false x.extended k p.4) (eqb-true _ _ e) p.1.0 in (
-      (h.0.0, subst (λ (j : ℕ). Comes false j [] (infos fs) y.sent) (sym len) (comes_next (length x.taken) y.sent n q (infos fs) same h.0.1), h.0.2, h.0.3.1, h.0.4, h.0.5),
+      (h.0.0, subst (λ (j : ℕ). Comes false j [] (infos fs) z.sent) (sym len) (comes_next (length x.taken) z.sent n q (infos fs) same h.0.1), h.0.2, h.0.3.1, h.0.4, h.0.5),
       λ owes none. absurd (true≢false owes),
     ))
     (λ e.
     let differs : length x.taken ≡ n → ⊥ = λ same. absurd (true≢false (sym (eq-eqb _ _ (ap (λ (j : ℕ). j % modulo x.extended) same)) ∙ e)) in
-    let near : NearIn false w a fs y = (h.0.0, comes_still (length x.taken) y.sent n q (infos fs) differs h.0.1, h.0.2, h.0.3.1, h.0.4, h.0.5) in
-    cond_both x.gap (puts (Rr (length x.taken)) a) (puts (Rej (length x.taken)) (record a { gap = true })) (λ t. MendsIn false w t fs y)
-    (λ g. puts_shown_mends false w fs y a x.owed (Rr (length x.taken)) tt refl refl near)
-    (λ g. puts_shown_mends false w fs y (record a { gap = true }) x.owed (Rej (length x.taken)) tt refl refl near))
+    let near : NearIn false w a fs z = (h.0.0, comes_still (length x.taken) z.sent n q (infos fs) differs h.0.1, h.0.2, h.0.3.1, h.0.4, h.0.5) in
+    cond_both x.gap (puts (Rr (length x.taken)) a) (puts (Rej (length x.taken)) (record a { gap = true })) (λ t. MendsIn false w t fs z)
+    (λ g. puts_shown_mends false w fs z a x.owed (Rr (length x.taken)) tt refl refl near)
+    (λ g. puts_shown_mends false w fs z (record a { gap = true }) x.owed (Rej (length x.taken)) tt refl refl near))
 
 rejected_mends : (w : List Frame) (x : Station) (l : List Frame) (y : Station) → MendsIn false w x l y → MendsIn false w (repeats_rejected x) l y
 rejected_mends w x l y h =
     cond_both (nat_lt x.acked x.sent) (starts_timer (sends_again x)) x (λ t. MendsIn false w t l y)
     (λ some. let lt = ltb-true x.acked x.sent some in sends_again_mends false w l y x (omega (arith, lt)) h) (λ none. h)
 
-pub go_back_mends : (k : ℕ) (w : List Frame) (x : Station) (f : Frame) (fs : List Frame) (y : Station) → Pair false k (w ++ x.said) x (f ∷ fs) y
-    → Mends false (w ++ x.said) x (f ∷ fs) y → MendsIn false w (row_as false Up x (shown x.extended f) (information f)) fs y
-go_back_mends k w x (Info n r q) fs y p h =
-    numbered false k r (w ++ x.said) (Info n r q) fs x y (takes (n % modulo x.extended) q) (λ t. MendsIn false w t fs y) refl p (takes_mends k w x n r q fs y p h)
-go_back_mends k w x (Rr r) fs y p h =
-    numbered false k r (w ++ x.said) (Rr r) fs x y (marks_busy false) (λ t. MendsIn false w t fs y) refl p
+pub go_back_mends : (k : ℕ) (w : List Frame) (x : Station) (f : Frame) (fs : List Frame) (y z : Station) → Pair false k (w ++ x.said) x (f ∷ fs) y
+    → Mends false (w ++ x.said) x (f ∷ fs) z → MendsIn false w (row_as false Up x (shown x.extended f) (information f)) fs z
+go_back_mends k w x (Info n r q) fs y z p h =
+    numbered false k r (w ++ x.said) (Info n r q) fs x y (takes (n % modulo x.extended) q) (λ t. MendsIn false w t fs z) refl p (takes_mends k w x n r q fs y z p h)
+go_back_mends k w x (Rr r) fs y z p h =
+    numbered false k r (w ++ x.said) (Rr r) fs x y (marks_busy false) (λ t. MendsIn false w t fs z) refl p
     ((h.0.0, h.0.1, h.0.2, h.0.3.1, h.0.4, h.0.5), h.1)
-go_back_mends k w x (Rej r) fs y p h =
-    numbered false k r (w ++ x.said) (Rej r) fs x y (λ t. repeats_rejected (marks_busy false t)) (λ t. MendsIn false w t fs y) refl p
-    (rejected_mends w (marks_busy false (acknowledges r x)) fs y ((h.0.0, h.0.1, h.0.2, h.0.3.1, h.0.4, h.0.5), h.1))
-go_back_mends k w x (Srej r) fs y p h = absurd (no_foreign y.calling x.taken y.sent (marks false fs) p.1.1)
-go_back_mends k w x SetUp fs y p h = absurd h.0.3.0
-go_back_mends k w x Disc fs y p h = absurd h.0.3.0
-go_back_mends k w x Dm fs y p h = absurd h.0.3.0
-go_back_mends k w x (Ua final) fs y p h = absurd h.0.3.0
+go_back_mends k w x (Rej r) fs y z p h =
+    numbered false k r (w ++ x.said) (Rej r) fs x y (λ t. repeats_rejected (marks_busy false t)) (λ t. MendsIn false w t fs z) refl p
+    (rejected_mends w (marks_busy false (acknowledges r x)) fs z ((h.0.0, h.0.1, h.0.2, h.0.3.1, h.0.4, h.0.5), h.1))
+go_back_mends k w x (Srej r) fs y z p h = absurd (no_foreign y.calling x.taken y.sent (marks false fs) p.1.1)
+go_back_mends k w x SetUp fs y z p h = absurd h.0.3.0
+go_back_mends k w x Disc fs y z p h = absurd h.0.3.0
+go_back_mends k w x Dm fs y z p h = absurd h.0.3.0
+go_back_mends k w x (Ua final) fs y z p h = absurd h.0.3.0
 
 -- ---- with selective reject
 

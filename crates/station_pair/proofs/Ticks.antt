@@ -24,7 +24,7 @@ consecutive_le : (low high : ℕ) (fs : List (ℕ × List ℕ)) → Consecutive 
 consecutive_le low high [] h = omega (arith, h)
 consecutive_le low high (f ∷ fs) h = omega (arith, consecutive_le (low + 1) high fs h.1)
 
-leads_all : (low next high : ℕ) (fs : List (ℕ × List ℕ)) → low ≤ next → next ≤ high → Consecutive low fs high → leads next fs ≡ high
+pub leads_all : (low next high : ℕ) (fs : List (ℕ × List ℕ)) → low ≤ next → next ≤ high → Consecutive low fs high → leads next fs ≡ high
 leads_all low next high [] above below h = omega (arith, h)
 leads_all low next high (f ∷ fs) above below h =
     let le = consecutive_le (low + 1) high fs h.1 in
