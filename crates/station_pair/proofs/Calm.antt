@@ -8,9 +8,8 @@ use Rattle.er_base.specs.declared.side.Side.{Side}
 use Rattle.er_base.specs.declared.side.Side.TheVariants.{E, R}
 use Rattle.hdlc_frames.specs.Laws.{ControlReadsBack}
 use Rattle.station_model.specs.declared.phase.Phase.{Phase}
-use Rattle.station_model.specs.declared.phase.Phase.TheVariants.{Idle}
 use Rattle.station_model.specs.Frames.{Frame, Info, Rr, Rej, Srej, SetUp, Disc, Dm, Ua, shown}
-use Rattle.station_model.specs.Stations.{Station, is_up, is_down, sees, puts, settled}
+use Rattle.station_model.specs.Stations.{Station, is_up, is_down, sees, puts}
 use Rattle.station_model.specs.Sending.{can_send, waiting, sends_next, sends_up_to, sends_waiting, settles, expires_if_due}
 use Rattle.station_model.specs.Receiving.{acknowledges, marks_busy, agrees, comes_up}
 use Rattle.station_model.specs.Selective.{receives_as}
@@ -128,8 +127,8 @@ received_calm law selective false k n w now x f fs y b (inr (inr a)) calm = up_c
 
 -- ---- both, between two calls
 
-abbrev pub Calm : (kind : Bool) → Claim
-Calm kind selective fe e fr r = (n : ℕ) × (Shape n fe e fr r × IsCalm e × IsCalm r × (selective ≡ kind))
+abbrev pub Calm : Claim
+Calm selective fe e fr r = (n : ℕ) × (Shape n fe e fr r × IsCalm e × IsCalm r)
 
 calling_begins : (n : ℕ) (lx : List Frame) (x : Station) (ly : List Frame) (y : Station) → x.said ≡ [] → x.sent ≤ length x.handed → Shape n lx x ly y → Midway true n lx x ly y
 calling_begins n lx x ly y quiet given h =
@@ -149,14 +148,14 @@ called_begins n lx x ly y quiet given h =
       | inr (inr a) ↦ inr (inr ((subst (λ (t : List Frame). Still false n t y lx x) (sym e) (still_swap n lx x ly y a.0), a.2.1, given), a.1))
     ]
 
-module _ (laws : Frames) (wd : ℕ) (kind : Bool) where
+module _ (laws : Frames) (wd : ℕ) where
   keeps : FlowKeeps
   keeps = flow_keeps laws.back
 
-  same_calm : (l : Link) (came : List Came) → Sounds wd (Calm kind) l → Sounds wd (Calm kind) (record l { came = came })
-  same_calm l came h = same wd (Calm kind) l h l.moment l.passes l.order_kept l.loss_free came
+  same_calm : (l : Link) (came : List Came) → Sounds wd Calm l → Sounds wd Calm (record l { came = came })
+  same_calm l came h = same wd Calm l h l.moment l.passes l.order_kept l.loss_free came
 
-  to_r : ToR wd (Calm kind)
+  to_r : ToR wd Calm
   to_r selective k now fr r f fs e wide quiet b own_r own_e rests_r rests_e q =
       let m = called_begins q.0 (f ∷ fs) e fr r quiet b.0.0.given q.1.0 in
       let t : Station = receives_as selective now (found e f) r in (
@@ -165,11 +164,10 @@ module _ (laws : Frames) (wd : ℕ) (kind : Bool) where
           keeps.finished false (q.0 + 1) fr t fs e (keeps.received selective false k q.0 fr now r f fs e b m),
           q.1.1,
           finishes_calm t (received_calm laws.back selective false k q.0 fr now r f fs e b m q.1.2),
-          q.1.3,
         ),
       )
 
-  to_e : ToE wd (Calm kind)
+  to_e : ToE wd Calm
   to_e selective k now fe e f fs r wide quiet b own_e own_r rests_e rests_r q =
       let m = calling_begins q.0 fe e (f ∷ fs) r quiet b.0.0.given q.1.0 in
       let t : Station = receives_as selective now (found r f) e in (
@@ -178,21 +176,20 @@ module _ (laws : Frames) (wd : ℕ) (kind : Bool) where
           keeps.finished true (q.0 + 1) fe t fs r (keeps.received selective true k q.0 fe now e f fs r b m),
           finishes_calm t (received_calm laws.back selective true k q.0 fe now e f fs r b m q.1.1),
           q.1.2,
-          q.1.3,
         ),
       )
 
   -- ---- the steps
 
-  sent_calm : (side : Side) (l : Link) (p : List ℕ) (o : Option Came) → (o ≡ None → length p ≤ 1026) → Sounds wd (Calm kind) l → Sounds wd (Calm kind) (send_unless o side p l)
+  sent_calm : (side : Side) (l : Link) (p : List ℕ) (o : Option Came) → (o ≡ None → length p ≤ 1026) → Sounds wd Calm l → Sounds wd Calm (send_unless o side p l)
   sent_calm E l p (Some refused) short h = same_calm l _ h
   sent_calm R l p (Some refused) short h = same_calm l _ h
   sent_calm E l p None short h =
       let q = h.claim in
       let t : Station = hands l.moment p l.e in
-      e_does wd (Calm kind) (Calm kind) l h (finishes t)
-      (finishes_keeps l.selective h.k h.fe t h.fr l.r (hands_keeps l.selective h.k h.fe l.moment l.e h.fr l.r p (short refl) (e_ready wd (Calm kind) l h)))
-      (hands_leaves true wd h.fe l.moment p l.e h.stands.pair.0.0.given (e_own wd (Calm kind) l h))
+      e_does wd Calm Calm l h (finishes t)
+      (finishes_keeps l.selective h.k h.fe t h.fr l.r (hands_keeps l.selective h.k h.fe l.moment l.e h.fr l.r p (short refl) (e_ready wd Calm l h)))
+      (hands_leaves true wd h.fe l.moment p l.e h.stands.pair.0.0.given (e_own wd Calm l h))
       (λ idle. ap is_up (phases_stay.finishes t ∙ phases_stay.hands l.moment p l.e) ∙ h.first idle) (
         q.0,
         (
@@ -200,32 +197,30 @@ module _ (laws : Frames) (wd : ℕ) (kind : Bool) where
               (keeps.handed true q.0 h.fe l.moment p l.e h.fr l.r (calling_begins q.0 h.fe l.e h.fr l.r h.stands.quiet_x h.stands.pair.0.0.given q.1.0)),
           finishes_calm t (hands_calm l.moment p l.e q.1.1),
           q.1.2,
-          q.1.3,
         ),
       )
   sent_calm R l p None short h =
       let q = h.claim in
       let t : Station = hands l.moment p l.r in
-      r_does wd (Calm kind) (Calm kind) l h (finishes t)
-      (finishes_keeps l.selective h.k h.fr t h.fe l.e (hands_keeps l.selective h.k h.fr l.moment l.r h.fe l.e p (short refl) (r_ready wd (Calm kind) l h)))
-      (hands_leaves false wd h.fr l.moment p l.r h.stands.pair.1.0.given (r_own wd (Calm kind) l h)) (
+      r_does wd Calm Calm l h (finishes t)
+      (finishes_keeps l.selective h.k h.fr t h.fe l.e (hands_keeps l.selective h.k h.fr l.moment l.r h.fe l.e p (short refl) (r_ready wd Calm l h)))
+      (hands_leaves false wd h.fr l.moment p l.r h.stands.pair.1.0.given (r_own wd Calm l h)) (
         q.0,
         (
           keeps.finished false q.0 h.fr t h.fe l.e
               (keeps.handed false q.0 h.fr l.moment p l.r h.fe l.e (called_begins q.0 h.fe l.e h.fr l.r h.stands.quiet_y h.stands.pair.1.0.given q.1.0)),
           q.1.1,
           finishes_calm t (hands_calm l.moment p l.r q.1.2),
-          q.1.3,
         ),
       )
 
-  e_ticked : (now : ℕ) (l : Link) → is_late now l.e ≡ false → Sounds wd (Calm kind) l → Sounds wd (Calm kind) (tick_at E now l)
+  e_ticked : (now : ℕ) (l : Link) → is_late now l.e ≡ false → Sounds wd Calm l → Sounds wd Calm (tick_at E now l)
   e_ticked now l late h =
       let q = h.claim in
       let t : Station = ticks now l.e in
-      e_does wd (Calm kind) (Calm kind) l h (finishes t)
-      (finishes_keeps l.selective h.k h.fe t h.fr l.r (ticks_keeps l.selective h.k h.fe now l.e h.fr l.r (e_ready wd (Calm kind) l h)))
-      (ticks_leaves true wd h.fe now l.e h.stands.pair.0.0.given (e_own wd (Calm kind) l h))
+      e_does wd Calm Calm l h (finishes t)
+      (finishes_keeps l.selective h.k h.fe t h.fr l.r (ticks_keeps l.selective h.k h.fe now l.e h.fr l.r (e_ready wd Calm l h)))
+      (ticks_leaves true wd h.fe now l.e h.stands.pair.0.0.given (e_own wd Calm l h))
       (λ idle. ap is_up (phases_stay.finishes t) ∙ ticks_tell.asleep now l.e (h.first idle)) (
         q.0,
         (
@@ -233,43 +228,41 @@ module _ (laws : Frames) (wd : ℕ) (kind : Bool) where
               (keeps.ticked true q.0 h.fe now l.e h.fr l.r late (calling_begins q.0 h.fe l.e h.fr l.r h.stands.quiet_x h.stands.pair.0.0.given q.1.0)),
           finishes_calm t (ticks_calm now l.e late q.1.1),
           q.1.2,
-          q.1.3,
         ),
       )
 
-  r_ticked : (now : ℕ) (l : Link) → is_late now l.r ≡ false → Sounds wd (Calm kind) l → Sounds wd (Calm kind) (tick_at R now l)
+  r_ticked : (now : ℕ) (l : Link) → is_late now l.r ≡ false → Sounds wd Calm l → Sounds wd Calm (tick_at R now l)
   r_ticked now l late h =
       let q = h.claim in
       let t : Station = ticks now l.r in
-      r_does wd (Calm kind) (Calm kind) l h (finishes t)
-      (finishes_keeps l.selective h.k h.fr t h.fe l.e (ticks_keeps l.selective h.k h.fr now l.r h.fe l.e (r_ready wd (Calm kind) l h)))
-      (ticks_leaves false wd h.fr now l.r h.stands.pair.1.0.given (r_own wd (Calm kind) l h)) (
+      r_does wd Calm Calm l h (finishes t)
+      (finishes_keeps l.selective h.k h.fr t h.fe l.e (ticks_keeps l.selective h.k h.fr now l.r h.fe l.e (r_ready wd Calm l h)))
+      (ticks_leaves false wd h.fr now l.r h.stands.pair.1.0.given (r_own wd Calm l h)) (
         q.0,
         (
           keeps.finished false q.0 h.fr t h.fe l.e
               (keeps.ticked false q.0 h.fr now l.r h.fe l.e late (called_begins q.0 h.fe l.e h.fr l.r h.stands.quiet_y h.stands.pair.1.0.given q.1.0)),
           q.1.1,
           finishes_calm t (ticks_calm now l.r late q.1.2),
-          q.1.3,
         ),
       )
 
   -- as long as nothing was lost
   abbrev Clean : Link → Type 0
-  Clean l = l.loss_free ≡ true → Sounds wd (Calm kind) l
+  Clean l = l.loss_free ≡ true → Sounds wd Calm l
 
   ticked_calm : (now : ℕ) (l : Link) → Clean l → Clean (tick now l)
   ticked_calm now l h e =
       let f = both_false l.loss_free (is_late now l.e) (is_late now l.r) e in
       let first : Link = record l { moment = max l.moment now; loss_free = l.loss_free && not (is_late now l.e || is_late now l.r) } in
-      r_ticked now (tick_at E now first) f.2 (e_ticked now first f.1 (same wd (Calm kind) l (h f.0) _ l.passes l.order_kept _ l.came))
+      r_ticked now (tick_at E now first) f.2 (e_ticked now first f.1 (same wd Calm l (h f.0) _ l.passes l.order_kept _ l.came))
 
-  next_calm : (side : Option Side) (overfull : Bool) (d : Draining) → Sounds wd (Calm kind) d.link → Sounds wd (Calm kind) (pass_next side overfull d).link
+  next_calm : (side : Option Side) (overfull : Bool) (d : Draining) → Sounds wd Calm d.link → Sounds wd Calm (pass_next side overfull d).link
   next_calm None overfull d h = h
   next_calm (Some side) true d h = h
-  next_calm (Some side) false d h = (passed wd (Calm kind) laws to_r to_e side d.link h).0
+  next_calm (Some side) false d h = (passed wd Calm laws to_r to_e side d.link h).0
 
-  drained_calm : (most : ℕ) (d : Draining) → Sounds wd (Calm kind) d.link → Sounds wd (Calm kind) (drained most d).link
+  drained_calm : (most : ℕ) (d : Draining) → Sounds wd Calm d.link → Sounds wd Calm (drained most d).link
   drained_calm zero d h = h
   drained_calm (suc most) d h =
       drained_calm most (pass_next (next_of d.link.from_e d.link.from_r) (is_overfull d.link) d)
@@ -308,7 +301,7 @@ module _ (laws : Frames) (wd : ℕ) (kind : Bool) where
   step_calm (Send side p) l h = λ e.
       sent_calm side l p (refusal_at side (station_of l side) p (station_of l side).released) (refused_long side (station_of l side) p (station_of l side).released)
       (h (sym (sent_free side p l (refusal_at side (station_of l side) p (station_of l side).released)) ∙ e))
-  step_calm (Pass side) l h = λ e. (passed wd (Calm kind) laws to_r to_e side l (h (sym (passed_free side (line_of l side) l) ∙ e))).0
+  step_calm (Pass side) l h = λ e. (passed wd Calm laws to_r to_e side l (h (sym (passed_free side (line_of l side) l) ∙ e))).0
   step_calm (Lose side) l h = lost_calm side (line_of l side) l h
   step_calm (Repeat side) l h = repeated_calm side (line_of l side) l h
   step_calm (Alter side place mask) l h = altered_calm side place mask (line_of l side) l h
@@ -323,7 +316,7 @@ module _ (laws : Frames) (wd : ℕ) (kind : Bool) where
   run_calm [] l h = h
   run_calm (s ∷ rest) l h = run_calm rest (happens s l) (step_calm s (record l { came = [] }) (λ e. same_calm l [] (h e)))
 
-opened_calm : (s : Opening) → Sounds s.window (Calm s.selective) (opened s.selective s.extended s.window s.n2 s.t1 s.moment)
+opened_calm : (s : Opening) → Sounds s.window Calm (opened s.selective s.extended s.window s.n2 s.t1 s.moment)
 opened_calm s = record {
   k = span_of s.selective s.extended s.window;
   fe = SetUp ∷ [];
@@ -338,9 +331,9 @@ opened_calm s = record {
   begun = λ idle. absurd cc;
   claim = (
     0,
-    (inl (refl, refl, refl, refl, (refl, refl, refl, refl, refl, refl, s.some, refl), (refl, refl, refl, refl, refl, refl, s.some, refl), refl), (refl, refl), (refl, refl), refl),
+    (inl (refl, refl, refl, refl, (refl, refl, refl, refl, refl, refl, s.some, refl), (refl, refl, refl, refl, refl, refl, s.some, refl), refl), (refl, refl), (refl, refl)),
   );
 }
 
-pub after_calm : Frames → (s : Opening) (steps : List LinkStep) → (after s steps).loss_free ≡ true → Sounds s.window (Calm s.selective) (after s steps)
-after_calm laws s steps = run_calm laws s.window s.selective steps (opened s.selective s.extended s.window s.n2 s.t1 s.moment) (λ e. opened_calm s)
+pub after_calm : Frames → (s : Opening) (steps : List LinkStep) → (after s steps).loss_free ≡ true → Sounds s.window Calm (after s steps)
+after_calm laws s steps = run_calm laws s.window steps (opened s.selective s.extended s.window s.n2 s.t1 s.moment) (λ e. opened_calm s)

@@ -1,5 +1,5 @@
 -- Two stations with go-back, of which one lost a frame before others: what each does at the first frame that waits towards it, until the gap is filled.
-use Rattle.std.proofs.Common.{if◌then◌else◌, ◌≡◌, ℕ, zero, suc, ◌+◌, ◌-◌, ◌%◌, ◌<◌, ◌≤◌, ◌⊎◌, inl, inr, Bool, true, false, List, [], ◌∷◌, ◌++◌, length, None, refl, sym, ◌∙◌, ap, subst, arith, length-append, append_assoc, append-nil, eq-eqb, eqb-true, true≢false}
+use Rattle.std.proofs.Common.{if◌then◌else◌, ◌≡◌, ℕ, zero, suc, ◌+◌, ◌%◌, ◌<◌, inl, inr, Bool, true, false, List, [], ◌∷◌, ◌++◌, length, None, refl, sym, ◌∙◌, ap, subst, arith, length-append, append_assoc, append-nil, eqb-true, true≢false}
 use Rattle.std.specs.Prelude.{nat_lt, ◌==◌}
 use Rattle.std.proofs.lemmas.Bool.{cases_Bool, cond_both}
 use Rattle.hdlc_frames.specs.Laws.{ControlReadsBack}
@@ -7,14 +7,13 @@ use Rattle.station_model.specs.declared.phase.Phase.{Phase}
 use Rattle.station_model.specs.declared.phase.Phase.TheVariants.{Up}
 use Rattle.station_model.specs.Frames.{modulo, Frame, Info, Rr, Rej, Srej, SetUp, Disc, Dm, Ua, shown, information}
 use Rattle.station_model.specs.Stations.{Station, is_down, sees, puts, settled}
-use Rattle.station_model.specs.Sending.{can_send, waiting, frames_again, sends_next, sends_up_to, sends_waiting, sends_again, settles, starts_timer}
+use Rattle.station_model.specs.Sending.{can_send, waiting, sends_next, sends_up_to, sends_waiting, sends_again, settles, starts_timer}
 use Rattle.station_model.specs.Receiving.{acknowledges, accepts, rejects, takes, marks_busy, repeats_rejected}
 use Rattle.station_model.specs.Selective.{held_for, receives_as}
 use Rattle.station_model.specs.Calls.{finishes}
 use Rattle.station_pair.specs.Invariant.{Pair, Both, infos, numbers, marks}
 use Rattle.station_pair.specs.Keeping.{found}
-use Rattle.station_pair.specs.Flowing.{Ends}
-use Rattle.station_pair.specs.Mending.{AllExchange, Mends, leads}
+use Rattle.station_pair.specs.Mending.{Mends, leads}
 use Rattle.station_pair.proofs.Ways.{climbs_le, way_tells}
 use Rattle.station_pair.proofs.Rows.{no_foreign, span_below}
 use Rattle.station_pair.proofs.Hearing.{row_as}
@@ -23,7 +22,7 @@ use Rattle.station_pair.proofs.Lines.{answered}
 use Rattle.station_pair.proofs.Recovers.{received_mends}
 use Rattle.station_pair.proofs.Mending.{MendsIn, mends_swap, waiting_mends, finishes_mends}
 use Rattle.station_pair.proofs.MendRows.{numbered, go_back_mends}
-use Rattle.station_pair.proofs.Filling.{Lacks, HasRej, Out, Notes, Gap, Filled, FilledIn, OutIn, leads_lacks, rej_more, rej_last, takes_out, waiting_filled, finishes_filled, again_leads}
+use Rattle.station_pair.proofs.Filling.{Lacks, HasRej, Notes, Gap, Filled, FilledIn, OutIn, leads_lacks, rej_more, rej_last, takes_out, waiting_filled, finishes_filled, again_leads}
 
 -- ---- a frame comes to the station that lost one
 

@@ -1,6 +1,6 @@
 -- Two stations with go-back, of which one lost a frame before others: what its calls keep until it is asked for that frame, and sends it again. Everywhere
 -- x sends what was lost, y takes, and v is V(R) of y.
-use Rattle.std.proofs.Common.{if◌then◌else◌, ◌≡◌, ℕ, zero, suc, ◌+◌, ◌-◌, ◌%◌, ◌<◌, ◌≤◌, ◌⊎◌, inl, inr, Bool, true, false, List, [], ◌∷◌, ◌++◌, length, refl, sym, ◌∙◌, ap, subst, arith, append_assoc, append-nil, eq-eqb, eqb-true, lt-ltb, true≢false}
+use Rattle.std.proofs.Common.{◌≡◌, ℕ, zero, suc, ◌+◌, ◌-◌, ◌%◌, ◌<◌, ◌≤◌, ◌⊎◌, inl, inr, Bool, true, false, List, [], ◌∷◌, ◌++◌, length, refl, sym, ◌∙◌, ap, subst, arith, append_assoc, append-nil, eqb-true, lt-ltb, true≢false}
 use Rattle.std.specs.Prelude.{slice_index_or, nat_lt, ◌==◌}
 use Rattle.std.proofs.lemmas.Bool.{cond_both}
 use Rattle.std.proofs.lemmas.Grind.{flat_map-append}
@@ -9,11 +9,11 @@ use Rattle.station_model.specs.Stations.{Station, is_down, puts}
 use Rattle.station_model.specs.Sending.{info_at, can_send, waiting, frames_again, sends_next, sends_up_to, sends_waiting, sends_again, settles, starts_timer}
 use Rattle.station_model.specs.Receiving.{accepts, rejects, takes, repeats_rejected}
 use Rattle.station_model.specs.Calls.{finishes}
-use Rattle.station_pair.specs.Invariant.{infos, numbers, info_of, number_of}
+use Rattle.station_pair.specs.Invariant.{infos, numbers, info_of}
 use Rattle.station_pair.specs.Flowing.{Consecutive, Ends}
 use Rattle.station_pair.specs.Mending.{Mends, leads}
 use Rattle.station_pair.proofs.Keeps.{more}
-use Rattle.station_pair.proofs.Mending.{MendsIn, not_none, leads_append, waiting_mends, finishes_mends}
+use Rattle.station_pair.proofs.Mending.{not_none, leads_append, waiting_mends, finishes_mends}
 use Rattle.station_pair.proofs.Repeats.{again_fires}
 use Rattle.station_pair.proofs.Ticks.{leads_all}
 
@@ -64,7 +64,7 @@ leads_lacks v [] h = refl
 leads_lacks v (f ∷ fs) h =
     cond_both (v == f.0) (leads (v + 1) fs) (leads v fs) (λ t. t ≡ v) (λ e. absurd (h.0 (eqb-true v f.0 e))) (λ e. leads_lacks v fs h.1)
 
-lacks_push : (v : ℕ) (fs : List (ℕ × List ℕ)) (f : ℕ × List ℕ) → Lacks v fs → (v ≡ f.0 → ⊥) → Lacks v (fs ++ f ∷ [])
+pub lacks_push : (v : ℕ) (fs : List (ℕ × List ℕ)) (f : ℕ × List ℕ) → Lacks v fs → (v ≡ f.0 → ⊥) → Lacks v (fs ++ f ∷ [])
 lacks_push v [] f h n = (n, tt)
 lacks_push v (g ∷ fs) f h n = (h.0, lacks_push v fs f h.1 n)
 
@@ -101,7 +101,7 @@ module _ (v least : ℕ) (owed : Bool) (shows : List ℕ) (w : List Frame) where
   OutIn x = Out v least owed shows (infos (w ++ x.said)) x.acked x.sent
 
   -- a frame that is no I frame
-  puts_out : (x : Station) (f : Frame) → info_of f ≡ [] → OutIn x → OutIn (puts f x)
+  pub puts_out : (x : Station) (f : Frame) → info_of f ≡ [] → OutIn x → OutIn (puts f x)
   puts_out x f none h =
       subst (λ i. Out v least owed shows i x.acked x.sent)
       (sym (ap infos (sym (append_assoc w x.said (f ∷ []))) ∙ more info_of (w ++ x.said) f ∙ ap (λ t. infos (w ++ x.said) ++ t) none ∙ append-nil (infos (w ++ x.said)))) h

@@ -43,3 +43,5 @@ pub mod Filling
 pub mod FillCalls
 pub mod Calm
 pub mod Filled
+pub mod Asking
+pub mod AskCalls

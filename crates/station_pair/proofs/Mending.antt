@@ -31,7 +31,7 @@ waits_push m [] f h = absurd h
 waits_push m (g ∷ fs) f (inl e) = inl e
 waits_push m (g ∷ fs) f (inr h) = inr (waits_push m fs f h)
 
-waits_last : (m : ℕ) (fs : List (ℕ × List ℕ)) (p : List ℕ) → Waits m (fs ++ (m, p) ∷ [])
+pub waits_last : (m : ℕ) (fs : List (ℕ × List ℕ)) (p : List ℕ) → Waits m (fs ++ (m, p) ∷ [])
 waits_last m [] p = inl refl
 waits_last m (g ∷ fs) p = inr (waits_last m fs p)
 

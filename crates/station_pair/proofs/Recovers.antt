@@ -102,7 +102,7 @@ received_mends law selective k now w x f fs y b wide free h =
     rows : (selective : Bool) (k : ℕ) (w : List Frame) (x : Station) (f : Frame) (fs : List Frame) (y : Station) → Both selective k w x (f ∷ fs) y
         → (selective ≡ true → k ≡ x.window) → held_for (length x.taken) x.held ≡ None → Mends selective (w ++ x.said) x (f ∷ fs) y
         → MendsIn selective w (row_as selective Up x (shown x.extended f) (information f)) fs y
-    rows true k w x f fs y b wide free h = selective_mends k w x f fs y b (wide refl) free h
+    rows true k w x f fs y b wide free h = selective_mends k w w x f fs fs y b (wide refl) free h
     rows false k w x f fs y b wide free h = go_back_mends k w x f fs y y b h
 
 -- ---- the set-up frame comes to the called station

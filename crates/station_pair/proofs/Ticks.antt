@@ -41,7 +41,7 @@ waits_all low high m (f ∷ fs) above below h = elim (cases_lt low m) [
   | inr top ↦ inl (let e : low ≡ m = omega arith in h.0 ∙ e)
 ]
 
-comes_all : (selective : Bool) (low next high : ℕ) (held fs : List (ℕ × List ℕ)) → low ≤ next → next ≤ high → Consecutive low fs high → Comes selective next held fs high
+pub comes_all : (selective : Bool) (low next high : ℕ) (held fs : List (ℕ × List ℕ)) → low ≤ next → next ≤ high → Consecutive low fs high → Comes selective next held fs high
 comes_all true low next high held fs above below h = λ m from to. inr (waits_all low high m fs (omega arith) to h)
 comes_all false low next high held fs above below h = leads_all low next high fs above below h
 

@@ -102,9 +102,9 @@ pub fn recovery()
     frame_alone();
 }
 
-/// Two stations with go-back on a line that lost nothing so far: one frame is lost while two I frames or more wait from its end. REJ repairs that:
-/// once all that waits is given, each end took all that the other was handed, without an expiry of T1; the calling one where it was handed a payload
-/// itself.
+/// A line that lost nothing so far: one frame is lost while two I frames or more wait from its end. REJ repairs that, or SREJ with selective reject:
+/// once all that waits is given, each end took all that the other was handed, without an expiry of T1; the calling one where it was handed a
+/// payload itself.
 pub fn gaps_are_filled()
     ensures { GapsAreFilled }
 {
