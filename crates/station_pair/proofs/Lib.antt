@@ -41,3 +41,9 @@ pub mod Recovered
 pub mod MendCalls
 pub mod Starting
 pub mod StartingCalls
+pub mod Filling
+pub mod FillCalls
+pub mod Calm
+pub mod Filled
+pub mod Asking
+pub mod AskCalls

@@ -20,7 +20,7 @@ mends_swap selective lx x ly y h = (((h.0.1, h.1), h.0.0.0, h.0.3, h.0.2, h.0.5,
 
 -- ---- one I frame more
 
-leads_append : (next : ℕ) (fs gs : List (ℕ × List ℕ)) → leads next (fs ++ gs) ≡ leads (leads next fs) gs
+pub leads_append : (next : ℕ) (fs gs : List (ℕ × List ℕ)) → leads next (fs ++ gs) ≡ leads (leads next fs) gs
 leads_append next [] gs = refl
 leads_append next (f ∷ fs) gs =
     cond_both (next == f.0) (leads (next + 1) fs) (leads next fs) (λ t. (if next == f.0 then leads (next + 1) (fs ++ gs) else leads next (fs ++ gs)) ≡ leads t gs)
@@ -31,7 +31,7 @@ waits_push m [] f h = absurd h
 waits_push m (g ∷ fs) f (inl e) = inl e
 waits_push m (g ∷ fs) f (inr h) = inr (waits_push m fs f h)
 
-waits_last : (m : ℕ) (fs : List (ℕ × List ℕ)) (p : List ℕ) → Waits m (fs ++ (m, p) ∷ [])
+pub waits_last : (m : ℕ) (fs : List (ℕ × List ℕ)) (p : List ℕ) → Waits m (fs ++ (m, p) ∷ [])
 waits_last m [] p = inl refl
 waits_last m (g ∷ fs) p = inr (waits_last m fs p)
 
@@ -58,7 +58,7 @@ comes_first false next sent p held waits h =
     ∙ ap (λ (j : ℕ). leads j ((sent, p) ∷ [])) h
     ∙ ap (λ (b : Bool). if b then sent + 1 else sent) (eq-eqb sent sent refl)
 
-not_none : (fs : List (ℕ × List ℕ)) (f : ℕ × List ℕ) → fs ++ f ∷ [] ≡ [] → ⊥
+pub not_none : (fs : List (ℕ × List ℕ)) (f : ℕ × List ℕ) → fs ++ f ∷ [] ≡ [] → ⊥
 not_none [] f e = absurd cc
 not_none (g ∷ fs) f e = absurd cc
 

@@ -89,7 +89,7 @@ handed_reached Ticked selective false w now q x l y may is (inr (inr m)) = inr (
 
 -- ---- both are up: a frame comes
 
-received_mends : ControlReadsBack → (selective : Bool) (k now : ℕ) (w : List Frame) (x : Station) (f : Frame) (fs : List Frame) (y : Station) → Both selective k w x (f ∷ fs) y
+pub received_mends : ControlReadsBack → (selective : Bool) (k now : ℕ) (w : List Frame) (x : Station) (f : Frame) (fs : List Frame) (y : Station) → Both selective k w x (f ∷ fs) y
     → (selective ≡ true → k ≡ x.window) → held_for (length x.taken) x.held ≡ None → Mends selective (w ++ x.said) x (f ∷ fs) y
     → MendsIn selective w (receives_as selective now (found y f) x) fs y
 received_mends law selective k now w x f fs y b wide free h =
@@ -102,8 +102,8 @@ received_mends law selective k now w x f fs y b wide free h =
     rows : (selective : Bool) (k : ℕ) (w : List Frame) (x : Station) (f : Frame) (fs : List Frame) (y : Station) → Both selective k w x (f ∷ fs) y
         → (selective ≡ true → k ≡ x.window) → held_for (length x.taken) x.held ≡ None → Mends selective (w ++ x.said) x (f ∷ fs) y
         → MendsIn selective w (row_as selective Up x (shown x.extended f) (information f)) fs y
-    rows true k w x f fs y b wide free h = selective_mends k w x f fs y b (wide refl) free h
-    rows false k w x f fs y b wide free h = go_back_mends k w x f fs y b h
+    rows true k w x f fs y b wide free h = selective_mends k w w x f fs fs y b (wide refl) free h
+    rows false k w x f fs y b wide free h = go_back_mends k w x f fs y y b h
 
 -- ---- the set-up frame comes to the called station
 

@@ -27,7 +27,7 @@ all_push n m (x ∷ xs) h e = (h.0, all_push n m xs h.1 e)
 
 -- ---- what it sends
 
-again_fires : (x : Station) (n : ℕ) → Consecutive x.acked (infos (frames_again n x)) (x.acked + n) × AllAre (length x.taken) (numbers (frames_again n x)) × AllExchange (frames_again n x)
+pub again_fires : (x : Station) (n : ℕ) → Consecutive x.acked (infos (frames_again n x)) (x.acked + n) × AllAre (length x.taken) (numbers (frames_again n x)) × AllExchange (frames_again n x)
 again_fires x zero = (omega arith, tt, tt)
 again_fires x (suc n) =
     let f : Frame = info_at x (x.acked + n) in

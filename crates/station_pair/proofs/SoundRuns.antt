@@ -222,7 +222,7 @@ module _ (wd : ℕ) where
 
 -- ---- a link that was just opened
 
-wide_at : (selective extended : Bool) (window : ℕ) → selective ≡ true → span_of selective extended window ≡ window
+pub wide_at : (selective extended : Bool) (window : ℕ) → selective ≡ true → span_of selective extended window ≡ window
 wide_at true extended window e = refl
 wide_at false extended window e = absurd cc
 

@@ -24,7 +24,7 @@ consecutive_le : (low high : ℕ) (fs : List (ℕ × List ℕ)) → Consecutive 
 consecutive_le low high [] h = omega (arith, h)
 consecutive_le low high (f ∷ fs) h = omega (arith, consecutive_le (low + 1) high fs h.1)
 
-leads_all : (low next high : ℕ) (fs : List (ℕ × List ℕ)) → low ≤ next → next ≤ high → Consecutive low fs high → leads next fs ≡ high
+pub leads_all : (low next high : ℕ) (fs : List (ℕ × List ℕ)) → low ≤ next → next ≤ high → Consecutive low fs high → leads next fs ≡ high
 leads_all low next high [] above below h = omega (arith, h)
 leads_all low next high (f ∷ fs) above below h =
     let le = consecutive_le (low + 1) high fs h.1 in
@@ -41,7 +41,7 @@ waits_all low high m (f ∷ fs) above below h = elim (cases_lt low m) [
   | inr top ↦ inl (let e : low ≡ m = omega arith in h.0 ∙ e)
 ]
 
-comes_all : (selective : Bool) (low next high : ℕ) (held fs : List (ℕ × List ℕ)) → low ≤ next → next ≤ high → Consecutive low fs high → Comes selective next held fs high
+pub comes_all : (selective : Bool) (low next high : ℕ) (held fs : List (ℕ × List ℕ)) → low ≤ next → next ≤ high → Consecutive low fs high → Comes selective next held fs high
 comes_all true low next high held fs above below h = λ m from to. inr (waits_all low high m fs (omega arith) to h)
 comes_all false low next high held fs above below h = leads_all low next high fs above below h
 

@@ -155,3 +155,28 @@ lost_reject = (refl, refl)
 pub lost_both_ways : of_both (Drain 4 ∷ Send E (1 ∷ []) ∷ Drain 4 ∷ Send R (2 ∷ []) ∷ Send E (3 ∷ []) ∷ Lose R ∷ Lose E ∷ []) (CameUp R ∷ CameUp E ∷ Drained 2 ∷ Accepted R (1 ∷ []) ∷ Drained 2 ∷ Accepted R (3 ∷ []) ∷ Accepted E (2 ∷ []) ∷ Drained 4 ∷ [], (0, 0))
 unfolding frames_of between_flags all_but_last cut verdict_on verdict_on_content checked_part check_number unescaped ends_in_escape spelling escaped escaped_octet content_of control_of fcs_of fcs_bits dividend remainder divided_once add_front sent_bits low_bits low_number
 lost_both_ways = (refl, refl)
+
+-- ---- a frame is lost before others: with go-back, then with selective reject, it is asked for at once, and no moment comes
+
+abbrev filled : (selective : Bool) → List LinkStep → List Came × (ℕ × ℕ)
+filled selective steps = told (opened selective false 4 5 1000 0) (steps ++ Drain 30 ∷ [])
+
+abbrev of_both_filled : List LinkStep → List Came × (ℕ × ℕ) → Type 0
+of_both_filled steps told = (filled false steps ≡ told) × (filled true steps ≡ told)
+
+-- the first of three. With go-back two frames pass, REJ, three frames that are sent again, the RR that said V(R) once more, and three RR; with selective
+-- reject two frames that are held, SREJ, the frame again, and RR
+pub filled_calling : (filled false (Drain 4 ∷ Send E (1 ∷ []) ∷ Send E (2 ∷ []) ∷ Send E (3 ∷ []) ∷ Lose E ∷ []) ≡ (CameUp R ∷ CameUp E ∷ Drained 2 ∷ Accepted R (1 ∷ []) ∷ Accepted R (2 ∷ []) ∷ Accepted R (3 ∷ []) ∷ Drained 10 ∷ [], (0, 0))) × (filled true (Drain 4 ∷ Send E (1 ∷ []) ∷ Send E (2 ∷ []) ∷ Send E (3 ∷ []) ∷ Lose E ∷ []) ≡ (CameUp R ∷ CameUp E ∷ Drained 2 ∷ Accepted R (1 ∷ []) ∷ Accepted R (2 ∷ []) ∷ Accepted R (3 ∷ []) ∷ Drained 5 ∷ [], (0, 0)))
+unfolding frames_of between_flags all_but_last cut verdict_on verdict_on_content checked_part check_number unescaped ends_in_escape spelling escaped escaped_octet content_of control_of fcs_of fcs_bits dividend remainder divided_once add_front sent_bits low_bits low_number
+filled_calling = (refl, refl)
+
+-- the first of two at the called station, which took a payload before. With go-back a frame passes, REJ, and two frames that are sent again, each
+-- with its RR; with selective reject a frame that is held, SREJ, the frame again, and RR
+pub filled_called : (filled false (Drain 4 ∷ Send E (1 ∷ []) ∷ Drain 4 ∷ Send R (2 ∷ []) ∷ Send R (3 ∷ []) ∷ Lose R ∷ []) ≡ (CameUp R ∷ CameUp E ∷ Drained 2 ∷ Accepted R (1 ∷ []) ∷ Drained 2 ∷ Accepted E (2 ∷ []) ∷ Accepted E (3 ∷ []) ∷ Drained 6 ∷ [], (0, 0))) × (filled true (Drain 4 ∷ Send E (1 ∷ []) ∷ Drain 4 ∷ Send R (2 ∷ []) ∷ Send R (3 ∷ []) ∷ Lose R ∷ []) ≡ (CameUp R ∷ CameUp E ∷ Drained 2 ∷ Accepted R (1 ∷ []) ∷ Drained 2 ∷ Accepted E (2 ∷ []) ∷ Accepted E (3 ∷ []) ∷ Drained 4 ∷ [], (0, 0)))
+unfolding frames_of between_flags all_but_last cut verdict_on verdict_on_content checked_part check_number unescaped ends_in_escape spelling escaped escaped_octet content_of control_of fcs_of fcs_bits dividend remainder divided_once add_front sent_bits low_bits low_number
+filled_called = (refl, refl)
+
+-- the RR before two I frames: they show V(R) too, so nothing is asked for. Two frames pass, each with its RR
+pub filled_ready : of_both_filled (Drain 4 ∷ Send E (1 ∷ []) ∷ Pass E ∷ Send R (2 ∷ []) ∷ Send R (3 ∷ []) ∷ Lose R ∷ []) (CameUp R ∷ CameUp E ∷ Drained 2 ∷ Accepted R (1 ∷ []) ∷ Accepted E (2 ∷ []) ∷ Accepted E (3 ∷ []) ∷ Drained 4 ∷ [], (0, 0))
+unfolding frames_of between_flags all_but_last cut verdict_on verdict_on_content checked_part check_number unescaped ends_in_escape spelling escaped escaped_octet content_of control_of fcs_of fcs_bits dividend remainder divided_once add_front sent_bits low_bits low_number
+filled_ready = (refl, refl)

@@ -6,6 +6,7 @@ pub mod Flowing
 pub mod Keeping
 pub mod LossFree
 pub mod Recovery
+pub mod Filling
 pub mod Timers
 pub mod Mending
 pub mod Repairs

@@ -1,6 +1,7 @@
 //! What holds of two stations over two lines, as facts that a caller can cite.
 
 ghost use Rattle.station_pair.specs.Keeping.{CallsKeep, FramesGive, PhasesStay, ReceivesTell, TicksTell};
+ghost use Rattle.station_pair.specs.Filling.{GapsAreFilled};
 ghost use Rattle.station_pair.specs.LossFree.{FlowBounds, FlowKeeps};
 ghost use Rattle.station_pair.specs.Recovery.{DrainEmptiesLive, PassesBound, PassesRelease, Recovery};
 ghost use Rattle.station_pair.specs.Repairs.{MendEnds, MendKeeps};
@@ -95,6 +96,17 @@ pub fn loss_free_keeps()
 pub fn recovery()
     ensures recovered { Recovery }
     ensures live { PassesRelease }
+{
+    control_reads_back();
+    flag_parts();
+    frame_alone();
+}
+
+/// A line that lost nothing so far: one frame is lost while two I frames or more wait from its end. REJ repairs that, or SREJ with selective reject:
+/// once all that waits is given, each end took all that the other was handed, without an expiry of T1; the calling one where it was handed a
+/// payload itself.
+pub fn gaps_are_filled()
+    ensures { GapsAreFilled }
 {
     control_reads_back();
     flag_parts();
