@@ -31,15 +31,11 @@ or_right : (b c : Bool) → c ≡ true → (b || c) ≡ true
 or_right true c h = refl
 or_right false c h = h
 
-or_none : (b : Bool) → (b || false) ≡ b
+pub or_none : (b : Bool) → (b || false) ≡ b
 or_none true = refl
 or_none false = refl
 
 -- a frame that was sent before is an I frame
-again_or : (b c d : Bool) → (c ≡ true → d ≡ true) → (b || c) ≡ true → (b || d) ≡ true
-again_or true c d h e = refl
-again_or false c d h e = h e
-
 info_again : (sent : ℕ) (fs : List Frame) → list_any (is_again sent) fs ≡ true → list_any is_info fs ≡ true
 info_again sent [] h = absurd cc
 info_again sent (Info ns nr payload ∷ fs) h = refl
@@ -93,7 +89,7 @@ kept p x y t s a e calm = record {
   released = λ live down. absurd (live (sym e ∙ down));
 }
 
--- T1 stops, or stands as it was and stops where it may, in another phase
+-- the phase is another one: T1 stops, or a called station came up and T1 is as it was
 pub turned : (p : Phase) (x y : Station) → (y.timer ≡ None) ⊎ ((y.timer ≡ x.timer) × (p ≡ Idle) × (y.phase ≡ Up)) → y.sent ≡ x.sent → y.acked ≡ x.acked
     → (y.phase ≡ p → ⊥) → Calm y.said → At p x y
 turned p x y t s a other calm = record {

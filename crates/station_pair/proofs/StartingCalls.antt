@@ -1,5 +1,5 @@
 -- T1 behind each call of a station of either kind, by what the call says.
-use Rattle.std.proofs.Common.{if◌then◌else◌, ◌≡◌, inl, inr, ℕ, ◌+◌, ◌-◌, ◌%◌, ◌<◌, Bool, true, false, ◌||◌, List, [], ◌∷◌, ◌++◌, length, map, Option, Some, None, refl, sym, ap, subst, ◌∙◌, arith, true≢false, ltb-true}
+use Rattle.std.proofs.Common.{if◌then◌else◌, ◌≡◌, inl, inr, ℕ, ◌+◌, ◌-◌, ◌%◌, ◌<◌, Bool, true, false, List, [], ◌∷◌, ◌++◌, length, map, Option, Some, None, refl, sym, ap, subst, ◌∙◌, arith, true≢false, ltb-true}
 use Rattle.std.specs.Prelude.{◌==◌, nat_lt}
 use Rattle.std.proofs.lemmas.Bool.{cond_both, lt-ltb}
 use Rattle.er_base.specs.declared.cause.Cause.{Cause}
@@ -19,7 +19,7 @@ use Rattle.station_model.specs.Calls.{starts_at, starts, hands, finishes, ticks,
 use Rattle.station_pair.specs.Timers.{StartsTimer, TimersStart}
 use Rattle.station_pair.proofs.Hearing.{hears_as, received}
 use Rattle.station_pair.proofs.SelectiveRows.{named_at}
-use Rattle.station_pair.proofs.Starting.{Calm, calm_behind, calm_none, any_behind, again_found, At, kept, turned, anew, repeated, progressed, none_sent, all_sent}
+use Rattle.station_pair.proofs.Starting.{Calm, calm_behind, calm_none, any_behind, or_none, again_found, At, kept, turned, anew, repeated, progressed, none_sent, all_sent}
 
 -- ---- rules that don't repeat a frame
 
@@ -51,7 +51,7 @@ came poll x c = turned Idle x (agrees poll (comes_up x)) (inr (refl, refl, refl)
 
 -- ---- a number, and what stands behind it
 
--- it names n
+-- N(R) names n
 abbrev Names : ℕ → Station → ℕ → Type 0
 Names nr x n = named x.extended x.acked (x.sent - x.acked) nr ≡ Some n
 
@@ -164,10 +164,6 @@ filed nr n (Some m) payload x e c is =
     (λ behind. cond_both (is_found (held_for m t.held)) (says_next t) (holds m payload t) (At Up x)
     (λ held. told nr n x (says_next t) is refl refl refl e refl refl (calm_behind x.said (Rr (length x.taken) ∷ []) c (refl, refl)))
     (λ new. told nr n x (holds m payload t) is refl refl refl e refl refl (calm_behind x.said (map Srej (missing_below m t)) c (calm_asked (missing_below m t)))))
-
-or_none : (b : Bool) → (b || false) ≡ b
-or_none true = refl
-or_none false = refl
 
 again_at : (nr : ℕ) (o : Option ℕ) (x : Station) → x.phase ≡ Up → x.said ≡ [] → x.acked < x.sent → named x.extended x.acked (x.sent - x.acked - 1) nr ≡ o → At Up x (repeats_at o x)
 again_at nr None x e c some is = strayed Up x e c
