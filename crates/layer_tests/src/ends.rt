@@ -108,6 +108,26 @@ impl Side {
         let _full = self.sent.try_extend_from_slice(deeds.out);
         tell(self.name, &deeds, told);
     }
+
+    // Its first frame that waits is lost.
+    fn loses(&mut self) {
+        let frame = first_waiting(self.sent.as_slice(), self.passed);
+        self.passed = self.passed.saturating_add(frame.len());
+    }
+
+    fn plays(&mut self, call: &[u8], word: &[u8], told: &mut Told) {
+        if call == b"send".as_slice() {
+            self.sends(word, told);
+        } else if call == b"take".as_slice() {
+            self.takes(told);
+        } else if call == b"release".as_slice() {
+            self.leaves(told);
+        } else if call == b"lose".as_slice() {
+            self.loses();
+        } else {
+            self.ticks(decimal(word).unwrap_or(0), told);
+        }
+    }
 }
 
 impl Wired {
@@ -201,27 +221,22 @@ fn tell_refusal(refused: SendRefused, told: &mut Told) {
     }
 }
 
+// The next word of a line, nothing at its end, and what follows it.
+fn cut(line: &[u8]) -> (&[u8], &[u8]) {
+    match next_word(line) {
+        Some(found) => found,
+        None => (&[], &[]),
+    }
+}
+
 // Plays a line on two ends.
 fn play(wired: &mut Wired, line: &[u8], told: &mut Told) {
-    let (call, rest) = next_word(line).unwrap_or((b"drain", &[]));
-    let (name, rest) = next_word(rest).unwrap_or((b"e", &[]));
-    let (word, _) = next_word(rest).unwrap_or((&[], &[]));
+    let (call, behind) = cut(line);
     if call == b"drain".as_slice() {
         wired.drain(told);
-        return;
-    }
-    let side = wired.side(name);
-    if call == b"send".as_slice() {
-        side.sends(word, told);
-    } else if call == b"take".as_slice() {
-        side.takes(told);
-    } else if call == b"release".as_slice() {
-        side.leaves(told);
-    } else if call == b"lose".as_slice() {
-        let frame = first_waiting(side.sent.as_slice(), side.passed);
-        side.passed = side.passed.saturating_add(frame.len());
     } else {
-        side.ticks(decimal(word).unwrap_or(0), told);
+        let (name, rest) = cut(behind);
+        wired.side(name).plays(call, cut(rest).0, told);
     }
 }
 

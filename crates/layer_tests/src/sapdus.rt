@@ -1,8 +1,7 @@
-ghost use Rattle.std.specs.Prelude.{◌≡◌, ◌≤◌};
 ghost use Rattle.sapdu.specs.Spelling.{HasUserOctets, HasNumber};
 ghost use Rattle.sapdu.specs.Reading.{view};
 
-use er_base::{Room, decimal, octets_of};
+use er_base::{NoMemory, Room, decimal, octets_of};
 use sapdu::{MOST_OCTETS, SaPdu, SealedText, is_message, laws, peers_di, read, write_into};
 use std::alloc::Global;
 use std::test::Fail;
@@ -30,22 +29,20 @@ const RB: u64 = 0x0102_0304_0506_0708;
 const MAC: u64 = 0x2122_2324_2526_2728;
 
 // Whether the octets are read as this SaPDU, and it is written as these octets.
-fn is_spelled(octets: &[u8], pdu: &SaPdu, flag: bool, room: &mut Room) -> bool
+fn is_spelled(alloc: Global, octets: &[u8], pdu: &SaPdu, flag: bool) -> Result<bool, NoMemory>
     requires user { HasUserOctets (view pdu.now) }
     requires number { HasNumber (view pdu.now) }
-    requires room { 1032 ≤ room.old.capacity }
-    ensures { room.new.capacity ≡ room.old.capacity }
 {
-    room.clear();
+    if read(octets) != Ok((*pdu, flag)) {
+        return Ok(false);
+    }
+    let mut out = Room::with_capacity(alloc, MOST_OCTETS)?;
     laws::lengths_of_spellings();
-    write_into(pdu, flag, room);
-    read(octets) == Ok((*pdu, flag)) && room.held() == octets
+    write_into(pdu, flag, &mut out);
+    Ok(out.held() == octets)
 }
 
-fn spells_set_ups(room: &mut Room) -> bool
-    requires { 1032 ≤ room.old.capacity }
-    ensures { room.new.capacity ≡ room.old.capacity }
-{
+fn spells_set_ups(alloc: Global) -> Result<bool, NoMemory> {
     let au1 = SaPdu::Au1 {
         id: 5,
         feature: 1,
@@ -57,26 +54,24 @@ fn spells_set_ups(room: &mut Room) -> bool
         ra: RA,
         mac: MAC,
     };
-    is_spelled(AU1, &au1, false, room)
-        && is_spelled(AU2, &au2, true, room)
-        && is_spelled(AU3, &SaPdu::Au3 { mac: MAC }, false, room)
-        && is_spelled(AR, &SaPdu::Ar { mac: MAC }, true, room)
+    let spells_au1 = is_spelled(alloc, AU1, &au1, false)?;
+    let spells_au2 = is_spelled(alloc, AU2, &au2, true)?;
+    let spells_au3 = is_spelled(alloc, AU3, &SaPdu::Au3 { mac: MAC }, false)?;
+    let spells_ar = is_spelled(alloc, AR, &SaPdu::Ar { mac: MAC }, true)?;
+    Ok(spells_au1 && spells_au2 && spells_au3 && spells_ar)
 }
 
-fn spells_messages(room: &mut Room) -> bool
-    requires { 1032 ≤ room.old.capacity }
-    ensures { room.new.capacity ≡ room.old.capacity }
-{
+fn spells_messages(alloc: Global) -> Result<bool, NoMemory> {
     let user = b"ab";
-    is_spelled(DT, &SaPdu::Dt { user, mac: MAC }, false, room)
-        && is_spelled(DI, &SaPdu::Di { reason: 4, sub: 1 }, true, room)
+    let spells_dt = is_spelled(alloc, DT, &SaPdu::Dt { user, mac: MAC }, false)?;
+    let spells_di = is_spelled(alloc, DI, &SaPdu::Di { reason: 4, sub: 1 }, true)?;
+    Ok(spells_dt && spells_di)
 }
 
 #[test]
 fn reads_and_writes_each_kind(rt: HostRuntime) -> Result<(), Fail> {
-    let mut room = Room::with_capacity(rt.alloc(), MOST_OCTETS)?;
-    assert!(rt; spells_set_ups(&mut room));
-    assert!(rt; spells_messages(&mut room));
+    assert!(rt; spells_set_ups(rt.alloc())?);
+    assert!(rt; spells_messages(rt.alloc())?);
     Ok(())
 }
 

@@ -2,9 +2,9 @@
 
 use crate::lines::lines_of;
 use crate::script::Script;
-use crate::serving::{Ran, served};
+use crate::serving::{Ran, bring, served};
 use crate::train::{keys, trains};
-use er_base::{NoMemory, Octets};
+use er_base::NoMemory;
 use key_store::KeyStore;
 use link_trait::Act;
 use readiness_loop::LoopFault;
@@ -37,13 +37,7 @@ fn copies(alloc: Global, acts: &[Act]) -> Result<Vec<Act>, NoMemory> {
     let mut copies = Vec::new(alloc);
     for act in acts {
         match act {
-            Act::Bring { conn, octets } => {
-                let octets = Octets::new(Vec::from_slice(alloc, octets.as_slice())?);
-                copies.push(Act::Bring {
-                    conn: *conn,
-                    octets,
-                })?;
-            }
+            Act::Bring { conn, octets } => copies.push(bring(alloc, *conn, octets.as_slice())?)?,
             _ => copies.push(Act::Accept)?,
         }
     }

@@ -113,7 +113,8 @@ fn full_wires(alloc: Global) -> Result<MemoryWires, NoMemory> {
     let mut acts = Vec::new(alloc);
     acts.push(Act::Accept)?;
     acts.push(bring(alloc, 1, octets.as_slice())?)?;
-    MemoryWires::new(alloc, acts, 0, 1_000, 10_000_000)
+    let wires = MemoryWires::new(alloc, acts, 0, 1_000, 10_000_000)?;
+    Ok(wires)
 }
 
 // What is printed of that peer.

@@ -152,7 +152,8 @@ fn acts(alloc: Global, keys: &KeyStore) -> Result<Vec<Act>, NoMemory> {
     for _ in 0..ROUNDS {
         script.speak(alloc, keys, 0, &mut trains)?;
     }
-    Ok(script.acts)
+    let Script { acts, .. } = script;
+    Ok(acts)
 }
 
 // What is printed of the train and this user, while what happens is written down.
