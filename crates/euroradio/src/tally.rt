@@ -2,7 +2,7 @@
 
 use crate::ears::Ears;
 use er_base::{NoMemory, decimal, next_word};
-use memchr::memchr_iter;
+use memchr::{memchr, memchr_iter};
 use std::alloc::Global;
 
 // The most releases of different reasons that are counted apart.
@@ -59,7 +59,7 @@ impl Tally {
         })
     }
 
-    /// Counts what the lines of a piece tell. A piece is whole lines.
+    /// Counts what the lines of a piece tell. A piece is whole lines, as the program prints them: with one space between words.
     pub(crate) fn hear(&mut self, piece: &[u8]) {
         let mut from = 0_usize;
         for end in memchr_iter(b'\n', piece) {
@@ -69,54 +69,47 @@ impl Tally {
     }
 
     fn line(&mut self, line: &[u8]) {
-        match next_word(line) {
-            Some((b">", rest)) => self.event(rest),
-            Some((b"<", rest)) => self.outcome(rest),
+        match line.split_at_checked(2) {
+            Some((b"> ", words)) => self.event(words),
+            Some((b"< ", words)) => self.outcome(words),
             _ => {}
         }
     }
 
     // An event: its moment, its connection and what it is.
     fn event(&mut self, words: &[u8]) {
-        let Some((_moment, rest)) = next_word(words) else {
+        let (conn, rest) = number(behind_word(words));
+        // Most are of this kind.
+        if let Some((b"octets ", digits)) = rest.split_at_checked(7) {
+            self.ears.hear(conn, digits);
             return;
-        };
-        let Some((conn, rest)) = next_word(rest) else {
-            return;
-        };
-        let Some((word, rest)) = next_word(rest) else {
-            return;
-        };
-        match word {
-            b"call" | b"answer" => {
+        }
+        match next_word(rest) {
+            Some((b"call" | b"answer", _)) => {
                 self.connections = self.connections.saturating_add(1);
-                self.ears.open(decimal(conn));
+                self.ears.open(conn);
             }
-            b"full" | b"unserved" => self.turned_away = self.turned_away.saturating_add(1),
-            b"send" => self.said = self.said.saturating_add(1),
-            b"octets" => {
-                if let Some((b" ", digits)) = rest.split_at_checked(1) {
-                    self.ears.hear(decimal(conn), digits);
-                }
+            Some((b"full" | b"unserved", _)) => {
+                self.turned_away = self.turned_away.saturating_add(1)
             }
+            Some((b"send", _)) => self.said = self.said.saturating_add(1),
             _ => {}
         }
     }
 
     // An outcome: its connection and what it is.
     fn outcome(&mut self, words: &[u8]) {
-        let Some((conn, rest)) = next_word(words) else {
+        let (conn, rest) = number(words);
+        // Most are of this kind.
+        if let Some((b"octets ", _)) = rest.split_at_checked(7) {
             return;
-        };
-        let Some((word, rest)) = next_word(rest) else {
-            return;
-        };
-        match word {
-            b"connected" => self.connected = self.connected.saturating_add(1),
-            b"accepted" => self.accepted = self.accepted.saturating_add(1),
-            b"refused" => self.refused = self.refused.saturating_add(1),
-            b"released" => {
-                self.ears.close(decimal(conn));
+        }
+        match next_word(rest) {
+            Some((b"connected", _)) => self.connected = self.connected.saturating_add(1),
+            Some((b"accepted", _)) => self.accepted = self.accepted.saturating_add(1),
+            Some((b"refused", _)) => self.refused = self.refused.saturating_add(1),
+            Some((b"released", rest)) => {
+                self.ears.close(conn);
                 self.release(rest);
             }
             _ => {}
@@ -151,4 +144,24 @@ impl Tally {
             let _room = self.releases.push(Releases { release, count: 1 });
         }
     }
+}
+
+// What stands behind the first word and its space.
+fn behind_word(words: &[u8]) -> &[u8] {
+    match memchr(b' ', words) {
+        Some(place) => words.get(place.saturating_add(1)..).unwrap_or(&[]),
+        None => &[],
+    }
+}
+
+// The number that is the first word, and what stands behind that word and its space.
+fn number(words: &[u8]) -> (u64, &[u8]) {
+    let mut number = 0_u64;
+    for (place, octet) in words.iter().enumerate() {
+        if *octet == b' ' {
+            return (number, words.get(place.saturating_add(1)..).unwrap_or(&[]));
+        }
+        number = number.wrapping_mul(10).wrapping_add(u64::from(*octet & 15));
+    }
+    (number, &[])
 }
