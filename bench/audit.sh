@@ -20,8 +20,8 @@ trap 'rm -rf "$work"' EXIT
 mac=none
 compiler=${CC:-cc}
 if command -v "$compiler" > /dev/null; then
-  (cd crates/cbc_mac_c && rt lib > "$work/log" 2>&1) || { cat "$work/log"; exit 1; }
-  "$compiler" -O2 -Wall -Wextra -o "$work/mac" bench/stack_mac.c crates/cbc_mac_c/out/libcbc_mac_c.a && mac=$work/mac
+  (cd crates/bench_c && rt lib > "$work/log" 2>&1) || { cat "$work/log"; exit 1; }
+  "$compiler" -O2 -Wall -Wextra -o "$work/mac" bench/stack_mac.c crates/bench_c/out/libbench_c.a && mac=$work/mac
 fi
 
 python3 - "$program" "$mac" "$work" << 'PY'

@@ -13,7 +13,7 @@
 #include <time.h>
 
 /* Of the library: the number of frames in a line that is read in pieces of so many bits. */
-extern uint64_t hdlc_bits_c_count(const uint8_t *line, size_t length, uint32_t piece);
+extern uint64_t bench_c_bit_frames(const uint8_t *line, size_t length, uint32_t piece);
 
 #define MOST_BITS 8256
 #define CAPACITY 8320
@@ -206,7 +206,7 @@ int main(void) {
       /* by turns, so that both meet the same machine */
       for (int round = 0; round < ROUNDS; round++) {
         double one = rate(plain_count, line, length, pieces[k], &expected);
-        double other = rate(hdlc_bits_c_count, line, length, pieces[k], &frames);
+        double other = rate(bench_c_bit_frames, line, length, pieces[k], &frames);
         if (one > plain)
           plain = one;
         if (other > ours)

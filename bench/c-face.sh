@@ -1,9 +1,9 @@
 #!/usr/bin/env bash
 # What the library for C costs beside the same in Rattle: bash bench/c-face.sh
-# Two ends wired to each other, by bench/c_face.c and by the crate stack_bench, which do the same calls and must print the same line: messages of 24,
+# Two ends wired to each other, by bench/c_face.c and by the crate bench, which do the same calls and must print the same line: messages of 24,
 # 114 and 1,023 octets, both ends, their acknowledgements and takes. The two run in turns, nine times each; the best of each is told in
 # microseconds of processor time a message, and the ratio. A message of 24 octets may cost at most 1.1 times what it does in Rattle: the status is 1
-# where it costs more. Then what making and freeing an end costs. LIBRARY names a library that is built already, STACK_BENCH a program.
+# where it costs more. Then what making and freeing an end costs. LIBRARY names a library that is built already, BENCH a program of that crate.
 # Wants `rt`, a C compiler and python3; says so, and ends well, where one is missing. Run it while little else runs.
 set -eu
 cd "$(dirname "$0")/.."
@@ -23,11 +23,11 @@ if [ -z "$library" ]; then
   build er_end_c rt lib
   library=$PWD/crates/er_end_c/out/liber_end_c.a
 fi
-rattle=${STACK_BENCH:-}
+rattle=${BENCH:-}
 if [ -z "$rattle" ]; then
-  rattle=$PWD/crates/stack_bench/out/stack_bench
+  rattle=$PWD/crates/bench/out/bench
   rm -f "$rattle"
-  build stack_bench rt run -- 24 8 1
+  build bench rt run -- ends 24 8 1
 fi
 "$compiler" -std=c99 -O2 -Wall -Wextra -Iinclude -o "$work/c_face" bench/c_face.c memory/euroradio_heap.c "$library"
 
@@ -37,7 +37,7 @@ rattle, face = sys.argv[1:]
 
 def run(program, words):
     before = resource.getrusage(resource.RUSAGE_CHILDREN)
-    text = subprocess.run([program] + [str(word) for word in words], stdout=subprocess.PIPE, check=True).stdout.decode()
+    text = subprocess.run(program + [str(word) for word in words], stdout=subprocess.PIPE, check=True).stdout.decode()
     after = resource.getrusage(resource.RUSAGE_CHILDREN)
     return after.ru_utime + after.ru_stime - before.ru_utime - before.ru_stime, text
 
@@ -45,7 +45,7 @@ def both(words):
     """The least seconds of each, and the line that both print."""
     best, lines = [9e9, 9e9], set()
     for _ in range(9):
-        for at, program in enumerate((rattle, face)):
+        for at, program in enumerate(([rattle, "ends"], [face])):
             seconds, text = run(program, words)
             best[at] = min(best[at], seconds)
             lines.add(text)

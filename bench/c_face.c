@@ -1,4 +1,4 @@
-/* Two ends of the library for C, wired to each other: what the crate stack_bench does in Rattle, call by call, with the
+/* Two ends of the library for C, wired to each other: what the crate bench does in Rattle, call by call, with the
  * same arguments and the same printed line, so that the two can be compared:
  *
  *     c_face LENGTH COUNT TIMES SIZE MODULO WINDOW

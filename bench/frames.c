@@ -13,7 +13,7 @@
 #include <time.h>
 
 /* Of the library: the number of frames in a stream that is read in pieces. */
-extern uint64_t hdlc_frames_c_count(const uint8_t *stream, size_t length, uint32_t piece);
+extern uint64_t bench_c_frames(const uint8_t *stream, size_t length, uint32_t piece);
 
 #include "plain_deframer.h"
 
@@ -115,7 +115,7 @@ int main(void) {
       /* by turns, so that both meet the same machine */
       for (int round = 0; round < ROUNDS; round++) {
         double one = rate(plain_count, stream, length, pieces[k], &expected);
-        double other = rate(hdlc_frames_c_count, stream, length, pieces[k], &frames);
+        double other = rate(bench_c_frames, stream, length, pieces[k], &frames);
         if (one > plain)
           plain = one;
         if (other > ours)

@@ -26,9 +26,9 @@ command -v "$compiler" >/dev/null || leave "there is no C compiler"
 log=$(mktemp)
 build=$(mktemp -d)
 trap 'rm -rf "$log" "$build"' EXIT
-if ! (cd crates/hdlc_frames_c && rt lib) >"$log" 2>&1; then
+if ! (cd crates/bench_c && rt lib) >"$log" 2>&1; then
     cat "$log"
     exit 1
 fi
-"$compiler" -O2 -Wall -Wextra -o "$build/frames" bench/frames.c crates/hdlc_frames_c/out/libhdlc_frames_c.a
+"$compiler" -O2 -Wall -Wextra -o "$build/frames" bench/frames.c crates/bench_c/out/libbench_c.a
 "$build/frames"

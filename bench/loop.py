@@ -38,7 +38,7 @@ class Rounds:
 
     def __init__(self, trains, reports, times):
         self.echoes, self.times, self.count, self.seconds = trains * reports, times, 0, []
-        words = [bench, str(trains), str(reports), str(times), str(ROUNDS + 2)]
+        words = [bench, "trains", str(trains), str(reports), str(times), str(ROUNDS + 2)]
         self.child = subprocess.Popen(words, stdout=subprocess.PIPE)
         self.used, self.first = 0, None
         self.go_on()
@@ -76,7 +76,7 @@ def memory(child):
 
 def took(trains):
     """The most KiB that a run took until each train had one report said back."""
-    with subprocess.Popen([bench, str(trains), "1", "0", str(2**60)], stdout=subprocess.PIPE) as child:
+    with subprocess.Popen([bench, "trains", str(trains), "1", "0", str(2**60)], stdout=subprocess.PIPE) as child:
         child.stdout.readline()
         most = memory(child)["VmHWM"]
         child.kill()

@@ -26,9 +26,9 @@ build() {
 if [ -n "${PROGRAM:-}" ]; then
   in_memory=none
 else
-  build loop_bench 1 1 0
+  build bench trains 1 1 0
   build euroradio drill ../../examples/two-way.drill
-  in_memory=$PWD/crates/loop_bench/out/loop_bench
+  in_memory=$PWD/crates/bench/out/bench
 fi
 
 floor=none

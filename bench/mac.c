@@ -13,8 +13,8 @@
 #include <string.h>
 #include <time.h>
 
-uint64_t cbc_mac_c_mac(uint64_t first, uint64_t second, uint64_t third, const uint8_t *text, size_t length);
-uint64_t cbc_mac_c_many(uint64_t first, uint64_t second, uint64_t third, const uint8_t *texts, size_t length, size_t size);
+uint64_t bench_c_mac(uint64_t first, uint64_t second, uint64_t third, const uint8_t *text, size_t length);
+uint64_t bench_c_macs(uint64_t first, uint64_t second, uint64_t third, const uint8_t *texts, size_t length, size_t size);
 
 enum { TEXTS = 1 << 20, PASSES = 4, ROUNDS = 9 };
 
@@ -65,11 +65,11 @@ static uint64_t botan_text(const uint8_t *text, size_t size, int with_key) {
 static uint64_t ours_each(size_t size) {
     uint64_t all = 0;
     for (size_t at = 0; at + size <= TEXTS; at += size)
-        all ^= cbc_mac_c_mac(FIRST, SECOND, FIRST, texts + at, size);
+        all ^= bench_c_mac(FIRST, SECOND, FIRST, texts + at, size);
     return all;
 }
 
-static uint64_t ours_once(size_t size) { return cbc_mac_c_many(FIRST, SECOND, FIRST, texts, TEXTS, size); }
+static uint64_t ours_once(size_t size) { return bench_c_macs(FIRST, SECOND, FIRST, texts, TEXTS, size); }
 
 static uint64_t openssl_all(size_t size, int with_key) {
     uint64_t all = 0;
@@ -133,9 +133,9 @@ int main(void) {
 
     const size_t sizes[3] = {64, 256, 1024};
     for (int i = 0; i < 3; i++) {
-        if (cbc_mac_c_mac(FIRST, SECOND, FIRST, texts, sizes[i]) != botan_text(texts, sizes[i], 0))
+        if (bench_c_mac(FIRST, SECOND, FIRST, texts, sizes[i]) != botan_text(texts, sizes[i], 0))
             stop("cbc_mac and X9.19-MAC differ");
-        if (cbc_mac_c_mac(FIRST, SECOND, SECOND, texts, sizes[i]) != openssl_text(texts, sizes[i], 0))
+        if (bench_c_mac(FIRST, SECOND, SECOND, texts, sizes[i]) != openssl_text(texts, sizes[i], 0))
             stop("cbc_mac and DES-CBC differ");
         if (ours_once(sizes[i]) != ours_each(sizes[i]))
             stop("prepared keys give another MAC");

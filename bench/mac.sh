@@ -43,10 +43,10 @@ has_libraries || leave "libssl-dev, libbotan-2-dev (or libbotan-3-dev), pkg-conf
 log=$(mktemp)
 build=$(mktemp -d)
 trap 'rm -rf "$log" "$build"' EXIT
-if ! (cd crates/cbc_mac_c && rt lib) >"$log" 2>&1; then
+if ! (cd crates/bench_c && rt lib) >"$log" 2>&1; then
     cat "$log"
     exit 1
 fi
 # shellcheck disable=SC2046
-cc -O2 -o "$build/mac" bench/mac.c crates/cbc_mac_c/out/libcbc_mac_c.a $(pkg-config --cflags --libs libcrypto "$(botan)")
+cc -O2 -o "$build/mac" bench/mac.c crates/bench_c/out/libbench_c.a $(pkg-config --cflags --libs libcrypto "$(botan)")
 "$build/mac"

@@ -17,15 +17,15 @@ build() {
   (cd "crates/$1" && shift && "$@") > "$work/log" 2>&1 || { cat "$work/log"; exit 1; }
 }
 
-program=$PWD/crates/stack_bench/out/stack_bench
+program=$PWD/crates/bench/out/bench
 rm -f "$program"
-build stack_bench rt run -- 24 8 1
+build bench rt run -- ends 24 8 1
 
 mac=none
 compiler=${CC:-cc}
 if command -v "$compiler" > /dev/null; then
-  build cbc_mac_c rt lib
-  "$compiler" -O2 -Wall -Wextra -o "$work/mac" bench/stack_mac.c crates/cbc_mac_c/out/libcbc_mac_c.a
+  build bench_c rt lib
+  "$compiler" -O2 -Wall -Wextra -o "$work/mac" bench/stack_mac.c crates/bench_c/out/libbench_c.a
   mac=$work/mac
 fi
 
@@ -35,7 +35,7 @@ program, mac, work = sys.argv[1:]
 
 def run(words):
     before = resource.getrusage(resource.RUSAGE_CHILDREN)
-    text = subprocess.run([program] + [str(word) for word in words], stdout=subprocess.PIPE, check=True).stdout.decode().split()
+    text = subprocess.run([program, "ends"] + [str(word) for word in words], stdout=subprocess.PIPE, check=True).stdout.decode().split()
     after = resource.getrusage(resource.RUSAGE_CHILDREN)
     seconds = (after.ru_utime + after.ru_stime) - (before.ru_utime + before.ru_stime)
     return max(seconds, 1e-6), dict(zip(text[0::2], map(int, text[1::2])))
@@ -62,7 +62,7 @@ if mac == "none":
     print("no C compiler: the MAC alone was not measured")
 
 def profile(words):
-    record = ["perf", "record", "-q", "-e", "cpu-clock:u", "-F", "10000", "-o", work + "/perf", program] + [str(word) for word in words]
+    record = ["perf", "record", "-q", "-e", "cpu-clock:u", "-F", "10000", "-o", work + "/perf", program, "ends"] + [str(word) for word in words]
     if shutil.which("perf") is None or subprocess.run(record, stdout=subprocess.DEVNULL, stderr=subprocess.DEVNULL).returncode != 0:
         return None
     report = ["perf", "report", "-i", work + "/perf", "--stdio", "--no-children", "--sort", "dso,symbol"]
@@ -76,7 +76,7 @@ def profile(words):
                 name = "libc " + re.sub(r".*(memset|memmove|memcpy|memcmp).*", r"\1", symbol)
             elif "::" not in symbol:
                 name = "unnamed"
-            elif symbol.startswith("stack_bench::"):
+            elif symbol.startswith("bench::"):
                 name = "the events, with what is inlined in them"
             else:
                 name = symbol.split("::")[0]

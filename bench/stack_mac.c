@@ -4,7 +4,7 @@
 #include <stdlib.h>
 #include <time.h>
 
-uint64_t cbc_mac_c_many(uint64_t first, uint64_t second, uint64_t third, const uint8_t *texts, size_t length, size_t size);
+uint64_t bench_c_macs(uint64_t first, uint64_t second, uint64_t third, const uint8_t *texts, size_t length, size_t size);
 
 static double now(void) {
     struct timespec t;
@@ -26,7 +26,7 @@ int main(int words, char **word) {
     for (int round = 0; round < 9; round++) {
         double begun = now();
         for (size_t done = 0; done < count; done += TEXTS)
-            kept ^= cbc_mac_c_many(0x0123456789abcdef, 0x23456789abcdef01, 0x456789abcdef0123, texts, TEXTS * size, size);
+            kept ^= bench_c_macs(0x0123456789abcdef, 0x23456789abcdef01, 0x456789abcdef0123, texts, TEXTS * size, size);
         double taken = now() - begun;
         if (round == 0 || taken < best)
             best = taken;

@@ -7,8 +7,8 @@
 # compiler; writes nothing outside the crates' out/.
 set -eu
 cd "$(dirname "$0")/.."
-program=$PWD/crates/station_bench/out/station_bench
-[ -x "$program" ] || (cd crates/station_bench && rt run -- go-back 20 8 7 0 1 1 >/dev/null 2>&1)
+program=$PWD/crates/bench/out/bench
+[ -x "$program" ] || (cd crates/bench && rt run -- go-back 20 8 7 0 1 1 >/dev/null 2>&1)
 [ -x "$program" ] || { echo "the program was not built"; exit 1; }
 command -v python3 >/dev/null || { echo "python3 is wanted, to measure; nothing is measured"; exit 0; }
 python3 - "$program" << 'PY'

@@ -1,5 +1,5 @@
 #!/usr/bin/env bash
-# Two rules of the repository that the prover doesn't know. Each line that breaks one is printed; the status is 1 where there is one.
+# Rules of the repository that the prover doesn't know. Each line that breaks one is printed; the status is 1 where there is one.
 set -u
 cd "$(dirname "$0")/.." || exit 1
 status=0
@@ -20,9 +20,41 @@ for crate in crates/*/; do
 done
 
 # Want of memory is told by the allocator, and for files by the system: their errors become `NoMemory` in er_base, and no other crate
-# names them, but six small programs that end with the system's error, key_store where TOML's own error tells want of memory, and the tests of er_base.
+# names them, but three small programs that end with the system's error, key_store where TOML's own error tells want of memory, and the tests of er_base.
 if sources | xargs -r grep -nE '\b(AllocError|AllocFailed)\b|::OutOfMemory\b' /dev/null |
-  grep -vE '^crates/(er_base/|layer_tests/src/base.rt|key_store/src/want.rt|(tpdu_sweep|transport_rate|station_bench|stack_bench|loop_bench|embedded_end)/src/main.rt)'; then
+  grep -vE '^crates/(er_base/|test_layers/src/base.rt|key_store/src/want.rt|bench/src/[a-z]+.rt|(test_tpdus|embedded_end)/src/main.rt)'; then
+  status=1
+fi
+
+# crates.txt is the map: a crate lists the libraries that its own files name, and no other.
+if ! python3 - << 'PY'
+import os, re, sys
+status = 0
+for line in open("crates.txt"):
+    row = re.match(r"(\w+)(?: staticlib)?:(.*)$", line)
+    if row is None:
+        continue
+    text = ""
+    for folder, _, files in os.walk("crates/" + row.group(1)):
+        if "/out" not in folder:
+            text += "".join(open(os.path.join(folder, file), encoding="utf-8").read() for file in files if file.endswith((".rt", ".antt")))
+    for library in row.group(2).split():
+        if not re.search(rf"\bRattle\.{library}\.|\b{library}::", text):
+            print(f"crates.txt: {row.group(1)} lists {library}, which no file of it names")
+            status = 1
+sys.exit(status)
+PY
+then
+  status=1
+fi
+
+# One manner: what a file is stands in `//!`, a section begins with `-- ----`, an attribute stands below the comment of its item.
+if sources | grep '/src/.*\.rt$' | xargs -r awk 'FNR == 1 && /^\/\/ / { print FILENAME ": begins with //"; found = 1 }
+    attribute && /^ *\/\// { print FILENAME ":" FNR ": an attribute above the comment"; found = 1 }
+    { attribute = /^ *#\[/ } END { exit !found }'; then
+  status=1
+fi
+if sources | grep '\.antt$' | xargs -r grep -nE '^-- [^-].* -{6,}$' /dev/null; then
   status=1
 fi
 

@@ -4,7 +4,7 @@ What is looked for of a text in backticks; {A, B} behind /, . or :: stands for e
 
 | In backticks | What must be there |
 |---|---|
-| a path, as `tests/rows.sh`, `er_end/specs` or `end_pair/specs/Laws.AreInStep` | a file or folder of which it is the end, with .antt or without, and the name in it |
+| a path, as `tests/rows.sh`, `er_end/specs` or `er_end_pair_laws/specs/Laws.AreInStep` | a file or folder of which it is the end, with .antt or without, and the name in it |
 | `crate::name::name` | each name in that crate's code, definitions or proofs |
 | `Type::name`, `module::name` | one file that has all of them |
 | any other | each word, in any file of the tree but the pages; of `_name` a word that ends so |

@@ -2,10 +2,10 @@
 use Rattle.std.proofs.Common.{◌≡◌, ℕ, ◌*◌, ◌≤◌, Bool, true, false, List, [], ◌∷◌, ◌++◌, map, Option, refl, sym, ap, ◌∙◌, append_assoc, arith}
 use Rattle.er_base.specs.Stored.{Stored}
 use Rattle.er_base.specs.declared.release.Release.{Release}
-use Rattle.station_model.specs.Stations.{Station, Deed, no_deed}
-use Rattle.station_model.specs.Selective.{receives_as}
-use Rattle.station_model.specs.Calls.{receives}
-use Rattle.station_model.specs.Selective.{selective_receives}
+use Rattle.hdlc_station_model.specs.Stations.{Station, Deed, no_deed}
+use Rattle.hdlc_station_model.specs.Selective.{receives_as}
+use Rattle.hdlc_station_model.specs.Calls.{receives}
+use Rattle.hdlc_station_model.specs.Selective.{selective_receives}
 use Rattle.hdlc_frames.specs.Framing.{Verdict}
 use Rattle.hdlc_balanced.specs.Kept.{Kept, kept_of, texts, Stands, Follows, Tells, Shown, Within}
 use Rattle.hdlc_selective.specs.Kept.{SelectiveKept, SelectiveStands, SelectiveFollows, SelectiveTells}

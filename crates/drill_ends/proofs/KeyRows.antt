@@ -4,7 +4,7 @@ use mathlib.Core.Path.{fun_ext}
 use Rattle.std.proofs.lemmas.Bool.{le-leb}
 use Rattle.des_block.specs.declared.triple_key.TripleKey.{TripleKey}
 use Rattle.safety_automaton.specs.Keys.{key_at}
-use Rattle.safe_pair.specs.Openings.{OfKeys, key_for}
+use Rattle.safety_pair_laws.specs.Openings.{OfKeys, key_for}
 use Rattle.drill_ends.specs.Keys.{entries_of, IsSteady, KeyIsFound}
 
 no_key : (b : Bool) (x : Option TripleKey) → x ≡ (if b then x else x)

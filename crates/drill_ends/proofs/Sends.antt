@@ -6,10 +6,10 @@ use Rattle.std.proofs.lemmas.List.Concat.{flat_map-append}
 use Rattle.er_base.specs.declared.release.Release.{Release}
 use Rattle.des_block.specs.declared.triple_key.TripleKey.{TripleKey}
 use Rattle.hdlc_frames.specs.Framing.{Verdict}
-use Rattle.station_model.specs.Stations.{Station, Deed as LinkDeed, is_down}
-use Rattle.station_model.specs.Calls.{starts as begins_station, hands, ticks as station_ticks, finishes as owes}
-use Rattle.station_model.specs.Selective.{receives_as}
-use Rattle.station_model.specs.Events.{said_octets, news, quits, is_late, news as stack_news}
+use Rattle.hdlc_station_model.specs.Stations.{Station, Deed as LinkDeed, is_down}
+use Rattle.hdlc_station_model.specs.Calls.{starts as begins_station, hands, ticks as station_ticks, finishes as owes}
+use Rattle.hdlc_station_model.specs.Selective.{receives_as}
+use Rattle.hdlc_station_model.specs.Events.{said_octets, news, quits, is_late, news as stack_news}
 use Rattle.t70_header.specs.Joining as joining
 use Rattle.x224_class2.specs.Tpdus.{Dr, Dc}
 use Rattle.x224_class2.specs.Refusals.{protocol_error}
@@ -23,17 +23,17 @@ use Rattle.safety_automaton.specs.Keys.{no_keys}
 use Rattle.safety_automaton.specs.Rules.{IsStep, StepsOnly}
 use Rattle.safety_automaton.specs.Reports.{Report, ToldAnswered, ToldConnected, ToldAccepted, ToldReleased, ToldIgnored, report_of}
 use Rattle.safety_automaton.specs.Safety.{Safety, Phase, Ready, WaitAu1, WaitAu2, WaitAu3, WaitAr, Connected, Released, SafetyEvent, ConnectRequest, Received, DataRequest, DisconnectRequest, SafetyOutcome, SentAu1, SentAu2, SentAu3, SentAr, ReceivedAr, AcceptedDt, SentDt, Refused, RefusedLength, ReleasedLocally, ReleasedByPeer, NothingDone, peer_flag, sends_dt, sends as sends_side, sent_by, step}
-use Rattle.safe_pair.specs.Facts.{Fact, Sent, Sealed, Verified, Connected as ConnectedFact, Accepted, facts_by, heard_in as octets_heard}
-use Rattle.end_model.specs.Outcomes.{SendRefusal, RefusedNotConnected, RefusedLength as RefusedLong, RefusedFull}
-use Rattle.end_model.specs.Layers.{Spoken, Core, model}
-use Rattle.end_model.specs.Steps.{Finds, begins_at, ends, gives, shuts, finishes, departs, cut_off, deserted, parts, why_of, spoken, is_some_octets, says, skips, Carrier, InCr, InCc, InDt, answers, keeps, acts, text_comes, does, block_at, is_ready, connects, comes_up, link_at, link_comes, gives_next, goes_on, offers, most_offers, concludes, starts, comes, is_connected, refusal_at, refusal_of, sent, sends_unless, uses, leaves, is_spent, di_of, time_at, ticks, normal_disconnect}
-use Rattle.end_model.specs.Ends.{End as Stack, finds_expired}
+use Rattle.safety_pair_laws.specs.Facts.{Fact, Sent, Sealed, Verified, Connected as ConnectedFact, Accepted, facts_by, heard_in as octets_heard}
+use Rattle.er_end_model.specs.Outcomes.{SendRefusal, RefusedNotConnected, RefusedLength as RefusedLong, RefusedFull}
+use Rattle.er_end_model.specs.Layers.{Spoken, Core, model}
+use Rattle.er_end_model.specs.Steps.{Finds, new_event_at, with_release, hand_tpdu, close_link, send_owed_answer, send_dr, answer_dr, end_after_di, on_safety_release, why_of, with_safety_step, is_some_octets, hand_text, skip_message, Carrier, InCr, InCc, InDt, hand_answer, keep_message, on_safety_report, on_text, on_transport_deed, on_joined_block, is_ready, connect_with_text, on_link_up, on_link_told, on_link_deed, hand_next_tpdu, has_next_tpdu, hand_waiting_tpdus, most_offers, conclude_event, step_start, step_frame, is_connected, refusal_at, refusal_of, on_send, step_send_unless, step_take, step_release, is_spent, di_of, on_expiry, step_tick, normal_disconnect}
+use Rattle.er_end_model.specs.Ends.{End as Stack, finds_expired}
 use Rattle.drill_model.specs.Outcomes.{Outcome, OfSafety, Handed, Arrived, Up, Took, NothingToTake, Released as ReleasedOut, Frame, Expired, UserReleased, Passed, Lost, Repeated, Altered, Inserted, NothingWaits, IsShort}
 use Rattle.drill_model.specs.Outcomes as outcome
 use Rattle.drill_model.specs.Kinds.{sent_in}
-use Rattle.drill_model.specs.StationEnds.{if_up, if_arrived, all_arrived, if_released, if_expired, told_by, frames_heard, handed_unless, user_sends, user_releases, time_goes_on}
+use Rattle.drill_model.specs.StationEnds.{if_up, if_arrived, all_arrived, if_released, if_expired, told_by, frames_heard, handed_unless, station_send, station_release, station_tick}
 use Rattle.drill_model.specs.StationEnds as stations
-use Rattle.drill_model.specs.StackEnds.{facts_told, told_at, stack_told, told_unless, took}
+use Rattle.drill_model.specs.StackEnds.{facts_told, told_at, stack_told, told_unless, told_of_take}
 use Rattle.drill_model.specs.Ends.{End, OfSafe, OfStation, OfStack, EndEvent, Start, Receive, Send, Take, Release as Leave, Tick, safety_event, outcomes_by, safe_end_step, station_end_step, stack_end_step, end_step}
 use Rattle.drill_ends.specs.declared.told.Told.{Told}
 use Rattle.drill_ends.specs.Tellings.{IsToldFact, IsTold, EachTold, heard_of, heard_in}
@@ -247,16 +247,16 @@ heard_unsent : (selective : Bool) (moment : ℕ) (verdicts : List Verdict) (s : 
 heard_unsent selective moment [] s = refl
 heard_unsent selective moment (verdict ∷ verdicts) s =
     let t : Station = owes (receives_as selective moment verdict s) in
-    sent_more (told_by t) (frames_heard selective moment verdicts (stations.called t).0).1 (station_unsent t) (heard_unsent selective moment verdicts (stations.called t).0)
+    sent_more (told_by t) (frames_heard selective moment verdicts (stations.station_and_told t).0).1 (station_unsent t) (heard_unsent selective moment verdicts (stations.station_and_told t).0)
 
-hands_once : (refusal : Option outcome.SendRefusal) (moment : ℕ) (payload : List ℕ) (s : Station)
+hands_once : (refusal : Option SendRefusal) (moment : ℕ) (payload : List ℕ) (s : Station)
     → let os = (handed_unless refusal moment payload s).1 in sent_of os ≡ (if begins_so (heard_in os) then 0 else 1)
 hands_once (Some refusal) moment payload s = refl
 hands_once None moment payload s =
     let t : Station = owes (hands moment payload s) in
     ap suc (station_unsent t) ∙ sym (ap (λ (b : Bool). if b then 0 else 1) (station_begins t))
 
-quits_unsent : (b : Bool) (sub : ℕ) (s : Station) → sent_of (if b then (s, []) else stations.called (quits sub s)).1 ≡ 0
+quits_unsent : (b : Bool) (sub : ℕ) (s : Station) → sent_of (if b then (s, []) else stations.station_and_told (quits sub s)).1 ≡ 0
 quits_unsent true sub s = refl
 quits_unsent false sub s = station_unsent (quits sub s)
 
@@ -279,85 +279,85 @@ module _ (P : Option Spoken → Type 0) where
   abbrev Said : Core → Type 0
   Said x = P x.upper.spoke
 
-  departs_said : (why : Release) (reason : ℕ) (user : List ℕ) (x : Core) → Said x → Said (departs model why reason user x)
-  departs_said why reason user x h = if_core (λ y. Said (ends why (shuts model y))) (model.may_send x.line) (gives model (Dr reason user) x) x h h
+  departs_said : (why : Release) (reason : ℕ) (user : List ℕ) (x : Core) → Said x → Said (send_dr model why reason user x)
+  departs_said why reason user x h = if_core (λ y. Said (with_release why (close_link model y))) (model.may_send x.line) (hand_tpdu model (Dr reason user) x) x h h
 
-  cut_off_said : (why : Release) (x : Core) → Said x → Said (cut_off model why x)
-  cut_off_said why x h = if_core (λ y. Said (ends why (finishes model y))) (model.may_send x.line) (gives model Dc x) x h h
+  cut_off_said : (why : Release) (x : Core) → Said x → Said (answer_dr model why x)
+  cut_off_said why x h = if_core (λ y. Said (with_release why (send_owed_answer model y))) (model.may_send x.line) (hand_tpdu model Dc x) x h h
 
-  parts_said : (why : Release) (di : List ℕ) (x : Core) → Said x → Said (parts model why di x)
-  parts_said why di x h = if_core Said why.by_peer (deserted model why x) (departs model why normal_disconnect di x) h (departs_said why normal_disconnect di x h)
+  parts_said : (why : Release) (di : List ℕ) (x : Core) → Said x → Said (on_safety_release model why di x)
+  parts_said why di x h = if_core Said why.by_peer (end_after_di model why x) (send_dr model why normal_disconnect di x) h (departs_said why normal_disconnect di x h)
 
-  says_said : (text : List ℕ) (x : Core) → Said x → Said (says model text x)
+  says_said : (text : List ℕ) (x : Core) → Said x → Said (hand_text model text x)
   says_said text x h = if_core Said (is_some_octets text && model.may_hand x.upper) (record x { upper = model.hands_message x.upper text }) x h h
 
-  answers_said : (carrier : Carrier) (text : List ℕ) (x : Core) → Said x → Said (answers model carrier text x)
+  answers_said : (carrier : Carrier) (text : List ℕ) (x : Core) → Said x → Said (hand_answer model carrier text x)
   answers_said InCr text x h = if_core Said (is_some_octets text) (record x { upper = model.accepts x.upper text }) x h h
   answers_said InCc text x h = says_said text x h
-  answers_said InDt text x h = says_said text (skips model x) h
+  answers_said InDt text x h = says_said text (skip_message model x) h
 
-  keeps_said : (carrier : Carrier) (user : List ℕ) (x : Core) → Said x → Said (keeps model carrier user x)
+  keeps_said : (carrier : Carrier) (user : List ℕ) (x : Core) → Said x → Said (keep_message model carrier user x)
   keeps_said InCr user x h = h
   keeps_said InCc user x h = h
   keeps_said InDt user x h = h
 
-  acts_said : (carrier : Carrier) (report : Report) (octets : List ℕ) (x : Core) → Said x → Said (acts model carrier report octets x)
+  acts_said : (carrier : Carrier) (report : Report) (octets : List ℕ) (x : Core) → Said x → Said (on_safety_report model carrier report octets x)
   acts_said carrier ToldAnswered octets x h = answers_said carrier octets x h
   acts_said carrier (ToldConnected peer) octets x h = answers_said carrier octets x h
   acts_said carrier (ToldAccepted user) octets x h = keeps_said carrier user x h
   acts_said carrier (ToldReleased why) octets x h = parts_said why octets x h
   acts_said carrier ToldIgnored octets x h = h
 
-  offers_said : (n : ℕ) (x : Core) → Said x → Said (offers model n x)
-  unfolding offers
+  offers_said : (n : ℕ) (x : Core) → Said x → Said (hand_waiting_tpdus model n x)
+  unfolding hand_waiting_tpdus
   offers_said zero x h = h
-  offers_said (suc n) x h = if_core Said (goes_on model x) (offers model n (gives_next model x)) x (offers_said n (gives_next model x) h) h
+  offers_said (suc n) x h = if_core Said (has_next_tpdu model x) (hand_waiting_tpdus model n (hand_next_tpdu model x)) x (offers_said n (hand_next_tpdu model x) h) h
 
-  concludes_said : (x : Core) → Said x → Said (concludes model x)
-  concludes_said x h = if_core Said (is_some x.released) x (finishes model (offers model most_offers x)) h (offers_said most_offers x h)
+  concludes_said : (x : Core) → Said x → Said (conclude_event model x)
+  concludes_said x h = if_core Said (is_some x.released) x (send_owed_answer model (hand_waiting_tpdus model most_offers x)) h (offers_said most_offers x h)
 
   module _ (none : P None) where
-    starts_said : (now : ℕ) (x : Core) → Said (starts model now x)
+    starts_said : (now : ℕ) (x : Core) → Said (step_start model now x)
     starts_said now x =
-        let y : Core = begins_at model now x in
+        let y : Core = new_event_at model now x in
         let z : Core = record y { line = model.starts y.moment y.line } in
-        if_core Said (is_some y.released) y (concludes model z) none (concludes_said z none)
+        if_core Said (is_some y.released) y (conclude_event model z) none (concludes_said z none)
 
-    uses_said : (now : ℕ) (x : Core) → Said (uses model now x)
+    uses_said : (now : ℕ) (x : Core) → Said (step_take model now x)
     uses_said now x =
-        let y : Core = begins_at model now x in
+        let y : Core = new_event_at model now x in
         let z : Core = record y { upper = model.uses y.upper } in
-        if_core Said (model.untaken y.upper == 0) y (concludes model z) none (concludes_said z none)
+        if_core Said (model.untaken y.upper == 0) y (conclude_event model z) none (concludes_said z none)
 
-    time_said : (given_up : Option Release) (x : Core) → Said x → Said (time_at model given_up x)
+    time_said : (given_up : Option Release) (x : Core) → Said x → Said (on_expiry model given_up x)
     time_said (Some why) x h = h
     time_said None x h =
         let why : Release = release_of SetUpTimeSpent in
-        if_core Said (is_spent x) (departs model why normal_disconnect (di_of why x.safe.safety) x) x (departs_said why normal_disconnect (di_of why x.safe.safety) x h) h
+        if_core Said (is_spent x) (send_dr model why normal_disconnect (di_of why x.safe.safety) x) x (departs_said why normal_disconnect (di_of why x.safe.safety) x h) h
 
-    ticks_said : (now : ℕ) (x : Core) → Said (ticks model now x)
+    ticks_said : (now : ℕ) (x : Core) → Said (step_tick model now x)
     ticks_said now x =
-        let y : Core = begins_at model now x in
+        let y : Core = new_event_at model now x in
         let z : Core = record y { line = model.ticks y.moment y.line } in
-        let w : Core = time_at model (model.given_up y.moment y.line) z in
-        if_core Said (is_some y.released) y (concludes model w) none (concludes_said w (time_said (model.given_up y.moment y.line) z none))
+        let w : Core = on_expiry model (model.given_up y.moment y.line) z in
+        if_core Said (is_some y.released) y (conclude_event model w) none (concludes_said w (time_said (model.given_up y.moment y.line) z none))
 
     -- a step of the side at an event that isn't a send
     module _ (others : (key_of : ℕ → ℕ → Option TripleKey) (s : Safety) (event : SafetyEvent) → NotData event → P (Some (record { event = event; outcome = (step key_of s event).1 }))) where
-      leaves_said : (now sub : ℕ) (x : Core) → Said (leaves model now sub x)
+      leaves_said : (now sub : ℕ) (x : Core) → Said (step_release model now sub x)
       leaves_said now sub x =
-          let y : Core = begins_at model now x in
+          let y : Core = new_event_at model now x in
           let a : Safety × SafetyOutcome = step no_keys y.safe.safety (DisconnectRequest sub) in
-          let z : Core = spoken model (DisconnectRequest sub) a y in
-          if_core Said (is_some y.released) y (departs model (release_of (User sub)) normal_disconnect (sent_by a.1) z) none
+          let z : Core = with_safety_step model (DisconnectRequest sub) a y in
+          if_core Said (is_some y.released) y (send_dr model (release_of (User sub)) normal_disconnect (sent_by a.1) z) none
           (departs_said (release_of (User sub)) normal_disconnect (sent_by a.1) z (others no_keys y.safe.safety (DisconnectRequest sub) tt))
 
-      text_said : (finds : Finds) (carrier : Carrier) (text : List ℕ) (x : Core) → Said (text_comes model finds carrier text x)
+      text_said : (finds : Finds) (carrier : Carrier) (text : List ℕ) (x : Core) → Said (on_text model finds carrier text x)
       text_said finds carrier text x =
           let a : Safety × SafetyOutcome = step (finds x.moment) x.safe.safety (Received text) in
-          acts_said carrier (report_of a.1) (sent_by a.1) (spoken model (Received text) a x) (others (finds x.moment) x.safe.safety (Received text) tt)
+          acts_said carrier (report_of a.1) (sent_by a.1) (with_safety_step model (Received text) a x) (others (finds x.moment) x.safe.safety (Received text) tt)
 
-      does_said : (finds : Finds) (deed : Deed) (x : Core) → Said x → Said (does model finds deed x)
+      does_said : (finds : Finds) (deed : Deed) (x : Core) → Said x → Said (on_transport_deed model finds deed x)
       does_said finds Nothing x h = h
       does_said finds (Called user) x h = text_said finds InCr user x
       does_said finds (Confirmed user) x h = text_said finds InCc user x
@@ -365,35 +365,35 @@ module _ (P : Option Spoken → Type 0) where
       does_said finds (Disconnected user) x h = cut_off_said (why_of (di_in user (peer_flag x.safe.safety))) x h
       does_said finds (transport.Refused sub reason) x h = departs_said (by_this_end 2 sub) reason [] x h
 
-      block_said : (finds : Finds) (answer : joining.Answer) (x : Core) → Said x → Said (block_at model finds answer x)
+      block_said : (finds : Finds) (answer : joining.Answer) (x : Core) → Said x → Said (on_joined_block model finds answer x)
       block_said finds (Ok None) x h = h
       block_said finds (Ok (Some tpdu)) x h = does_said finds (model.deed x.upper tpdu) (record x { upper = model.hears x.upper tpdu }) h
       block_said finds (Err fault) x h = departs_said (release_of BlockRefused) protocol_error [] x h
 
-      connects_said : (text : List ℕ) (x : Core) → Said x → Said (connects model text x)
+      connects_said : (text : List ℕ) (x : Core) → Said x → Said (connect_with_text model text x)
       connects_said text x h = if_core Said (is_some_octets text) (record x { upper = model.connects x.upper text }) x h h
 
-      up_said : (x : Core) → Said x → Said (comes_up model x)
+      up_said : (x : Core) → Said x → Said (on_link_up model x)
       up_said x h =
           let a : Safety × SafetyOutcome = step no_keys x.safe.safety ConnectRequest in
-          let y : Core = spoken model ConnectRequest a x in
-          if_core Said (model.may_connect x.upper && is_ready x.safe.safety.phase) (connects model (sent_by a.1) y) x
+          let y : Core = with_safety_step model ConnectRequest a x in
+          if_core Said (model.may_connect x.upper && is_ready x.safe.safety.phase) (connect_with_text model (sent_by a.1) y) x
           (connects_said (sent_by a.1) y (others no_keys x.safe.safety ConnectRequest tt)) h
 
-      link_said : (finds : Finds) (payload : Option (List ℕ)) (up : Bool) (released : Option Release) (x : Core) → Said x → Said (link_at model finds payload up released x)
+      link_said : (finds : Finds) (payload : Option (List ℕ)) (up : Bool) (released : Option Release) (x : Core) → Said x → Said (on_link_told model finds payload up released x)
       link_said finds (Some payload) up released x h =
           let joined = joining.step x.joined payload in block_said finds joined.1 (record x { joined = joined.0 }) h
       link_said finds None true released x h = up_said x h
       link_said finds None false (Some why) x h = h
       link_said finds None false None x h = h
 
-      comes_said : (finds : Finds) (now : ℕ) (verdict : Verdict) (x : Core) → Said (comes model finds now verdict x)
+      comes_said : (finds : Finds) (now : ℕ) (verdict : Verdict) (x : Core) → Said (step_frame model finds now verdict x)
       comes_said finds now verdict x =
-          let y : Core = begins_at model now x in
+          let y : Core = new_event_at model now x in
           let deed : LinkDeed = model.told y.moment verdict y.line in
           let z : Core = record y { line = model.receives y.moment verdict y.line } in
-          let w : Core = link_comes model finds deed z in
-          if_core Said (is_some y.released) y (concludes model w) none (concludes_said w (link_said finds deed.payload deed.up deed.released z none))
+          let w : Core = on_link_deed model finds deed z in
+          if_core Said (is_some y.released) y (conclude_event model w) none (concludes_said w (link_said finds deed.payload deed.up deed.released z none))
 
 -- ---- level full
 
@@ -425,25 +425,25 @@ may_send None connected user waiting none = by connected (is_message user) none
     by true false none = absurd (cc)
     by true true none = (refl, refl)
 
-sent_once : (now : ℕ) (user : List ℕ) (x : Core) → refusal_of model user x ≡ None → Sends (sent model user (begins_at model now x)).upper.spoke
+sent_once : (now : ℕ) (user : List ℕ) (x : Core) → refusal_of model user x ≡ None → Sends (on_send model user (new_event_at model now x)).upper.spoke
 sent_once now user x none =
-    let y : Core = begins_at model now x in
+    let y : Core = new_event_at model now x in
     let a : Safety × SafetyOutcome = step no_keys y.safe.safety (DataRequest user) in
-    let z : Core = spoken model (DataRequest user) a y in
+    let z : Core = with_safety_step model (DataRequest user) a y in
     let w : Core = record z { upper = model.sends z.upper user } in
     let may = may_send x.released (is_connected x.safe.safety.phase) user (model.waiting x.upper) none in
-    concludes_said Sends (says model (sent_by a.1) w) (says_said Sends (sent_by a.1) w (side_sent x.safe.safety x.safe.safety.phase user may.0 may.1))
+    concludes_said Sends (hand_text model (sent_by a.1) w) (says_said Sends (sent_by a.1) w (side_sent x.safe.safety x.safe.safety.phase user may.0 may.1))
 
 stack_sends_once : (now : ℕ) (user : List ℕ) (x : Core) (refusal : Option SendRefusal) → refusal_of model user x ≡ refusal
-    → let os = told_unless refusal (sends_unless model refusal now user x) in sent_of os ≡ (if begins_so (heard_in os) then 0 else 1)
+    → let os = told_unless refusal (step_send_unless model refusal now user x) in sent_of os ≡ (if begins_so (heard_in os) then 0 else 1)
 stack_sends_once now user x (Some refusal) is = refl
 stack_sends_once now user x None is =
-    let y : Core = sent model user (begins_at model now x) in
+    let y : Core = on_send model user (new_event_at model now x) in
     let rest : List Outcome = if_released y.leaves ++ map Frame (said_octets y.line) in
     let once = sent_once now user x is rest in
     once.0 ∙ ap suc (released_unsent y.leaves (said_octets y.line)) ∙ sym (ap (λ (b : Bool). if b then 0 else 1) once.1)
 
-took_unsent : (message : Option (List ℕ)) (os : List Outcome) → sent_of os ≡ 0 → sent_of (took message ++ os) ≡ 0
+took_unsent : (message : Option (List ℕ)) (os : List Outcome) → sent_of os ≡ 0 → sent_of (told_of_take message ++ os) ≡ 0
 took_unsent None os none = none
 took_unsent (Some message) os none = none
 
@@ -455,18 +455,18 @@ module _ (only : StepsOnly) where
   stack_unsent : (finds : Finds) (now : ℕ) (verdicts : List Verdict) (x : Core) → sent_of (stack_told finds now verdicts x) ≡ 0
   stack_unsent finds now [] x = refl
   stack_unsent finds now (verdict ∷ verdicts) x =
-      let y : Core = comes model finds now verdict x in
+      let y : Core = step_frame model finds now verdict x in
       sent_more (told_at y) (stack_told finds now verdicts y) (told_unsent y (comes_said Unsent refl others_unsent finds now verdict x)) (stack_unsent finds now verdicts y)
 
   stack_sends_so : (key_of : ℕ → ℕ → Option TripleKey) (now : ℕ) (m : Stack) (event : EndEvent) → SendsSo event (stack_end_step key_of now m event).1
-  stack_sends_so key_of now m Start = told_unsent (starts model now m.core) (starts_said Unsent refl now m.core)
-  stack_sends_so key_of now m (Receive octets) = stack_unsent (λ n. key_of) now (stack_news m.stream octets) (begins_at model now m.core)
+  stack_sends_so key_of now m Start = told_unsent (step_start model now m.core) (starts_said Unsent refl now m.core)
+  stack_sends_so key_of now m (Receive octets) = stack_unsent (λ n. key_of) now (stack_news m.stream octets) (new_event_at model now m.core)
   stack_sends_so key_of now m (Send user) = stack_sends_once now user m.core (refusal_of model user m.core) refl
   stack_sends_so key_of now m Take =
-      took_unsent (model.oldest m.core.upper) (told_at (uses model now m.core)) (told_unsent (uses model now m.core) (uses_said Unsent refl now m.core))
-  stack_sends_so key_of now m (Leave sub) = told_unsent (leaves model now sub m.core) (leaves_said Unsent refl others_unsent now sub m.core)
+      took_unsent (model.oldest m.core.upper) (told_at (step_take model now m.core)) (told_unsent (step_take model now m.core) (uses_said Unsent refl now m.core))
+  stack_sends_so key_of now m (Leave sub) = told_unsent (step_release model now sub m.core) (leaves_said Unsent refl others_unsent now sub m.core)
   stack_sends_so key_of now m Tick =
-      expired_unsent (finds_expired (begins_at model now m.core)) (told_at (ticks model now m.core)) (told_unsent (ticks model now m.core) (ticks_said Unsent refl now m.core))
+      expired_unsent (finds_expired (new_event_at model now m.core)) (told_at (step_tick model now m.core)) (told_unsent (step_tick model now m.core) (ticks_said Unsent refl now m.core))
 
   -- ---- any level
 

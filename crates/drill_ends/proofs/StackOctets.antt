@@ -9,12 +9,12 @@ use Rattle.hdlc_frames.specs.Deframing as deframing
 use Rattle.hdlc_frames.specs.Deframing.{feeding_of, used_behind, has_verdicts}
 use Rattle.hdlc_frames.specs.Laws.{KeptStandsForStream, GoesOn}
 use Rattle.safety_automaton.specs.Keys.{Entry, key_at}
-use Rattle.end_model.specs.Layers.{Core, model}
-use Rattle.end_model.specs.Steps.{Finds, begins, begins_at, received, comes}
-use Rattle.station_model.specs.Events.{news}
-use Rattle.end_model.specs.Ends.{End as Stack, Come, hears_each}
+use Rattle.er_end_model.specs.Layers.{Core, model}
+use Rattle.er_end_model.specs.Steps.{Finds, new_event, new_event_at, on_frame, step_frame}
+use Rattle.hdlc_station_model.specs.Events.{news}
+use Rattle.er_end_model.specs.Ends.{End as Stack, Come, hears_each}
 use Rattle.drill_model.specs.Outcomes.{Outcome}
-use Rattle.drill_model.specs.StackEnds.{told_at, stack_told, stack_hears}
+use Rattle.drill_model.specs.StackEnds.{told_at, stack_told, stack_hear}
 use Rattle.drill_model.specs.StackReports.{ReportsAt, IsOrderly, CallsReport}
 use Rattle.er_end.specs.KeptEnds.{KEnd, used_of, after_octets}
 use Rattle.er_end.specs.Standing.{EndStands, StepsAlike}
@@ -36,12 +36,12 @@ latest = 1000000000000000
 
 hears_append : (f : Finds) (now : ℕ) (vs ws : List Verdict) (x : Core) → hears_each f now (vs ++ ws) x ≡ hears_each f now ws (hears_each f now vs x)
 hears_append f now [] ws x = refl
-hears_append f now (v ∷ vs) ws x = hears_append f now vs ws (comes model f now v x)
+hears_append f now (v ∷ vs) ws x = hears_append f now vs ws (step_frame model f now v x)
 
 stack_append : (f : Finds) (now : ℕ) (vs ws : List Verdict) (x : Core) → stack_told f now (vs ++ ws) x ≡ stack_told f now vs x ++ stack_told f now ws (hears_each f now vs x)
 stack_append f now [] ws x = refl
 stack_append f now (v ∷ vs) ws x =
-    let y : Core = comes model f now v x in
+    let y : Core = step_frame model f now v x in
     ap (λ (os : List Outcome). told_at y ++ os) (stack_append f now vs ws y)
     ∙ sym (append_assoc (told_at y) (stack_told f now vs y) (stack_told f now ws (hears_each f now vs y)))
 
@@ -52,44 +52,44 @@ late_max m now n is = omega (arith, is)
 hears_late : (f : Finds) (now : ℕ) (vs : List Verdict) (x : Core) → now ≤ x.moment → now ≤ (hears_each f now vs x).moment
 hears_late f now [] x late = late
 hears_late f now (v ∷ vs) x late =
-    hears_late f now vs (comes model f now v x) (late_max x.moment now (comes model f now v x).moment (comes_see f now v x))
+    hears_late f now vs (step_frame model f now v x) (late_max x.moment now (step_frame model f now v x).moment (comes_see f now v x))
 
 most_max : (a b c : ℕ) → a ≤ latest → b ≤ latest → c ≡ max a b → c ≤ latest
 most_max a b c x y is = omega (arith, x, y, is)
 
 -- ---- whether the event began before makes no difference
 
-begun_comes : (f : Finds) (now : ℕ) (v : Verdict) (x : Core) → comes model f now v (begins_at model now x) ≡ comes model f now v x
-begun_comes f now v x = ap (received model f v) (begun_twice now x)
+begun_comes : (f : Finds) (now : ℕ) (v : Verdict) (x : Core) → step_frame model f now v (new_event_at model now x) ≡ step_frame model f now v x
+begun_comes f now v x = ap (on_frame model f v) (begun_twice now x)
 
 begun_hears : (f : Finds) (now : ℕ) (ws : List Verdict) (y : Core) → now ≤ y.moment
-    → begins model (hears_each f now ws (begins_at model now y)) ≡ begins model (hears_each f now ws y)
-begun_hears f now [] y late = ap (begins model) (begun_late now y late)
-begun_hears f now (v ∷ vs) y late = ap (λ (z : Core). begins model (hears_each f now vs z)) (begun_comes f now v y)
+    → new_event model (hears_each f now ws (new_event_at model now y)) ≡ new_event model (hears_each f now ws y)
+begun_hears f now [] y late = ap (new_event model) (begun_late now y late)
+begun_hears f now (v ∷ vs) y late = ap (λ (z : Core). new_event model (hears_each f now vs z)) (begun_comes f now v y)
 
-begun_told : (f : Finds) (now : ℕ) (ws : List Verdict) (y : Core) → stack_told f now ws (begins_at model now y) ≡ stack_told f now ws y
+begun_told : (f : Finds) (now : ℕ) (ws : List Verdict) (y : Core) → stack_told f now ws (new_event_at model now y) ≡ stack_told f now ws y
 begun_told f now [] y = refl
 begun_told f now (v ∷ vs) y = ap (λ (z : Core). told_at z ++ stack_told f now vs z) (begun_comes f now v y)
 
 -- ---- one call
 
-begun_orderly : (now : ℕ) (x : Core) → IsOrderly x → IsOrderly (begins_at model now x)
+begun_orderly : (now : ℕ) (x : Core) → IsOrderly x → IsOrderly (new_event_at model now x)
 begun_orderly now x h none = h none
 
-begun_reports : (now : ℕ) (x : Core) → ReportsAt (begins_at model now x)
+begun_reports : (now : ℕ) (x : Core) → ReportsAt (new_event_at model now x)
 begun_reports now x = record { sealed_is = refl; verified_is = refl; connected_is = refl; accepted_is = refl; keys_are = λ session none. absurd (cc) }
 
 -- a released end does nothing
 released_hears : (f : Finds) (now : ℕ) (vs : List Verdict) (x : Core) (why : Release) → x.released ≡ Some why
-    → (hears_each f now vs (begins_at model now x) ≡ begins_at model now x) × (stack_told f now vs (begins_at model now x) ≡ [])
+    → (hears_each f now vs (new_event_at model now x) ≡ new_event_at model now x) × (stack_told f now vs (new_event_at model now x) ≡ [])
 released_hears f now [] x why is = (refl, refl)
 released_hears f now (v ∷ vs) x why is =
-    let y : Core = begins_at model now x in
-    let still : comes model f now v y ≡ y = begun_comes f now v x ∙ idle x why is in
+    let y : Core = new_event_at model now x in
+    let still : step_frame model f now v y ≡ y = begun_comes f now v x ∙ idle x why is in
     let rest = released_hears f now vs x why is in
     (ap (hears_each f now vs) still ∙ rest.0, ap (λ (z : Core). told_at z ++ stack_told f now vs z) still ∙ rest.1)
   where
-    idle : (x : Core) (why : Release) → x.released ≡ Some why → comes model f now v x ≡ begins_at model now x
+    idle : (x : Core) (why : Release) → x.released ≡ Some why → step_frame model f now v x ≡ new_event_at model now x
     idle x why is = rw is refl
 
 -- the frames that a call closes: one at most, or whatever at a released end
@@ -99,19 +99,19 @@ FewClose x ws = (ws ≡ []) ⊎ (((v : Verdict) × (ws ≡ v ∷ [])) ⊎ ((why 
 module _ (calls : CallsReport) (f : Finds) (now : ℕ) (x : Core) (h : IsOrderly x) where
   abbrev Good : List Verdict → Type 0
   Good ws =
-      let y = hears_each f now ws (begins_at model now x) in
-      IsOrderly y × ReportsAt y × (y.moment ≡ max x.moment now) × (stack_told f now ws (begins_at model now x) ≡ told_at y)
+      let y = hears_each f now ws (new_event_at model now x) in
+      IsOrderly y × ReportsAt y × (y.moment ≡ max x.moment now) × (stack_told f now ws (new_event_at model now x) ≡ told_at y)
 
   few_good : (ws : List Verdict) → FewClose x ws → Good ws
   few_good ws (inl none) = subst Good (sym none) (begun_orderly now x h, begun_reports now x, refl, refl)
   few_good ws (inr (inl one)) =
       let v : Verdict = one.0 in
-      let z : Core = begins_at model now x in
-      let y : Core = comes model f now v z in
+      let z : Core = new_event_at model now x in
+      let y : Core = step_frame model f now v z in
       let r = (calls z (begun_orderly now x h)).1 f now v in
       subst Good (sym one.1) (r.0, r.1, comes_see f now v z ∙ later_once x.moment now, append-nil (told_at y))
   few_good ws (inr (inr gone)) =
-      let z : Core = begins_at model now x in
+      let z : Core = new_event_at model now x in
       let idle = released_hears f now ws x gone.0 gone.1 in
       let at : Core → Type 0 = λ y. IsOrderly y × ReportsAt y × (y.moment ≡ max x.moment now) × ([] ≡ told_at y) in
       let base : at z = (begun_orderly now x h, begun_reports now x, refl, refl) in
@@ -124,7 +124,7 @@ module _ (f g : Finds) (same : (n : ℕ) → n ≤ latest → f n ≡ g n) (now 
   alike_hears : (ws : List Verdict) (x : Core) → x.moment ≤ latest → hears_each f now ws x ≡ hears_each g now ws x
   alike_hears [] x most = refl
   alike_hears (v ∷ vs) x most =
-      let y : Core = comes model f now v x in
+      let y : Core = step_frame model f now v x in
       alike_hears vs y (most_max x.moment now y.moment most low (comes_see f now v x))
       ∙ ap (hears_each g now vs) (comes_alike f g now v x (same (max x.moment now) (most_max x.moment now (max x.moment now) most low refl)))
 
@@ -197,12 +197,12 @@ record Read (f : Finds) (now : ℕ) (from : Stack) (octets : List ℕ) (new : KE
   next : Stack
   stands : EndStands new next
   stream : next.stream ≡ from.stream ++ octets
-  core : next.core ≡ hears_each f now (news from.stream octets) (begins_at model now from.core)
+  core : next.core ≡ hears_each f now (news from.stream octets) (new_event_at model now from.core)
   orderly : IsOrderly next.core
   moment : next.core.moment ≤ latest
   list : List Told
   grew : after ≡ before ++ list
-  told : AreTold (stack_told f now (news from.stream octets) (begins_at model now from.core)) list
+  told : AreTold (stack_told f now (news from.stream octets) (new_event_at model now from.core)) list
 
 module _ (steps : StepsAlike) (calls : CallsReport) (law : GoesOn) (keys : List Entry) (steady : IsSteady keys) (now : ℕ) (low : now ≤ latest) where
   abbrev finds : Finds
@@ -214,7 +214,7 @@ module _ (steps : StepsAlike) (calls : CallsReport) (law : GoesOn) (keys : List 
   reads_once old new from octets used call before after h orderly most used_is new_is c t =
       let piece : List ℕ = take (used_of old octets) octets in
       let ws : List Verdict = news from.stream piece in
-      let x : Core = begins_at model now from.core in
+      let x : Core = new_event_at model now from.core in
       let next : Stack = record { stream = from.stream ++ piece; core = hears_each (key_at keys) now ws x } in
       let stands : EndStands new next = subst (λ (k : KEnd). EndStands k next) (sym new_is) (steps now (Come (key_at keys) octets) old from h).0 in
       let alike : hears_each (key_at keys) now ws x ≡ hears_each finds now ws x =
@@ -240,12 +240,12 @@ module _ (steps : StepsAlike) (calls : CallsReport) (law : GoesOn) (keys : List 
       → StackHeard (key_at keys now) now m octets new before after
   reads_first old new m octets before after s r =
       let same_news : news s.at.stream octets ≡ news m.stream octets = ap (λ (xs : List ℕ). news xs octets) s.stream in
-      let begun : begins_at model now s.at.core ≡ begins_at model now m.core = same_begun now s.at.core m.core s.same in
+      let begun : new_event_at model now s.at.core ≡ new_event_at model now m.core = same_begun now s.at.core m.core s.same in
       record {
         at = r.next;
         stands = r.stands;
         stream = r.stream ∙ ap (λ (xs : List ℕ). xs ++ octets) s.stream;
-        same = ap (begins model) (r.core ∙ ap₂ (λ (vs : List Verdict) (x : Core). hears_each finds now vs x) same_news begun);
+        same = ap (new_event model) (r.core ∙ ap₂ (λ (vs : List Verdict) (x : Core). hears_each finds now vs x) same_news begun);
         orderly = r.orderly;
         moment_is = r.moment;
         list = r.list;
@@ -258,18 +258,18 @@ module _ (steps : StepsAlike) (calls : CallsReport) (law : GoesOn) (keys : List 
       (h : StackHeard (key_at keys now) now m given old before between) → Read finds now h.at octets new between after
       → StackHeard (key_at keys now) now m (given ++ octets) new before after
   reads_more kept_law old new m given octets before between after h r =
-      let x : Core = begins_at model now m.core in
+      let x : Core = new_event_at model now m.core in
       let vs : List Verdict = news m.stream given in
       let ws : List Verdict = news (m.stream ++ given) octets in
       let y : Core = hears_each finds now vs x in
       let late : now ≤ y.moment = hears_late finds now vs x (late_max m.core.moment now (max m.core.moment now) refl) in
       let same_news : news h.at.stream octets ≡ ws = ap (λ (xs : List ℕ). news xs octets) h.stream in
-      let begun : begins_at model now h.at.core ≡ begins_at model now y = same_begun now h.at.core y h.same in
+      let begun : new_event_at model now h.at.core ≡ new_event_at model now y = same_begun now h.at.core y h.same in
       let all : news m.stream (given ++ octets) ≡ vs ++ ws = news_more kept_law m.stream given octets in
-      let core : r.next.core ≡ hears_each finds now ws (begins_at model now y) = r.core ∙ ap₂ (λ (us : List Verdict) (z : Core). hears_each finds now us z) same_news begun in
+      let core : r.next.core ≡ hears_each finds now ws (new_event_at model now y) = r.core ∙ ap₂ (λ (us : List Verdict) (z : Core). hears_each finds now us z) same_news begun in
       let whole : hears_each finds now ws y ≡ hears_each finds now (news m.stream (given ++ octets)) x =
       sym (hears_append finds now vs ws x) ∙ ap (λ (us : List Verdict). hears_each finds now us x) (sym all) in
-      let told : stack_told finds now (news h.at.stream octets) (begins_at model now h.at.core) ≡ stack_told finds now ws y =
+      let told : stack_told finds now (news h.at.stream octets) (new_event_at model now h.at.core) ≡ stack_told finds now ws y =
       ap₂ (λ (us : List Verdict) (z : Core). stack_told finds now us z) same_news begun ∙ begun_told finds now ws y in
       let whole_told : stack_told finds now vs x ++ stack_told finds now ws y ≡ stack_told finds now (news m.stream (given ++ octets)) x =
       sym (stack_append finds now vs ws x) ∙ ap (λ (us : List Verdict). stack_told finds now us x) (sym all) in
@@ -277,7 +277,7 @@ module _ (steps : StepsAlike) (calls : CallsReport) (law : GoesOn) (keys : List 
         at = r.next;
         stands = r.stands;
         stream = r.stream ∙ ap (λ (xs : List ℕ). xs ++ octets) h.stream ∙ append_assoc m.stream given octets;
-        same = ap (begins model) core ∙ begun_hears finds now ws y late ∙ ap (begins model) whole;
+        same = ap (new_event model) core ∙ begun_hears finds now ws y late ∙ ap (new_event model) whole;
         orderly = r.orderly;
         moment_is = r.moment;
         list = h.list ++ r.list;
@@ -321,7 +321,7 @@ reading_begins keys now m old new octets back used before after back_is s one =
     }
 
 pub reading_ends : (keys : List Entry) (now : ℕ) (m : Stack) (new : KEnd) (octets rest : List ℕ) (before after : List Told) → rest ≡ []
-    → StackReading keys now m octets rest new before after → StackDid new before after (stack_hears (λ n. key_at keys now) now octets m)
+    → StackReading keys now m octets rest new before after → StackDid new before after (stack_hear (λ n. key_at keys now) now octets m)
 reading_ends keys now m new octets rest before after none r =
     let h = r.heard in
     let all : r.given ≡ octets = sym (append-nil r.given) ∙ ap (λ (xs : List ℕ). r.given ++ xs) (sym none) ∙ r.whole in
@@ -331,11 +331,11 @@ reading_ends keys now m new octets rest before after none r =
         at = h.at;
         stands = h.stands;
         stream = h.stream ∙ ap (λ (xs : List ℕ). m.stream ++ xs) all;
-        same = h.same ∙ ap (λ (xs : List ℕ). begins model (hears_each finds now (news m.stream xs) (begins_at model now m.core))) all;
+        same = h.same ∙ ap (λ (xs : List ℕ). new_event model (hears_each finds now (news m.stream xs) (new_event_at model now m.core))) all;
         orderly = h.orderly;
         moment = h.moment_is;
       };
       list = h.list;
       grew = h.grew;
-      told = subst (λ (xs : List ℕ). AreTold (stack_told finds now (news m.stream xs) (begins_at model now m.core)) h.list) all h.told;
+      told = subst (λ (xs : List ℕ). AreTold (stack_told finds now (news m.stream xs) (new_event_at model now m.core)) h.list) all h.told;
     }

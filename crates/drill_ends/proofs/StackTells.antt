@@ -2,14 +2,14 @@
 use Rattle.std.proofs.Common.{◌≡◌, ℕ, List, [], ◌++◌, map, Option, Some, None, refl, sym, ap, ◌∙◌}
 use Rattle.er_base.specs.declared.release.Release.{Release}
 use Rattle.des_block.specs.declared.triple_key.TripleKey.{TripleKey}
-use Rattle.station_model.specs.Stations.{Station}
-use Rattle.station_model.specs.Events.{said_octets}
+use Rattle.hdlc_station_model.specs.Stations.{Station}
+use Rattle.hdlc_station_model.specs.Events.{said_octets}
 use Rattle.safety_automaton.specs.Laws.{keys_of}
 use Rattle.safety_automaton.specs.Reports.{KeptSafe}
 use Rattle.safety_automaton.specs.Safety.{SafetyOutcome, SentAu1, SentAu2, SentAu3, SentAr, ReceivedAr, AcceptedDt, SentDt, Refused, ReleasedLocally, ReleasedByPeer, NothingDone, sealed_by, verified_by, session_in}
-use Rattle.safe_pair.specs.Facts.{heard_in, facts_by}
-use Rattle.end_model.specs.Layers.{Spoken, Core}
-use Rattle.end_model.specs.Ends.{End as Stack}
+use Rattle.safety_pair_laws.specs.Facts.{heard_in, facts_by}
+use Rattle.er_end_model.specs.Layers.{Spoken, Core}
+use Rattle.er_end_model.specs.Ends.{End as Stack}
 use Rattle.drill_model.specs.Outcomes.{OfSafety, Frame as FrameOut}
 use Rattle.drill_model.specs.StationEnds.{if_released}
 use Rattle.drill_model.specs.StackEnds.{facts_told, told_at}

@@ -8,15 +8,16 @@ use Rattle.er_base.specs.declared.release.Release.{Release}
 use Rattle.er_base.specs.declared.cause.Cause.TheVariants.{User}
 use Rattle.er_base.specs.Causes.{release_of}
 use Rattle.hdlc_frames.specs.Framing.{Verdict}
-use Rattle.station_model.specs.Frames.{Frame, sent_octets}
-use Rattle.station_model.specs.Stations.{Station, Deed, no_deed, settled}
-use Rattle.station_model.specs.Sending.{waiting}
-use Rattle.station_model.specs.Calls.{closes, hands, finishes}
-use Rattle.station_model.specs.Selective.{receives_as}
-use Rattle.station_model.specs.Events.{said_octets, quits}
+use Rattle.hdlc_station_model.specs.Frames.{Frame, sent_octets}
+use Rattle.hdlc_station_model.specs.Stations.{Station, Deed, no_deed, settled}
+use Rattle.hdlc_station_model.specs.Sending.{waiting}
+use Rattle.hdlc_station_model.specs.Calls.{closes, hands, finishes}
+use Rattle.hdlc_station_model.specs.Selective.{receives_as}
+use Rattle.hdlc_station_model.specs.Events.{said_octets, quits}
 use Rattle.hdlc_balanced.specs.Kept.{texts}
-use Rattle.drill_model.specs.Outcomes.{Outcome, RefusedFull, Arrived, Frame as FrameOut}
-use Rattle.drill_model.specs.StationEnds.{if_up, if_arrived, all_arrived, if_released, told_by, called, refusal_of, handed_unless}
+use Rattle.er_end_model.specs.Outcomes.{RefusedFull}
+use Rattle.drill_model.specs.Outcomes.{Outcome, Arrived, Frame as FrameOut}
+use Rattle.drill_model.specs.StationEnds.{if_up, if_arrived, all_arrived, if_released, told_by, station_and_told, refusal_of, handed_unless}
 use Rattle.drill_ends.specs.declared.told.Told.{Told}
 use Rattle.drill_ends.specs.declared.told.Told.TheVariants as told
 use Rattle.drill_ends.specs.declared.refusal.Refusal.TheVariants as refusal
@@ -94,7 +95,7 @@ module _ (selective : Bool) where
 
   -- and behind it: what the call told, and then its frames
   pub call_ends : (k : EitherStation) (room : Stored) (d : Deed) (t : Station) (before between now : List Told)
-      → StandsInCall k selective [] room d t → between ≡ before ++ told_deed d → TellsFrames room.items between now → CallDid k selective before now (called t)
+      → StandsInCall k selective [] room d t → between ≡ before ++ told_deed d → TellsFrames room.items between now → CallDid k selective before now (station_and_told t)
   call_ends k room d t before between now h tells frames =
       let deed : told_deed d ≡ told_deed t.deed = ap told_deed (sym h.deed) in
       record {
@@ -162,7 +163,7 @@ full_refused s payload n some few many is =
 
 module _ (selective : Bool) where
   pub hand_did : (k : EitherStation) (s : Station) (payload : List ℕ) (now : ℕ) (before after : List Told) → refusal_of s payload None ≡ None
-      → CallDid k selective before after (called (finishes (hands now payload s))) → CallDid k selective before after (handed_unless (refusal_of s payload None) now payload s)
+      → CallDid k selective before after (station_and_told (finishes (hands now payload s))) → CallDid k selective before after (handed_unless (refusal_of s payload None) now payload s)
   hand_did k s payload now before after none d =
       subst (λ o. CallDid k selective before after (handed_unless o now payload s)) (sym none)
       (record { stands = d.stands; list = d.list; grew = d.grew; told = d.told })

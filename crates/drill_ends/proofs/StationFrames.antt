@@ -7,7 +7,7 @@ use Rattle.hdlc_frames.specs.Framing.{Verdict, frames_of, between_flags, all_but
 use Rattle.hdlc_frames.specs.Deframing.{kept_of, stream_of}
 use Rattle.hdlc_frames.specs.FirstClose.{ClosesFirst}
 use Rattle.hdlc_frames.specs.Laws.{KeptStandsForStream, WrittenIsFirst}
-use Rattle.station_model.specs.Frames.{Frame, sent_octets, sent_address, sent_body}
+use Rattle.hdlc_station_model.specs.Frames.{Frame, sent_octets, sent_address, sent_body}
 use Rattle.hdlc_balanced.specs.Kept.{texts}
 use Rattle.drill_ends.specs.declared.told.Told.{Told}
 use Rattle.drill_ends.specs.declared.told.Told.TheVariants as told

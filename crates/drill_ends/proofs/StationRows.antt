@@ -5,15 +5,16 @@ use Rattle.er_base.specs.declared.release.Release.{Release}
 use Rattle.hdlc_frames.specs.Framing.{Verdict, frames_of}
 use Rattle.hdlc_frames.specs.Deframing as frames
 use Rattle.hdlc_frames.specs.Laws.{KeptStandsForStream, GoesOn}
-use Rattle.station_model.specs.Stations.{Station, Deed, no_deed, settled, is_down}
-use Rattle.station_model.specs.Calls.{starts, hands, finishes, ticks}
-use Rattle.station_model.specs.Selective.{receives_as}
-use Rattle.station_model.specs.Laws.{HandsKeep}
-use Rattle.station_pair.specs.Keeping.{FramesGive}
-use Rattle.station_model.specs.Reports.{newer, is_release, TellsRelease, ReleasesAreTold, KeepsRelease, FinishKeepsRelease}
-use Rattle.station_model.specs.Events.{news, is_late}
-use Rattle.drill_model.specs.Outcomes.{Outcome, SendRefusal}
-use Rattle.drill_model.specs.StationEnds.{called, begins, frames_heard, refusal_of, handed_unless, user_sends, if_expired, time_goes_on}
+use Rattle.hdlc_station_model.specs.Stations.{Station, Deed, no_deed, settled, is_down}
+use Rattle.hdlc_station_model.specs.Calls.{starts, hands, finishes, ticks}
+use Rattle.hdlc_station_model.specs.Selective.{receives_as}
+use Rattle.hdlc_station_model.specs.Laws.{HandsKeep}
+use Rattle.hdlc_pair_laws.specs.Keeping.{FramesGive}
+use Rattle.hdlc_station_model.specs.Reports.{newer, is_release, TellsRelease, ReleasesAreTold, KeepsRelease, FinishKeepsRelease}
+use Rattle.hdlc_station_model.specs.Events.{news, is_late}
+use Rattle.er_end_model.specs.Outcomes.{SendRefusal}
+use Rattle.drill_model.specs.Outcomes.{Outcome}
+use Rattle.drill_model.specs.StationEnds.{station_and_told, station_start, frames_heard, refusal_of, handed_unless, station_send, if_expired, station_tick}
 use Rattle.drill_ends.specs.declared.told.Told.{Told}
 use Rattle.drill_ends.specs.declared.station_end.StationEnd.{StationEnd}
 use Rattle.drill_ends.specs.declared.either_station.EitherStation.{EitherStation}
@@ -73,11 +74,11 @@ at_end k selective stream before now a d reads known =
     record { stands = joined k selective a.0 stream d.stands reads known; list = d.list; grew = d.grew; told = d.told }
 
 pub starts_so : ReleasesAreTold → FinishKeepsRelease → (old : StationEnd) (k : EitherStation) (moment : ℕ) (before now : List Told)
-    → ((selective : Bool) → CallTells selective old.station k before now None (λ s. finishes (starts moment s))) → StationDoes old (record old { station = k }) before now (begins moment)
+    → ((selective : Bool) → CallTells selective old.station k before now None (λ s. finishes (starts moment s))) → StationDoes old (record old { station = k }) before now (station_start moment)
 starts_so laws law old k moment before now call selective s stream h =
     let d = call selective s h.station in
     let t : Station = finishes (starts moment s) in
-    at_end (record old { station = k }) selective stream before now (called t) d.0 h.reads
+    at_end (record old { station = k }) selective stream before now (station_and_told t) d.0 h.reads
     (known_told old.released old.released None s t (known_of old selective s stream h) (told_finished law s (starts moment s) (laws moment s h.station.deed).2) d.1 refl)
 
 pub expired_told : (expired : Bool) (outcomes : List Outcome) (list : List Told) → AreTold outcomes list → AreTold (if_expired expired ++ outcomes) list
@@ -86,7 +87,7 @@ expired_told false outcomes list a = a
 
 pub ticks_so : ReleasesAreTold → FinishKeepsRelease → (old : StationEnd) (k : EitherStation) (released new : Option Release) (moment : ℕ) (before now : List Told)
     → ((selective : Bool) → CallTells selective old.station k before now released (λ s. finishes (ticks moment s))) → new ≡ newer released old.released
-    → StationDoes old (record old { station = k; released = new }) before now (time_goes_on moment)
+    → StationDoes old (record old { station = k; released = new }) before now (station_tick moment)
 ticks_so laws law old k released new moment before now call kept selective s stream h =
     let d = call selective s h.station in
     let t : Station = finishes (ticks moment s) in
@@ -95,7 +96,7 @@ ticks_so laws law old k released new moment before now call kept selective s str
           (known_told old.released new released s t (known_of old selective s stream h) (told_finished law s (ticks moment s) (laws moment s h.station.deed).1) d.1 kept);
       list = d.0.list;
       grew = d.0.grew;
-      told = expired_told (is_late moment s) (called t).1 d.0.list d.0.told;
+      told = expired_told (is_late moment s) (station_and_told t).1 d.0.list d.0.told;
     }
 
 -- ---- the user sends
@@ -110,7 +111,7 @@ hand_known laws law hand old moment payload selective s stream h None =
 
 pub sends_so : ReleasesAreTold → FinishKeepsRelease → HandsKeep → (old : StationEnd) (k : EitherStation) (moment : ℕ) (payload : List ℕ) (before now : List Told) → old.released ≡ None
     → ((selective : Bool) → CallDoes selective old.station k before now (λ s. handed_unless (refusal_of s payload None) moment payload s))
-    → StationDoes old (record old { station = k }) before now (user_sends moment payload)
+    → StationDoes old (record old { station = k }) before now (station_send moment payload)
 sends_so laws law hand old k moment payload before now none call selective s stream h =
     let unreleased : s.released ≡ None = sym h.released ∙ none in
     subst (λ r. StationDid (record old { station = k }) selective stream before now (handed_unless (refusal_of s payload r) moment payload s)) (sym unreleased)
@@ -151,7 +152,7 @@ one_heard laws law old k d released new moment verdict selective s stream octets
           (known_told old.released new released s t (known_of old selective s stream h) (told_finished law s (receives_as selective moment verdict s) (laws selective moment verdict s h.station.deed).release) e.1 kept);
       list = e.0.list;
       grew = e.0.grew;
-      told = subst (λ (os : List Outcome). AreTold os e.0.list) (sym (append-nil (called t).1)) e.0.told;
+      told = subst (λ (os : List Outcome). AreTold os e.0.list) (sym (append-nil (station_and_told t).1)) e.0.told;
     })
 
 -- ---- a piece with any number of frames
@@ -160,7 +161,7 @@ frames_heard-append : (selective : Bool) (moment : ℕ) (vs ws : List Verdict) (
     → frames_heard selective moment (vs ++ ws) s ≡ ((frames_heard selective moment ws (frames_heard selective moment vs s).0).0, (frames_heard selective moment vs s).1 ++ (frames_heard selective moment ws (frames_heard selective moment vs s).0).1)
 frames_heard-append selective moment [] ws s = refl
 frames_heard-append selective moment (v ∷ vs) ws s =
-    let a = called (finishes (receives_as selective moment v s)) in
+    let a = station_and_told (finishes (receives_as selective moment v s)) in
     let b = frames_heard selective moment vs a.0 in
     let c = frames_heard selective moment ws b.0 in
     ap (λ (p : Station × List Outcome). (p.0, a.1 ++ p.1)) (frames_heard-append selective moment vs ws a.0)

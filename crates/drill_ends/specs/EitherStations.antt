@@ -1,7 +1,7 @@
 -- Contract: how a clause speaks of a station of the code of either kind, with go-back or with selective reject.
 use Rattle.std.specs.Prelude.{◌≡◌, ℕ, ◌+◌, ◌*◌, ◌≤◌, Bool, true, false, List, ◌++◌, length}
 use Rattle.er_base.specs.Stored.{Stored}
-use Rattle.station_model.specs.Stations.{Station, Deed, no_deed}
+use Rattle.hdlc_station_model.specs.Stations.{Station, Deed, no_deed}
 use Rattle.hdlc_balanced.specs.Kept.{kept_of, texts}
 use Rattle.hdlc_selective.specs.Kept.{SelectiveKept, IsBehind}
 use Rattle.drill_ends.specs.declared.either_station.EitherStation.{EitherStation}

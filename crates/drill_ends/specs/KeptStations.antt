@@ -1,8 +1,8 @@
 -- Contract: an end of levels link and link-sr as the code keeps it.
 use Rattle.std.specs.Prelude.{ℕ, ◌≡◌, ◌≤◌, Bool, List, [], length}
 use Rattle.hdlc_frames.specs.Deframing as frames
-use Rattle.station_model.specs.Stations.{Station, no_deed, is_down}
-use Rattle.station_model.specs.Reports.{is_release}
+use Rattle.hdlc_station_model.specs.Stations.{Station, no_deed, is_down}
+use Rattle.hdlc_station_model.specs.Reports.{is_release}
 use Rattle.drill_ends.specs.declared.either_station.EitherStation.{EitherStation}
 use Rattle.drill_ends.specs.EitherStations.{Keeps}
 use Rattle.drill_ends.specs.declared.station_end.StationEnd.{StationEnd}

@@ -2,7 +2,7 @@
 use Rattle.std.specs.Prelude.{ℕ, ◌-◌, ◌^◌, ◌≡◌, ◌<◌, ◌≤◌, List, [], ◌∷◌, Option, Some, None}
 use Rattle.des_block.specs.declared.triple_key.TripleKey.{TripleKey}
 use Rattle.safety_automaton.specs.Keys.{Entry, key_at}
-use Rattle.safe_pair.specs.Openings.{OfKeys, key_for}
+use Rattle.safety_pair_laws.specs.Openings.{OfKeys, key_for}
 
 -- the KMAC of an engine and a radio block centre, if there is one, at every moment of 64 bits
 abbrev pub entries_of : (engine rbc : ℕ) → Option TripleKey → List Entry

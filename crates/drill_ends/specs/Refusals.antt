@@ -1,5 +1,5 @@
 -- Contract: why the code refuses a send, as the model has it.
-use Rattle.drill_model.specs.Outcomes.{SendRefusal, RefusedReleased, RefusedNotConnected, RefusedLength, RefusedFull}
+use Rattle.er_end_model.specs.Outcomes.{SendRefusal, RefusedReleased, RefusedNotConnected, RefusedLength, RefusedFull}
 use Rattle.drill_ends.specs.declared.refusal.Refusal.{Refusal}
 use Rattle.drill_ends.specs.declared.refusal.Refusal.TheVariants as refusal
 

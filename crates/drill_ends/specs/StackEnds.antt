@@ -3,14 +3,14 @@ use Rattle.std.specs.Prelude.{ℕ, ◌≡◌, ◌≤◌, Bool, List, [], ◌∷�
 use Rattle.des_block.specs.declared.triple_key.TripleKey.{TripleKey}
 use Rattle.safety_automaton.specs.Keys.{Entry, key_at}
 use Rattle.safety_automaton.specs.Safety.{session_in}
-use Rattle.station_model.specs.Frames.{Frame}
-use Rattle.station_model.specs.Events.{news}
+use Rattle.hdlc_station_model.specs.Frames.{Frame}
+use Rattle.hdlc_station_model.specs.Events.{news}
 use Rattle.hdlc_balanced.specs.Kept.{texts}
-use Rattle.end_model.specs.Layers.{model}
-use Rattle.end_model.specs.Steps.{begins, begins_at}
-use Rattle.end_model.specs.Ends.{End as Stack, hears_each}
+use Rattle.er_end_model.specs.Layers.{model}
+use Rattle.er_end_model.specs.Steps.{new_event, new_event_at}
+use Rattle.er_end_model.specs.Ends.{End as Stack, hears_each}
 use Rattle.drill_model.specs.Outcomes.{Outcome}
-use Rattle.drill_model.specs.StackEnds.{stack_told, stack_begins, stack_hears, stack_sends, stack_takes, stack_releases, stack_ticks}
+use Rattle.drill_model.specs.StackEnds.{stack_told, stack_start, stack_hear, stack_send, stack_take, stack_release, stack_tick}
 use Rattle.drill_model.specs.StackReports.{IsOrderly}
 use Rattle.drill_model.specs.Ends.{EndEvent, stack_end_step}
 use Rattle.drill_model.specs.Ends as event
@@ -77,12 +77,12 @@ pub record StackHeard (key_of : ℕ → ℕ → Option TripleKey) (moment : ℕ)
   pub stands : EndStands k at
   pub stream : at.stream ≡ m.stream ++ given
   -- the same core but for what was told
-  pub same : begins model at.core ≡ begins model (hears_each (λ n. key_of) moment (news m.stream given) (begins_at model moment m.core))
+  pub same : new_event model at.core ≡ new_event model (hears_each (λ n. key_of) moment (news m.stream given) (new_event_at model moment m.core))
   pub orderly : IsOrderly at.core
   pub moment_is : at.core.moment ≤ 1000000000000000
   pub list : List Told
   pub grew : now ≡ before ++ list
-  pub told : AreTold (stack_told (λ n. key_of) moment (news m.stream given) (begins_at model moment m.core)) list
+  pub told : AreTold (stack_told (λ n. key_of) moment (news m.stream given) (new_event_at model moment m.core)) list
 
 -- a call that reads octets: the first of an event, and those behind others
 abbrev pub StackReads : List Entry → (moment : ℕ) → KEnd → List ℕ → KEnd → List Told → List Told → Type 0
@@ -92,7 +92,7 @@ StackReads keys moment old octets new between now =
     → StackHeard (key_at keys moment) moment m (given ++ octets) new before now)
 
 abbrev pub StackHears : List Entry → (moment : ℕ) → KEnd → List ℕ → KEnd → List Told → List Told → Type 0
-StackHears keys moment old octets new before now = StackDoes old new before now (stack_hears (λ n. key_at keys moment) moment octets)
+StackHears keys moment old octets new before now = StackDoes old new before now (stack_hear (λ n. key_at keys moment) moment octets)
 
 -- in the midst of it: some octets were given, and with what is left they are all
 pub record StackReading (keys : List Entry) (moment : ℕ) (m : Stack) (octets rest : List ℕ) (k : KEnd) (before now : List Told) : Type 0 where
@@ -104,12 +104,12 @@ pub record StackReading (keys : List Entry) (moment : ℕ) (m : Stack) (octets r
 
 -- what an event does to a stack
 abbrev pub stack_moves : List Entry → (moment : ℕ) → EndEvent → Stack → Stack × List Outcome
-stack_moves keys moment event.Start m = stack_begins moment m
-stack_moves keys moment (event.Receive octets) m = stack_hears (λ n. key_at keys moment) moment octets m
-stack_moves keys moment (event.Send user) m = stack_sends moment user m
-stack_moves keys moment event.Take m = stack_takes moment m
-stack_moves keys moment (event.Release sub) m = stack_releases moment sub m
-stack_moves keys moment event.Tick m = stack_ticks moment m
+stack_moves keys moment event.Start m = stack_start moment m
+stack_moves keys moment (event.Receive octets) m = stack_hear (λ n. key_at keys moment) moment octets m
+stack_moves keys moment (event.Send user) m = stack_send moment user m
+stack_moves keys moment event.Take m = stack_take moment m
+stack_moves keys moment (event.Release sub) m = stack_release moment sub m
+stack_moves keys moment event.Tick m = stack_tick moment m
 
 abbrev pub StackAnswers : List Entry → (moment : ℕ) → KEnd → EndEvent → KEnd → List Told → Type 0
 StackAnswers keys moment old event new list =

@@ -1,12 +1,12 @@
 -- Representation: what an end of levels link and link-sr of the code tells of an event; no claim rests on it.
 use Rattle.std.specs.Prelude.{ℕ, ◌≡◌, Bool, true, false, List, [], ◌∷◌, ◌++◌, map, Option, Some, None}
 use Rattle.er_base.specs.declared.release.Release.{Release}
-use Rattle.station_model.specs.Frames.{Frame, sent_octets}
-use Rattle.station_model.specs.Stations.{Station, Deed}
-use Rattle.station_model.specs.Events.{news}
+use Rattle.hdlc_station_model.specs.Frames.{Frame, sent_octets}
+use Rattle.hdlc_station_model.specs.Stations.{Station, Deed}
+use Rattle.hdlc_station_model.specs.Events.{news}
 use Rattle.drill_model.specs.Outcomes.{Outcome}
 use Rattle.drill_model.specs.Ends.{End, OfStation}
-use Rattle.drill_model.specs.StationEnds.{called, frames_heard}
+use Rattle.drill_model.specs.StationEnds.{station_and_told, frames_heard}
 use Rattle.er_base.specs.Stored.{Stored}
 use Rattle.hdlc_balanced.specs.Kept.{Kept, texts, Stands}
 use Rattle.hdlc_selective.specs.Kept.{SelectiveKept, SelectiveStands}
@@ -84,7 +84,7 @@ CallDoes selective old new before now moves = (s : Station) → StandsQuiet old 
 -- the same of a call that may tell a release
 abbrev pub CallTells : (selective : Bool) → EitherStation → EitherStation → List Told → List Told → Option Release → (Station → Station) → Type 0
 CallTells selective old new before now released call =
-    (s : Station) → StandsQuiet old selective s → CallDid new selective before now (called (call s)) × (released ≡ (call s).deed.released)
+    (s : Station) → StandsQuiet old selective s → CallDid new selective before now (station_and_told (call s)) × (released ≡ (call s).deed.released)
 
 -- a station went on so, was given this stream, and told its outcomes
 pub record StationDid (new : StationEnd) (selective : Bool) (stream : List ℕ) (before now : List Told) (a : Station × List Outcome) : Type 0 where

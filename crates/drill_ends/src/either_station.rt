@@ -4,10 +4,10 @@ ghost use Rattle.std.specs.Prelude.{ℕ, ◌≡◌, ◌++◌, ◌*◌, ◌+◌, 
 ghost use Rattle.er_base.specs.Stored.{HasRoom};
 ghost use Rattle.er_settings.specs.Ranges.{AllAllowed};
 ghost use Rattle.hdlc_frames.specs.Shown.{shown};
-ghost use Rattle.station_model.specs.Stations.{Station as AnyStation, made, no_deed};
-ghost use Rattle.station_model.specs.Sending.{waiting};
-ghost use Rattle.station_model.specs.Calls.{starts, receives, hands, finishes, ticks, closes};
-ghost use Rattle.station_model.specs.Selective.{selective_receives, receives_as};
+ghost use Rattle.hdlc_station_model.specs.Stations.{Station as AnyStation, made, no_deed};
+ghost use Rattle.hdlc_station_model.specs.Sending.{waiting};
+ghost use Rattle.hdlc_station_model.specs.Calls.{starts, receives, hands, finishes, ticks, closes};
+ghost use Rattle.hdlc_station_model.specs.Selective.{selective_receives, receives_as};
 ghost use Rattle.hdlc_balanced.specs.Kept.{Stands, Within};
 ghost use Rattle.hdlc_balanced.specs.Told.{deed_of, released_as};
 ghost use Rattle.hdlc_selective.specs.Kept.{SelectiveStands, FitsPlace};

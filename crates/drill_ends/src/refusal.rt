@@ -1,7 +1,6 @@
 ghost use Rattle.std.specs.Prelude.{◌≡◌};
 ghost use Rattle.safety_automaton.specs.Reports.{refusal_view};
 ghost use Rattle.drill_model.specs.Ends.{refusal_of};
-ghost use Rattle.drill_model.specs.StackEnds.{as_refusal};
 ghost use Rattle.er_end.specs.Shown.{refusal_view as stack_view};
 ghost use Rattle.drill_ends.specs.Refusals.{shown_refusal};
 
@@ -36,7 +35,7 @@ impl Refusal {
 
     /// Why a stack refuses.
     pub fn of_stack(refused: SendRefused) -> Refusal
-        ensures { shown_refusal result ≡ as_refusal (stack_view refused) }
+        ensures { shown_refusal result ≡ (stack_view refused) }
     {
         match refused {
             SendRefused::Released(release) => Refusal::Released(release),

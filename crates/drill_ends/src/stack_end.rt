@@ -2,7 +2,7 @@
 
 ghost use Rattle.std.specs.Prelude.{◌≡◌, ◌<◌, ◌≤◌, [], length, take, IfOk, OnOk};
 ghost use Rattle.safety_automaton.specs.Keys.{key_at};
-ghost use Rattle.drill_model.specs.StackEnds.{stack_begins, stack_sends, stack_takes, stack_releases, stack_ticks};
+ghost use Rattle.drill_model.specs.StackEnds.{stack_start, stack_send, stack_take, stack_release, stack_tick};
 ghost use Rattle.drill_ends.specs.Events.{event_of};
 ghost use Rattle.drill_ends.specs.StackEnds.{StackDoes, StackReads, StackHears, StackAnswers, stack_moves};
 
@@ -24,7 +24,7 @@ fn start(
     now: Moment,
     told: &mut VecDeque<Told>,
 ) -> Result<(), NoMemory>
-    ensures { OnOk result (StackDoes end.old end.new told.old.items told.new.items (stack_begins now)) }
+    ensures { OnOk result (StackDoes end.old end.new told.old.items told.new.items (stack_start now)) }
 {
     er_end::laws::standing();
     drill_model::laws::stacks_report();
@@ -85,7 +85,7 @@ fn send(
     user: &[u8],
     told: &mut VecDeque<Told>,
 ) -> Result<(), NoMemory>
-    ensures { OnOk result (StackDoes end.old end.new told.old.items told.new.items (stack_sends now user.now)) }
+    ensures { OnOk result (StackDoes end.old end.new told.old.items told.new.items (stack_send now user.now)) }
 {
     er_end::laws::standing();
     drill_model::laws::stacks_report();
@@ -107,7 +107,7 @@ fn take_message(
     now: Moment,
     told: &mut VecDeque<Told>,
 ) -> Result<(), NoMemory>
-    ensures { OnOk result (StackDoes end.old end.new told.old.items told.new.items (stack_takes now)) }
+    ensures { OnOk result (StackDoes end.old end.new told.old.items told.new.items (stack_take now)) }
 {
     er_end::laws::standing();
     drill_model::laws::stacks_report();
@@ -129,7 +129,7 @@ fn release(
     sub: u8,
     told: &mut VecDeque<Told>,
 ) -> Result<(), NoMemory>
-    ensures { OnOk result (StackDoes end.old end.new told.old.items told.new.items (stack_releases now sub)) }
+    ensures { OnOk result (StackDoes end.old end.new told.old.items told.new.items (stack_release now sub)) }
 {
     er_end::laws::standing();
     drill_model::laws::stacks_report();
@@ -144,7 +144,7 @@ fn tick(
     now: Moment,
     told: &mut VecDeque<Told>,
 ) -> Result<(), NoMemory>
-    ensures { OnOk result (StackDoes end.old end.new told.old.items told.new.items (stack_ticks now)) }
+    ensures { OnOk result (StackDoes end.old end.new told.old.items told.new.items (stack_tick now)) }
 {
     er_end::laws::standing();
     drill_model::laws::stacks_report();

@@ -2,9 +2,9 @@
 
 ghost use Rattle.std.specs.Prelude.{ℕ, ◌≡◌, ◌<◌, ◌≤◌, ◌==◌, ◌*◌, [], List, length, take, Bool, true, false, IfOk, OnOk};
 ghost use Rattle.er_settings.specs.Ranges.{AllAllowed};
-ghost use Rattle.station_model.specs.Stations.{Station as AnyStation, made};
-ghost use Rattle.station_model.specs.Reports.{newer};
-ghost use Rattle.drill_model.specs.StationEnds.{begins, user_sends, user_releases, time_goes_on};
+ghost use Rattle.hdlc_station_model.specs.Stations.{Station as AnyStation, made};
+ghost use Rattle.hdlc_station_model.specs.Reports.{newer};
+ghost use Rattle.drill_model.specs.StationEnds.{station_start, station_send, station_release, station_tick};
 ghost use Rattle.drill_model.specs.Ends.{station_end_step};
 ghost use Rattle.drill_ends.specs.Events.{event_of};
 ghost use Rattle.drill_ends.specs.KeptStations.{StandsStation};
@@ -84,9 +84,9 @@ impl StationEnd {
         now: Moment,
         told: &mut VecDeque<Told>,
     ) -> Result<(), NoMemory>
-        ensures { OnOk result (StationDoes self.old self.new told.old.items told.new.items (begins now)) }
+        ensures { OnOk result (StationDoes self.old self.new told.old.items told.new.items (station_start now)) }
     {
-        station_model::laws::releases_are_told();
+        hdlc_station_model::laws::releases_are_told();
         self.station.start(alloc, now, told)
     }
 
@@ -102,8 +102,8 @@ impl StationEnd {
         ensures within { IfOk result (λ used. used ≤ length octets.now) }
         ensures moves { IfOk result (λ used. 0 < length octets.now → 0 < used) }
     {
-        station_model::laws::releases_are_told();
-        station_pair::laws::frames_give();
+        hdlc_station_model::laws::releases_are_told();
+        hdlc_pair_laws::laws::frames_give();
         hdlc_frames::laws::goes_on();
         let (used, found) = self.deframer.feed(octets);
         let Some(found) = found else {
@@ -142,10 +142,10 @@ impl StationEnd {
         payload: &[u8],
         told: &mut VecDeque<Told>,
     ) -> Result<(), NoMemory>
-        ensures { OnOk result (StationDoes self.old self.new told.old.items told.new.items (user_sends now payload.now)) }
+        ensures { OnOk result (StationDoes self.old self.new told.old.items told.new.items (station_send now payload.now)) }
     {
-        station_model::laws::releases_are_told();
-        station_model::laws::others_keep();
+        hdlc_station_model::laws::releases_are_told();
+        hdlc_station_model::laws::others_keep();
         if let Some(release) = self.released {
             told.push_back(Told::Refused(Refusal::Released(release)))?;
             return Ok(());
@@ -163,7 +163,7 @@ impl StationEnd {
 
     /// The user releases. Where the station was released before, nothing happens.
     fn release(&mut self, alloc: Global, sub: u8, told: &mut VecDeque<Told>) -> Result<(), NoMemory>
-        ensures { OnOk result (StationDoes self.old self.new told.old.items told.new.items (user_releases sub)) }
+        ensures { OnOk result (StationDoes self.old self.new told.old.items told.new.items (station_release sub)) }
     {
         if self.released.is_some() {
             return Ok(());
@@ -180,9 +180,9 @@ impl StationEnd {
         now: Moment,
         told: &mut VecDeque<Told>,
     ) -> Result<(), NoMemory>
-        ensures { OnOk result (StationDoes self.old self.new told.old.items told.new.items (time_goes_on now)) }
+        ensures { OnOk result (StationDoes self.old self.new told.old.items told.new.items (station_tick now)) }
     {
-        station_model::laws::releases_are_told();
+        hdlc_station_model::laws::releases_are_told();
         let released = self.station.tick(alloc, now, told)?;
         self.released = newer(released, self.released);
         Ok(())

@@ -3,10 +3,10 @@
 ghost use Rattle.std.specs.Prelude.{◌≡◌, ◌*◌, ◌+◌, ◌==◌, ◌≤◌, length, Bool, true, false, None, Some, IfOk, OnOk};
 ghost use Rattle.er_settings.specs.Ranges.{AllAllowed};
 ghost use Rattle.hdlc_frames.specs.Shown.{shown};
-ghost use Rattle.station_model.specs.Stations.{made};
-ghost use Rattle.station_model.specs.Calls.{starts, finishes, ticks};
-ghost use Rattle.station_model.specs.Selective.{receives_as};
-ghost use Rattle.station_model.specs.Events.{quits};
+ghost use Rattle.hdlc_station_model.specs.Stations.{made};
+ghost use Rattle.hdlc_station_model.specs.Calls.{starts, finishes, ticks};
+ghost use Rattle.hdlc_station_model.specs.Selective.{receives_as};
+ghost use Rattle.hdlc_station_model.specs.Events.{quits};
 ghost use Rattle.hdlc_selective.specs.Kept.{FitsPlace};
 ghost use Rattle.drill_model.specs.StationEnds.{refusal_of, handed_unless};
 ghost use Rattle.drill_ends.specs.EitherStations.{Keeps, let_through, let_by};

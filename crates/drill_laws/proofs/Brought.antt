@@ -6,22 +6,22 @@ use Rattle.std.proofs.lemmas.List.Concat.{flat_map-append}
 use Rattle.er_base.specs.declared.side.Side.{Side}
 use Rattle.er_base.specs.declared.side.Side.TheVariants.{E, R}
 use Rattle.er_base.specs.Sides.{other}
-use Rattle.er_settings.specs.declared.settings.Settings.{Settings}
+use Rattle.er_settings.specs.Values.{Settings}
 use Rattle.er_scenario.specs.declared.step.Step.{Step}
 use Rattle.des_block.specs.declared.triple_key.TripleKey.{TripleKey}
 use Rattle.safety_automaton.specs.Rules.{StepsOnly}
-use Rattle.safe_pair.specs.Facts.{Fact, is_side}
-use Rattle.safe_pair.specs.Openings.{OfFixed, OfKeys}
-use Rattle.station_model.specs.Stations.{made}
-use Rattle.end_model.specs.Ends.{Call, Answer}
-use Rattle.end_model.specs.Ends as stacks
-use Rattle.end_model.specs.Hearing.{EventsGive}
+use Rattle.safety_pair_laws.specs.Facts.{Fact, is_side}
+use Rattle.safety_pair_laws.specs.Openings.{OfFixed, OfKeys}
+use Rattle.hdlc_station_model.specs.Stations.{made}
+use Rattle.er_end_model.specs.Ends.{Call, Answer}
+use Rattle.er_end_model.specs.Ends as stacks
+use Rattle.er_end_model.specs.Hearing.{EventsGive}
 use Rattle.drill_model.specs.Outcomes.{Outcome, OfSafety, NothingWaits, UserReleased, Passed, Lost, Repeated, Altered, Inserted, IsShort, Occurrence, at_end}
 use Rattle.drill_model.specs.Ends.{End, OfStation, OfStack, EndEvent, Start, Receive, end_step}
 use Rattle.drill_model.specs.Ends as event
-use Rattle.station_model.specs.Lines.{altered}
-use Rattle.drill_model.specs.Waiting.{LineChange, Lose, Repeat, Alter, Put, changes}
-use Rattle.drill_model.specs.Links.{Link, LinkOpening, OfPair, OfStations, OfStacks, end_of, key_on, waiting_of, with_waiting, give, joined, joined_pair, opened, LinkStep, Send, Pass, Change, Take, Release, Tick, pass, link_step, link_run, life}
+use Rattle.hdlc_station_model.specs.Lines.{altered}
+use Rattle.drill_model.specs.Waiting.{LineChange, Lose, Repeat, Alter, Put, change_first}
+use Rattle.drill_model.specs.Links.{Link, LinkOpening, OfPair, OfStations, OfStacks, end_of, key_on, waiting_of, with_waiting, give, link_of, joined_pair, opened_link, LinkStep, Send, Pass, Change, Take, Release, Tick, pass, link_step, link_run, life}
 use Rattle.drill_model.specs.Worlds.{Plan, link_at, history_on, world_run}
 use Rattle.drill_model.specs.Kinds.{passed_in, deliveries}
 use Rattle.drill_model.specs.Hearing.{heard_by, passed_of, IsHeard, WasBrought, HeardIsBrought}
@@ -110,7 +110,7 @@ link_run_more l (x ∷ steps) s =
 life_more : (settings : Settings) (at : ℕ) (opening : LinkOpening) (own : List LinkStep) (s : LinkStep) (l : Link) (history : List Occurrence)
     → life settings at opening own ≡ (l, history) → life settings at opening (own ++ s ∷ []) ≡ ((link_step l s).0, history ++ (link_step l s).1)
 life_more settings at opening own s l history is =
-    let first : Link × List Occurrence = opened settings at opening in
+    let first : Link × List Occurrence = opened_link settings at opening in
     let a : Link × List Occurrence = link_run first.0 own in
     let b : Link × List Occurrence = link_step a.0 s in
     ap (λ (c : Link × List Occurrence). (c.0, first.1 ++ c.1)) (link_run_more first.0 own s)
@@ -138,7 +138,7 @@ pass_same l R (frame ∷ frames) = (refl, refl)
 step_same : (l : Link) (s : LinkStep) → SameOpening l (link_step l s).0
 step_same l (Send side octets) = given_same l side (event.Send octets)
 step_same l (Pass side) = pass_same l side (waiting_of l side)
-step_same l (Change side change) = waiting_same l side (changes change (waiting_of l side)).0
+step_same l (Change side change) = waiting_same l side (change_first change (waiting_of l side)).0
 step_same l (Take side) = given_same l side event.Take
 step_same l (Release side sub) = given_same l side (event.Release sub)
 step_same l (Tick moment) = (refl, refl)
@@ -149,7 +149,7 @@ deaf_if : (b : Bool) (x y : List (List ℕ) × List Outcome) → AllHear Nothing
 deaf_if true x y hx hy = hx
 deaf_if false x y hx hy = hy
 
-changes_deaf : (change : LineChange) (frames : List (List ℕ)) → AllHear Nothing (changes change frames).1
+changes_deaf : (change : LineChange) (frames : List (List ℕ)) → AllHear Nothing (change_first change frames).1
 changes_deaf Lose [] = (silent Nothing NothingWaits refl refl, tt)
 changes_deaf Lose (frame ∷ frames) = (silent Nothing Lost refl refl, tt)
 changes_deaf Repeat [] = (silent Nothing NothingWaits refl refl, tt)
@@ -184,13 +184,13 @@ quiet_streams P l history side os quiet h =
 -- links before their first event
 abbrev joined_stations : Settings → (moment : ℕ) → (selective : Bool) → Link
 joined_stations settings moment selective =
-    joined (OfStations selective) moment
+    link_of (OfStations selective) moment
     (OfStation selective (made true (settings.modulo == 128) settings.window settings.n2 settings.t1) [])
     (OfStation selective (made false (settings.modulo == 128) settings.window settings.n2 settings.t1) [])
 
 abbrev joined_stacks : Settings → (moment engine rbc : ℕ) (ke : TripleKey) (kr : Option TripleKey) (ra rb : ℕ) → Link
 joined_stacks settings moment engine rbc ke kr ra rb =
-    joined (OfStacks engine rbc ke kr ra rb) moment (OfStack (stacks.opened (Call settings engine rbc ke rb moment)))
+    link_of (OfStacks engine rbc ke kr ra rb) moment (OfStack (stacks.opened (Call settings engine rbc ke rb moment)))
     (OfStack (stacks.opened (Answer settings rbc ra moment)))
 
 module _ (only : StepsOnly) (gives : EventsGive) where
@@ -273,7 +273,7 @@ module _ (only : StepsOnly) (gives : EventsGive) where
   step_streams l history (Send side octets) h = give_streams l history side (event.Send octets) tt h
   step_streams l history (Pass side) h = pass_streams l history side (waiting_of l side) h
   step_streams l history (Change side change) h =
-      let a : List (List ℕ) × List Outcome = changes change (waiting_of l side) in
+      let a : List (List ℕ) × List Outcome = change_first change (waiting_of l side) in
       quiet_streams Nothing (with_waiting l side a.0) history side a.1 (changes_deaf change (waiting_of l side)) (waiting_streams l history side a.0 h)
   step_streams l history (Take side) h = give_streams l history side event.Take tt h
   step_streams l history (Release side sub) h =
@@ -360,7 +360,7 @@ module _ (only : StepsOnly) (gives : EventsGive) where
     step_along own l history is opens h (Send side octets) = give_deaf l history side (event.Send octets) tt
     step_along own l history is opens h (Pass side) = pass_along own l history is opens h side (waiting_of l side)
     step_along own l history is opens h (Change side change) =
-        along_deaf history side (changes change (waiting_of l side)).1 (changes_deaf change (waiting_of l side))
+        along_deaf history side (change_first change (waiting_of l side)).1 (changes_deaf change (waiting_of l side))
     step_along own l history is opens h (Take side) = give_deaf l history side event.Take tt
     step_along own l history is opens h (Release side sub) =
         (nothing_told (UserReleased sub) refl history side, give_deaf l (history ++ at_end side (UserReleased sub) ∷ []) side (event.Release sub) tt)
@@ -371,14 +371,14 @@ module _ (only : StepsOnly) (gives : EventsGive) where
 
   -- ---- a link as it is opened, and each step of it
 
-  opened_streams : (settings : Settings) (moment : ℕ) (opening : LinkOpening) → Streams (opened settings moment opening).0 (opened settings moment opening).1
+  opened_streams : (settings : Settings) (moment : ℕ) (opening : LinkOpening) → Streams (opened_link settings moment opening).0 (opened_link settings moment opening).1
   opened_streams settings moment (OfPair (OfFixed engine rbc ke kr)) = record { e = tt; r = tt }
   opened_streams settings moment (OfPair (OfKeys engine rbc ke kr ra rb)) =
       give_streams (joined_pair (OfKeys engine rbc ke kr ra rb) moment) [] E Start tt (record { e = tt; r = tt })
   opened_streams settings moment (OfStations selective) = record { e = tt; r = tt }
   opened_streams settings moment (OfStacks engine rbc ke kr ra rb) = give_streams (joined_stacks settings moment engine rbc ke kr ra rb) [] E Start tt (record { e = refl; r = refl })
 
-  opened_along : (settings : Settings) (moment : ℕ) (opening : LinkOpening) → Along (HeardAt settings moment opening) [] (opened settings moment opening).1
+  opened_along : (settings : Settings) (moment : ℕ) (opening : LinkOpening) → Along (HeardAt settings moment opening) [] (opened_link settings moment opening).1
   opened_along settings moment (OfPair (OfFixed engine rbc ke kr)) = tt
   opened_along settings moment (OfPair (OfKeys engine rbc ke kr ra rb)) =
       give_deaf settings moment (OfPair (OfKeys engine rbc ke kr ra rb)) (joined_pair (OfKeys engine rbc ke kr ra rb) moment) [] E Start tt
@@ -386,15 +386,15 @@ module _ (only : StepsOnly) (gives : EventsGive) where
   opened_along settings moment (OfStacks engine rbc ke kr ra rb) = give_deaf settings moment (OfStacks engine rbc ke kr ra rb) (joined_stacks settings moment engine rbc ke kr ra rb) [] E Start tt
 
   opened_same : (settings : Settings) (moment : ℕ) (opening : LinkOpening)
-      → ((opened settings moment opening).0.opened_at ≡ moment) × ((opened settings moment opening).0.opening ≡ opening)
+      → ((opened_link settings moment opening).0.opened_at ≡ moment) × ((opened_link settings moment opening).0.opening ≡ opening)
   opened_same settings moment (OfPair (OfFixed engine rbc ke kr)) = (refl, refl)
   opened_same settings moment (OfPair (OfKeys engine rbc ke kr ra rb)) = (refl, refl)
   opened_same settings moment (OfStations selective) = (refl, refl)
   opened_same settings moment (OfStacks engine rbc ke kr ra rb) = (refl, refl)
 
-  opens_standing : (settings : Settings) (moment : ℕ) (opening : LinkOpening) → Stands settings (opened settings moment opening).0 (opened settings moment opening).1
+  opens_standing : (settings : Settings) (moment : ℕ) (opening : LinkOpening) → Stands settings (opened_link settings moment opening).0 (opened_link settings moment opening).1
   opens_standing settings moment opening =
-      let a : Link × List Occurrence = opened settings moment opening in
+      let a : Link × List Occurrence = opened_link settings moment opening in
       record {
         at = moment;
         opening = opening;

@@ -7,26 +7,27 @@ use Rattle.std.proofs.lemmas.List.Concat.{flat_map-append}
 use Rattle.er_base.specs.declared.side.Side.{Side}
 use Rattle.er_base.specs.declared.side.Side.TheVariants.{E, R}
 use Rattle.er_base.specs.Sides.{other}
-use Rattle.er_settings.specs.declared.settings.Settings.{Settings}
+use Rattle.er_settings.specs.Values.{Settings}
 use Rattle.des_block.specs.declared.triple_key.TripleKey.{TripleKey}
 use Rattle.safety_automaton.specs.Safety.{Safety, SafetyEvent, Received, DataRequest, SafetyOutcome, SentAu1, SentAu2, SentAu3, SentAr, ReceivedAr, AcceptedDt, SentDt, Refused, ReleasedLocally, ReleasedByPeer, NothingDone}
 use Rattle.safety_automaton.specs.Rules.{IsStep, StepsOnly}
-use Rattle.safe_pair.specs.Facts.{SideFact, MarkedFact, at_side, is_side, facts_of, marked}
-use Rattle.safe_pair.specs.Openings.{PairOpening, Agrees, key_for}
-use Rattle.safe_pair.specs.Talks.{answer}
-use Rattle.safe_pair.specs.Deliveries.{sent_of, accepted_of, Flow, under_way, delivered, Flows, Delivers, FitsOpening, set_up_sapdus, IsComplete, HasFlowed, FlowsDeliver}
-use Rattle.safe_pair.specs.Deliveries as pair
+use Rattle.safety_pair_laws.specs.Facts.{SideFact, MarkedFact, at_side, is_side, facts_of, marked}
+use Rattle.safety_pair_laws.specs.Openings.{PairOpening, Agrees, key_for}
+use Rattle.safety_pair_laws.specs.Talks.{answer}
+use Rattle.safety_pair_laws.specs.Deliveries.{sent_of, accepted_of, Flow, under_way, delivered, Flows, Delivers, FitsOpening, set_up_sapdus, IsComplete, HasFlowed, FlowsDeliver}
+use Rattle.safety_pair_laws.specs.Deliveries as pair
 use Rattle.drill_model.specs.Outcomes.{Occurrence}
 use Rattle.drill_model.specs.Links.{Link, LinkOpening, OfPair, OfStations, waiting_of, Pass, pass, link_step}
-use Rattle.station_model.specs.Lines.{next_of}
+use Rattle.hdlc_station_model.specs.Lines.{next_of}
 use Rattle.drill_model.specs.Worlds.{link_at, history_on, next_side, overfull_side, Drain, drain, drain_on, world_run}
 use Rattle.drill_model.specs.Kinds.{sent_by, accepted_by, deliveries, IsLossFree, EndsAgree, bound}
-use Rattle.drill_model.specs.Headline.{FitsSettings, IsConnectedEnd, HasAll, IsEmpty, IsDelivered, DeliversAlways}
-use Rattle.drill_model.specs.Headline as claim
+use Rattle.drill_laws.specs.Laws.{FitsSettings, DeliversAlways}
+use Rattle.drill_model.specs.Claims.{IsConnectedEnd, HasAll, IsEmpty, IsDelivered}
+use Rattle.drill_model.specs.Claims as claim
 use Rattle.drill_model.specs.Growth.{FactsGrow, HistoryGrows, HistoryOfOwn, HistoryOfOther}
 use Rattle.er_settings.specs.Ranges.{AllAllowed}
 use Rattle.er_settings.specs.Laws.{AreBounded, AllowedAreBounded}
-use Rattle.station_pair.specs.Laws.{Delivery, DeliveriesBound, FewWait}
+use Rattle.hdlc_pair_laws.specs.Laws.{Delivery, DeliveriesBound, FewWait}
 use Rattle.drill_laws.proofs.Tellings.{StationLaws}
 use Rattle.drill_laws.proofs.Wired.{Either, kind_of}
 use Rattle.drill_laws.proofs.Losing.{allowed_of, narrow_of}

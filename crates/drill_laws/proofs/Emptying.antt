@@ -8,29 +8,29 @@ use Rattle.er_base.specs.declared.release.Release.{Release}
 use Rattle.er_base.specs.declared.side.Side.{Side}
 use Rattle.er_base.specs.declared.side.Side.TheVariants.{E, R}
 use Rattle.er_base.specs.Sides.{other}
-use Rattle.er_settings.specs.declared.settings.Settings.{Settings}
+use Rattle.er_settings.specs.Values.{Settings}
 use Rattle.er_settings.specs.Laws.{AreBounded}
 use Rattle.hdlc_frames.specs.Framing.{Verdict}
-use Rattle.station_model.specs.declared.phase.Phase.TheVariants.{Up}
-use Rattle.station_model.specs.Stations.{Station, settled}
-use Rattle.station_model.specs.Calls.{finishes}
-use Rattle.station_model.specs.Selective.{receives_as}
-use Rattle.station_model.specs.Events.{news}
-use Rattle.station_pair.specs.Links.{Link as Pair}
-use Rattle.station_pair.specs.Steps.{run}
-use Rattle.station_pair.specs.Laws.{IsNarrow, Opening, Delivery, DeliveriesBound, FewWait}
-use Rattle.station_pair.specs.Laws as of_pair
-use Rattle.safe_pair.specs.Facts.{SideFact, MarkedFact, marked}
+use Rattle.hdlc_station_model.specs.declared.phase.Phase.TheVariants.{Up}
+use Rattle.hdlc_station_model.specs.Stations.{Station, settled}
+use Rattle.hdlc_station_model.specs.Calls.{finishes}
+use Rattle.hdlc_station_model.specs.Selective.{receives_as}
+use Rattle.hdlc_station_model.specs.Events.{news}
+use Rattle.hdlc_pair_laws.specs.Links.{Link as Pair}
+use Rattle.hdlc_pair_laws.specs.Steps.{run}
+use Rattle.hdlc_pair_laws.specs.Laws.{IsNarrow, Opening, Delivery, DeliveriesBound, FewWait}
+use Rattle.hdlc_pair_laws.specs.Laws as of_pair
+use Rattle.safety_pair_laws.specs.Facts.{SideFact, MarkedFact, marked}
 use Rattle.drill_model.specs.Outcomes.{Outcome, Passed, Occurrence, at_end}
 use Rattle.drill_model.specs.StationEnds.{told_by, frames_heard}
 use Rattle.drill_model.specs.Ends.{End, OfStation, EndEvent, end_step}
 use Rattle.drill_model.specs.Ends as event
-use Rattle.drill_model.specs.Links.{Link, LinkOpening, OfStations, end_of, waiting_of, with_waiting, answered, give, key_on, Pass, pass, link_step}
-use Rattle.station_model.specs.Lines.{next_of}
+use Rattle.drill_model.specs.Links.{Link, LinkOpening, OfStations, end_of, waiting_of, with_waiting, with_answer, give, key_on, Pass, pass, link_step}
+use Rattle.hdlc_station_model.specs.Lines.{next_of}
 use Rattle.drill_model.specs.Worlds.{next_side, overfull_side, Drain, drain, drain_on}
 use Rattle.drill_model.specs.Kinds.{sent_by, deliveries, is_disturbed, IsLossFree, bound}
-use Rattle.drill_model.specs.Headline.{FitsSettings, IsConnectedEnd, HasAllPayloads, IsEmpty, IsDelivered}
-use Rattle.drill_model.specs.Headline as claim
+use Rattle.drill_model.specs.Claims.{IsConnectedEnd, HasAllPayloads, IsEmpty, IsDelivered}
+use Rattle.drill_model.specs.Claims as claim
 use Rattle.drill_laws.proofs.Tellings.{Says, says_nothing, says_more, says_append, says_told, all_taken, StationLaws}
 use Rattle.drill_laws.proofs.Wiring.{grows_of, deliveries_grow, passes_of, Sees}
 use Rattle.drill_laws.proofs.Wired.{wired, IsWired, kind_of, wired_steps}
@@ -91,8 +91,8 @@ quiet_then a b c m n x y =
 
 heard_at : (l : Link) (to : Side) (selective : Bool) (s : Station) (stream frame : List ℕ) → end_of l to ≡ OfStation selective s stream
     → (give l to (event.Receive frame)).1 ≡ map (at_end to) (frames_heard selective l.moment (news stream frame) s).1
-heard_at l E selective s stream frame is = ap (λ (end : End). (answered l E (end_step (key_on l.opening) l.moment end (event.Receive frame))).1) is
-heard_at l R selective s stream frame is = ap (λ (end : End). (answered l R (end_step (key_on l.opening) l.moment end (event.Receive frame))).1) is
+heard_at l E selective s stream frame is = ap (λ (end : End). (with_answer l E (end_step (key_on l.opening) l.moment end (event.Receive frame))).1) is
+heard_at l R selective s stream frame is = ap (λ (end : End). (with_answer l R (end_step (key_on l.opening) l.moment end (event.Receive frame))).1) is
 
 end_stays : (l : Link) (side to : Side) (frames : List (List ℕ)) → end_of (with_waiting l side frames) to ≡ end_of l to
 end_stays l E E frames = refl

@@ -8,20 +8,21 @@ use Rattle.hdlc_frames.specs.Framing.{Verdict}
 use Rattle.safety_automaton.specs.Safety.{Safety, SafetyEvent, ConnectRequest, Received, DataRequest, DisconnectRequest, SafetyOutcome, SentAu1, SentAu2, SentAu3, SentAr, ReceivedAr, AcceptedDt, SentDt, ReleasedLocally, ReleasedByPeer, NothingDone, step}
 use Rattle.safety_automaton.specs.Safety as safety
 use Rattle.safety_automaton.specs.Rules.{IsStep, StepsOnly}
-use Rattle.safe_pair.specs.Facts.{Sent, Sealed, heard_in}
-use Rattle.station_model.specs.Stations.{Station, settled, is_down}
-use Rattle.station_model.specs.Selective.{receives_as}
-use Rattle.station_model.specs.Calls.{starts as station_starts, hands, finishes, ticks as station_ticks}
-use Rattle.station_model.specs.Events.{news, said_octets, news as station_news, quits, is_late}
-use Rattle.end_model.specs.Layers.{Spoken, Core, model}
-use Rattle.end_model.specs.Steps.{begins_at, starts, comes, refusal_of, sends_unless, uses, leaves, ticks}
-use Rattle.end_model.specs.Outcomes as stack
-use Rattle.end_model.specs.Ends.{End as Stack, hears_each, finds_expired}
-use Rattle.end_model.specs.Hearing.{FrameGives, EventsGive}
-use Rattle.drill_model.specs.Outcomes.{SendRefusal, Outcome, OfSafety, Handed, Arrived, Up, Took, NothingToTake, Refused, Released, Frame, Expired, UserReleased, Passed, Lost, Repeated, Altered, Inserted, NothingWaits, IsShort}
-use Rattle.drill_model.specs.StationEnds.{if_up, if_arrived, all_arrived, if_released, told_by, called, frames_heard, handed_unless, user_sends, user_releases, if_expired, time_goes_on, begins}
+use Rattle.safety_pair_laws.specs.Facts.{Sent, Sealed, heard_in}
+use Rattle.hdlc_station_model.specs.Stations.{Station, settled, is_down}
+use Rattle.hdlc_station_model.specs.Selective.{receives_as}
+use Rattle.hdlc_station_model.specs.Calls.{starts as station_starts, hands, finishes, ticks as station_ticks}
+use Rattle.hdlc_station_model.specs.Events.{news, said_octets, news as station_news, quits, is_late}
+use Rattle.er_end_model.specs.Layers.{Spoken, Core, model}
+use Rattle.er_end_model.specs.Steps.{new_event_at, step_start, step_frame, refusal_of, step_send_unless, step_take, step_release, step_tick}
+use Rattle.er_end_model.specs.Outcomes as stack
+use Rattle.er_end_model.specs.Ends.{End as Stack, hears_each, finds_expired}
+use Rattle.er_end_model.specs.Hearing.{FrameGives, EventsGive}
+use Rattle.er_end_model.specs.Outcomes.{SendRefusal}
+use Rattle.drill_model.specs.Outcomes.{Outcome, OfSafety, Handed, Arrived, Up, Took, NothingToTake, Refused, Released, Frame, Expired, UserReleased, Passed, Lost, Repeated, Altered, Inserted, NothingWaits, IsShort}
+use Rattle.drill_model.specs.StationEnds.{if_up, if_arrived, all_arrived, if_released, told_by, station_and_told, frames_heard, handed_unless, station_send, station_release, if_expired, station_tick, station_start}
 use Rattle.drill_model.specs.StationEnds as on_station
-use Rattle.drill_model.specs.StackEnds.{facts_told, told_at, stack_told, as_refusal, told_unless, took}
+use Rattle.drill_model.specs.StackEnds.{facts_told, told_at, stack_told, told_unless, told_of_take}
 use Rattle.drill_model.specs.Ends.{End, OfSafe, OfStation, OfStack, EndEvent, Start, Receive, Send, Take, Release as Leave, Tick, refusal_of as refused_as, outcomes_by, station_end_step, stack_end_step, end_step}
 use Rattle.drill_model.specs.Kinds.{passed_in}
 use Rattle.drill_model.specs.Hearing.{heard_by, IsMade, IsHeard}
@@ -101,7 +102,7 @@ module _ (P : List ℕ → Type 0) where
   expired_hears true = (silent P Expired refl refl, tt)
   expired_hears false = tt
 
-  took_hears : (message : Option (List ℕ)) → AllHear P (took message)
+  took_hears : (message : Option (List ℕ)) → AllHear P (told_of_take message)
   took_hears None = (silent P NothingToTake refl refl, tt)
   took_hears (Some message) = (silent P (Took message) refl refl, tt)
 
@@ -140,7 +141,7 @@ module _ (P : List ℕ → Type 0) where
   station_event_hears selective moment s stream (Receive octets) = heard_frames_hear selective moment (station_news stream octets) s
   station_event_hears selective moment s stream (Send payload) = handed_hears (on_station.refusal_of s payload s.released) moment payload s
   station_event_hears selective moment s stream Take = tt
-  station_event_hears selective moment s stream (Leave sub) = left_hears (is_down s.phase) (s, []) (called (quits sub s)) tt (station_hears (quits sub s))
+  station_event_hears selective moment s stream (Leave sub) = left_hears (is_down s.phase) (s, []) (station_and_told (quits sub s)) tt (station_hears (quits sub s))
   station_event_hears selective moment s stream Tick =
       all_append (Hears P) (if_expired (is_late moment s)) (told_by (finishes (station_ticks moment s))) (expired_hears (is_late moment s))
       (station_hears (finishes (station_ticks moment s)))
@@ -249,10 +250,10 @@ module _ (only : StepsOnly) (give : EventsGive) (key_of : ℕ → ℕ → Option
       subst (λ (spoke : Option Spoken). AllHear P (facts_told spoke ++ rest)) (sym none) (rest_hears P x.leaves (said_octets x.line))
 
   sends_deaf : (moment : ℕ) (user : List ℕ) (m : Stack) (refusal : Option stack.SendRefusal)
-      → AllHear Nothing (told_unless refusal (sends_unless model refusal moment user m.core))
-  sends_deaf moment user m (Some refusal) = (silent Nothing (Refused (as_refusal refusal)) refl refl, tt)
+      → AllHear Nothing (told_unless refusal (step_send_unless model refusal moment user m.core))
+  sends_deaf moment user m (Some refusal) = (silent Nothing (Refused refusal) refl refl, tt)
   sends_deaf moment user m None =
-      let x : Core = sends_unless model None moment user m.core in
+      let x : Core = step_send_unless model None moment user m.core in
       call_hears Nothing m.core.safe.safety x (sends_spoke key_of m.core.safe.safety moment user m.core refl)
       (λ t is heard e. other user heard (sym (give.sends moment user m.core t is) ∙ e))
     where
@@ -260,24 +261,24 @@ module _ (only : StepsOnly) (give : EventsGive) (key_of : ℕ → ℕ → Option
       other user heard e = cc
 
   stack_deaf : (moment : ℕ) (m : Stack) (event : EndEvent) → IsNoReceive event → AllHear Nothing (stack_end_step key_of moment m event).1
-  stack_deaf moment m Start none = mute_hears Nothing (starts model moment m.core) (give.starts moment m.core)
+  stack_deaf moment m Start none = mute_hears Nothing (step_start model moment m.core) (give.starts moment m.core)
   stack_deaf moment m (Receive octets) none = absurd none
   stack_deaf moment m (Send user) none = sends_deaf moment user m (refusal_of model user m.core)
   stack_deaf moment m Take none =
       let message : Option (List ℕ) = model.oldest m.core.upper in
-      all_append (Hears Nothing) (took message) (told_at (uses model moment m.core)) (took_hears Nothing message)
-      (mute_hears Nothing (uses model moment m.core) (give.uses moment m.core))
+      all_append (Hears Nothing) (told_of_take message) (told_at (step_take model moment m.core)) (took_hears Nothing message)
+      (mute_hears Nothing (step_take model moment m.core) (give.uses moment m.core))
   stack_deaf moment m (Leave sub) none =
-      let x : Core = leaves model moment sub m.core in
+      let x : Core = step_release model moment sub m.core in
       call_hears Nothing m.core.safe.safety x (leaves_spoke key_of m.core.safe.safety moment sub m.core refl)
       (λ t is heard e. other sub heard (sym (give.leaves moment sub m.core t is) ∙ e))
     where
       other : (sub : ℕ) (heard : List ℕ) → DisconnectRequest sub ≡ Received heard → ⊥
       other sub heard e = cc
   stack_deaf moment m Tick none =
-      let found : Bool = finds_expired (begins_at model moment m.core) in
-      all_append (Hears Nothing) (if_expired found) (told_at (ticks model moment m.core)) (expired_hears Nothing found)
-      (mute_hears Nothing (ticks model moment m.core) (give.ticks moment m.core))
+      let found : Bool = finds_expired (new_event_at model moment m.core) in
+      all_append (Hears Nothing) (if_expired found) (told_at (step_tick model moment m.core)) (expired_hears Nothing found)
+      (mute_hears Nothing (step_tick model moment m.core) (give.ticks moment m.core))
 
   -- ---- level full: frames come
 
@@ -285,17 +286,17 @@ module _ (only : StepsOnly) (give : EventsGive) (key_of : ℕ → ℕ → Option
   behind_each moment verdicts x = hears_each (λ now. key_of) moment verdicts x
 
   hears_more : (moment : ℕ) (verdicts : List Verdict) (verdict : Verdict) (x : Core)
-      → behind_each moment (verdicts ++ verdict ∷ []) x ≡ comes model (λ now. key_of) moment verdict (behind_each moment verdicts x)
+      → behind_each moment (verdicts ++ verdict ∷ []) x ≡ step_frame model (λ now. key_of) moment verdict (behind_each moment verdicts x)
   hears_more moment [] verdict x = refl
-  hears_more moment (v ∷ verdicts) verdict x = hears_more moment verdicts verdict (comes model (λ now. key_of) moment v x)
+  hears_more moment (v ∷ verdicts) verdict x = hears_more moment verdicts verdict (step_frame model (λ now. key_of) moment v x)
 
   each_hears : (moment : ℕ) (m : Stack) (earlier octets : List ℕ) → m.stream ≡ earlier → (rest first : List Verdict) → news earlier octets ≡ first ++ rest
-      → AllHear (IsMade key_of moment m earlier octets) (stack_told (λ now. key_of) moment rest (behind_each moment first (begins_at model moment m.core)))
+      → AllHear (IsMade key_of moment m earlier octets) (stack_told (λ now. key_of) moment rest (behind_each moment first (new_event_at model moment m.core)))
   each_hears moment m earlier octets stream [] first split = tt
   each_hears moment m earlier octets stream (v ∷ rest) first split =
       let P : List ℕ → Type 0 = IsMade key_of moment m earlier octets in
-      let x : Core = behind_each moment first (begins_at model moment m.core) in
-      let y : Core = comes model (λ now. key_of) moment v x in
+      let x : Core = behind_each moment first (new_event_at model moment m.core) in
+      let y : Core = step_frame model (λ now. key_of) moment v x in
       let here : AllHear P (told_at y) =
       call_hears P x.safe.safety y (comes_spoke key_of x.safe.safety moment v x refl) (λ t is heard e. record {
         stream = stream;
@@ -306,7 +307,7 @@ module _ (only : StepsOnly) (give : EventsGive) (key_of : ℕ → ℕ → Option
         made = subst (FrameGives x moment v) e (give.comes (λ now. key_of) moment v x t is);
       }) in
       let there : AllHear P (stack_told (λ now. key_of) moment rest y) =
-      subst (λ (z : Core). AllHear P (stack_told (λ now. key_of) moment rest z)) (hears_more moment first v (begins_at model moment m.core))
+      subst (λ (z : Core). AllHear P (stack_told (λ now. key_of) moment rest z)) (hears_more moment first v (new_event_at model moment m.core))
       (each_hears moment m earlier octets stream rest (first ++ v ∷ []) (split ∙ sym (append_assoc first (v ∷ []) rest))) in
       all_append (Hears P) (told_at y) (stack_told (λ now. key_of) moment rest y) here there
 
@@ -332,7 +333,7 @@ module _ (only : StepsOnly) (give : EventsGive) (key_of : ℕ → ℕ → Option
       own heard octets e = cc
   hears moment (OfStation selective s stream) earlier octets is = station_event_hears Nothing selective moment s stream (Receive octets)
   hears moment (OfStack m) earlier octets stream =
-      subst (λ (before : List ℕ). AllHear (IsMade key_of moment m earlier octets) (stack_told (λ now. key_of) moment (news before octets) (begins_at model moment m.core)))
+      subst (λ (before : List ℕ). AllHear (IsMade key_of moment m earlier octets) (stack_told (λ now. key_of) moment (news before octets) (new_event_at model moment m.core)))
       (sym stream) (each_hears moment m earlier octets stream (news earlier octets) [] refl)
 
   -- an end goes on with the stream that it had, and what it is given

@@ -11,10 +11,10 @@ use Rattle.safety_automaton.specs.declared.role.Role.{Role}
 use Rattle.safety_automaton.specs.declared.role.Role.TheVariants.{Initiator, Responder}
 use Rattle.safety_automaton.specs.Safety.{Safety, Connection, Phase, Ready, WaitAu2, WaitAu3, WaitAr, Connected, Released, SafetyEvent, SafetyOutcome, SentAu1, SentAu2, SentAu3, SentAr, ReceivedAr, AcceptedDt, SentDt, Refused, ReleasedLocally, ReleasedByPeer, NothingDone, flag_of, other_role, session_in, au2_text, au3_text, ar_text, message_text}
 use Rattle.safety_automaton.specs.Rules.{StaysIdle, AtReceived, AtDisconnect, AtConnect, IsStep}
-use Rattle.safe_pair.specs.Facts.{MarkedFact, at_side, facts_of, is_sealing, was_sealed, mistrusts, marked_from}
-use Rattle.end_model.specs.Steps.{is_connected}
-use Rattle.end_pair.specs.Phases.{connection_of, IsEngines, IsCentres}
-use Rattle.end_pair.specs.Ordered.{IsEngine, IsCentre}
+use Rattle.safety_pair_laws.specs.Facts.{MarkedFact, at_side, facts_of, is_sealing, was_sealed, mistrusts, marked_from}
+use Rattle.er_end_model.specs.Steps.{is_connected}
+use Rattle.er_end_pair_laws.specs.Phases.{connection_of, IsEngines, IsCentres}
+use Rattle.er_end_pair_laws.specs.Ordered.{IsEngine, IsCentre}
 use Rattle.drill_model.specs.StackReports.{user_by}
 use Rattle.drill_laws.proofs.StackWiring.{Numbers}
 use Rattle.drill_laws.proofs.StackSaying.{sent_by_step}

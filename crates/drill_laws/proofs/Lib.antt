@@ -40,3 +40,5 @@ mod Repairing
 mod StackRepairing
 mod Recovering
 pub mod StackRuns
+mod SettingsFit
+pub mod Holding

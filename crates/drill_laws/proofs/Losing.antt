@@ -4,20 +4,21 @@ use Rattle.std.specs.Prelude.{Option, Some}
 use Rattle.std.specs.List.{AllByRecursion}
 use Rattle.er_base.specs.declared.release.Release.{Release}
 use Rattle.er_base.specs.declared.side.Side.TheVariants.{E, R}
-use Rattle.er_settings.specs.declared.settings.Settings.{Settings}
+use Rattle.er_settings.specs.Values.{Settings}
 use Rattle.er_settings.specs.Ranges.{IsModulo, AllAllowed}
 use Rattle.er_settings.specs.Laws.{AreBounded, AllowedAreBounded}
-use Rattle.station_model.specs.Frames.{modulo}
-use Rattle.station_model.specs.Lines as line_words
-use Rattle.station_model.specs.Lines.{IsPrefix}
-use Rattle.station_pair.specs.Links.{Link as Pair}
-use Rattle.station_pair.specs.Steps.{run}
-use Rattle.station_pair.specs.Laws.{IsNarrow, Opening, Prefix, LosingLineReasons}
-use Rattle.station_pair.specs.Laws as of_pair
+use Rattle.hdlc_station_model.specs.Frames.{modulo}
+use Rattle.hdlc_station_model.specs.Lines as line_words
+use Rattle.hdlc_station_model.specs.Lines.{IsPrefix}
+use Rattle.hdlc_pair_laws.specs.Links.{Link as Pair}
+use Rattle.hdlc_pair_laws.specs.Steps.{run}
+use Rattle.hdlc_pair_laws.specs.Laws.{IsNarrow, Opening, Prefix, LosingLineReasons}
+use Rattle.hdlc_pair_laws.specs.Laws as of_pair
 use Rattle.drill_model.specs.Outcomes.{Occurrence}
 use Rattle.drill_model.specs.Links.{Link, LinkOpening, OfStations}
 use Rattle.drill_model.specs.Kinds.{sent_by, accepted_by, releases_in, IsOrderKeeping}
-use Rattle.drill_model.specs.Headline.{FitsSettings, IsInOrder, IsLosingLineReason}
+use Rattle.drill_laws.specs.Laws.{FitsSettings}
+use Rattle.drill_model.specs.Claims.{IsInOrder, IsLosingLineReason}
 use Rattle.drill_laws.proofs.Wiring.{IsOfPair}
 use Rattle.drill_laws.proofs.Wired.{wired, IsWired, kind_of}
 

@@ -7,7 +7,7 @@ use Rattle.er_scenario.specs.declared.step.Step.{Step}
 use Rattle.er_scenario.specs.declared.step.Step.TheVariants as does
 use Rattle.drill_model.specs.Outcomes.{Occurrence}
 use Rattle.drill_model.specs.Links.{Link, LinkStep, Pass, Take, Tick, link_step}
-use Rattle.drill_model.specs.Worlds.{Plan, World, Came, On, Drained, link_at, with_link, history_on, at_link, next_side, overfull_side, Drain, drain, drain_on, drain_link, ticks, world_step, world_run}
+use Rattle.drill_model.specs.Worlds.{Plan, World, Came, On, Drained, link_at, with_link, history_on, at_link, next_side, overfull_side, Drain, drain, drain_on, drain_link, tick_each_link, world_step, world_run}
 use Rattle.drill_model.specs.Recovery.{IsPassOrTake, ArePassesAndTakes}
 use Rattle.drill_model.specs.Growth.{HistoryGrows, HistoryOfOwn, HistoryOfOther, FactsGrow, RunGrows}
 use Rattle.drill_laws.proofs.Openings.{numbered}
@@ -84,12 +84,12 @@ module _ (grow : HistoryGrows) (own : HistoryOfOwn) (other : HistoryOfOther) whe
       record { link = rw differs refl; came = other n m (link_step l s).1 apart }
 
   -- a link whose number the ticks have passed
-  unticked : (moment : ℕ) (w : World) (n i count : ℕ) → n < i → Rests n w (ticks moment w i count)
-  unfolding ticks
+  unticked : (moment : ℕ) (w : World) (n i count : ℕ) → n < i → Rests n w (tick_each_link moment w i count)
+  unfolding tick_each_link
   unticked moment w n i zero below = record { link = refl; came = refl }
   unticked moment w n i (suc count) below =
       let a : World × List Came = at_link w i (link_at w i) (Tick moment) in
-      let b : World × List Came = ticks moment a.0 (i + 1) count in
+      let b : World × List Came = tick_each_link moment a.0 (i + 1) count in
       let first : Rests n w a = other_rests w n i (link_at w i) (Tick moment) (under n i below) in
       let later : Rests n a.0 b = unticked moment a.0 n (i + 1) count (omega arith) in
       record {
@@ -104,12 +104,12 @@ module _ (grow : HistoryGrows) (own : HistoryOfOwn) (other : HistoryOfOther) whe
   here w n l s is = rw is (record { link = placed w n (link_step l s).0; came = own n (link_step l s).1 })
 
   pub ticks_lead : (moment : ℕ) (w : World) (n i count : ℕ) (l : Link) → link_at w n ≡ Some l → i ≤ n → n < i + count
-      → Leads n (ticks moment w i count) (link_step l (Tick moment))
-  unfolding ticks
+      → Leads n (tick_each_link moment w i count) (link_step l (Tick moment))
+  unfolding tick_each_link
   ticks_lead moment w n i zero l is from below = absurd (omega arith)
   ticks_lead moment w n i (suc count) l is from below =
       let a : World × List Came = at_link w i (link_at w i) (Tick moment) in
-      let b : World × List Came = ticks moment a.0 (i + 1) count in
+      let b : World × List Came = tick_each_link moment a.0 (i + 1) count in
       elim (cases_eq n i) [
         | inl e ↦
             let now : Leads n a (link_step l (Tick moment)) =
@@ -164,7 +164,7 @@ module _ (grow : HistoryGrows) (own : HistoryOfOwn) (other : HistoryOfOther) whe
         let least : 0 < n = ltb-true 0 n parts.0 in
         let most : n < 65 = ltb-true n 65 parts.1 in
         let goes_on : nat_lt moment w.moment ≡ false = le-ltb moment w.moment on in
-        let now : Leads n (ticks moment (record w { moment = moment }) 1 64) (link_step l (Tick moment)) =
+        let now : Leads n (tick_each_link moment (record w { moment = moment }) 1 64) (link_step l (Tick moment)) =
         ticks_lead moment (record w { moment = moment }) n 1 64 l was.link (omega arith) (omega arith) in
         let step : Leads n (world_step plan w (does.Tick moment)) (link_step l (Tick moment)) = rw goes_on now in
         one_more plan steps (does.Tick moment) n l history (link_step l (Tick moment)) was step

@@ -3,16 +3,17 @@ use Rattle.std.proofs.Common.{◌≡◌, ℕ, zero, suc, ◌+◌, ◌≤◌, ◌
 use Rattle.std.specs.Prelude.{Option, Some, None, option_map}
 use Rattle.std.proofs.lemmas.Bool.{cases_eq, cases_lt, cases_Bool, eq-eqb, ne_eqb, and_parts, ltb-true}
 use Rattle.er_base.specs.declared.side.Side.{Side}
-use Rattle.er_settings.specs.declared.settings.Settings.{Settings}
+use Rattle.er_settings.specs.Values.{Settings}
 use Rattle.er_scenario.specs.declared.step.Step.{Step}
 use Rattle.er_scenario.specs.declared.step.Step.TheVariants as does
-use Rattle.safe_pair.specs.Openings.{OfFixed, OfKeys}
+use Rattle.safety_pair_laws.specs.Openings.{OfFixed, OfKeys}
 use Rattle.drill_model.specs.declared.world_fault.WorldFault.{WorldFault}
 use Rattle.drill_model.specs.Waiting.{Lose, Repeat, Alter, Put}
-use Rattle.drill_model.specs.Links.{Link, LinkOpening, OfPair, OfStations, OfStacks, opened, waiting_of, LinkStep, Send, Pass, Change, Take, Release, Tick, link_step}
-use Rattle.drill_model.specs.Worlds.{Plan, World, Came, new_world, is_link, link_at, with_link, went_on, fixed_opening, link_opening, wire_opening, open_link, at_link, next_side, overfull_side, Drain, drain, drain_on, drain_link, copy_frame, copy_between, ticks, ticked, world_step, world_run_from, world_run}
+use Rattle.drill_model.specs.Links.{Link, LinkOpening, OfPair, OfStations, OfStacks, opened_link, waiting_of, LinkStep, Send, Pass, Change, Take, Release, Tick, link_step}
+use Rattle.drill_model.specs.Worlds.{Plan, World, Came, new_world, is_link, link_at, with_link, went_on, fixed_opening, link_opening, wire_opening, open_link, at_link, next_side, overfull_side, Drain, drain, drain_on, drain_link, copy_frame, copy_between, tick_each_link, tick_world, world_step, world_run_from, world_run}
 use Rattle.drill_model.specs.Faults.{or_else, refusal, overfull_fault, overfull_at, first_overfull, overfull_of}
-use Rattle.drill_model.specs.Headline.{named, opening_by, or_opening, opening_of, OpensAlways, RoomAlways}
+use Rattle.drill_model.specs.Claims.{named, opening_by, or_opening, opening_of}
+use Rattle.drill_laws.specs.Laws.{OpensAlways, RoomAlways}
 use Rattle.drill_model.specs.Growth.{FactsGrow, RunGrows}
 use Rattle.drill_laws.proofs.Viewing.{step_opening}
 
@@ -78,14 +79,14 @@ module _ (grow : FactsGrow) where
   drain_openings w m most None is n = refl
   drain_openings w m most (Some l) is n = same_with w m l (drain most l).link is (drain_opening most l) n
 
-  ticks_openings : (moment : ℕ) (w : World) (i count : ℕ) → SameOpenings w (ticks moment w i count).0
-  unfolding ticks
+  ticks_openings : (moment : ℕ) (w : World) (i count : ℕ) → SameOpenings w (tick_each_link moment w i count).0
+  unfolding tick_each_link
   ticks_openings moment w i zero n = refl
   ticks_openings moment w i (suc count) n =
       let v : World = (at_link w i (link_at w i) (Tick moment)).0 in
       ticks_openings moment v (i + 1) count n ∙ at_openings w i (link_at w i) (Tick moment) refl n
 
-  ticked_openings : (w : World) (moment : ℕ) → SameOpenings w (ticked w moment).0
+  ticked_openings : (w : World) (moment : ℕ) → SameOpenings w (tick_world w moment).0
   ticked_openings w moment n =
       elim (cases_Bool (nat_lt moment w.moment)) [
         | inl back ↦ rw back refl
@@ -94,7 +95,7 @@ module _ (grow : FactsGrow) where
 
   -- ---- openings
 
-  opened_is : (settings : Settings) (moment : ℕ) (opening : LinkOpening) → (opened settings moment opening).0.opening ≡ opening
+  opened_is : (settings : Settings) (moment : ℕ) (opening : LinkOpening) → (opened_link settings moment opening).0.opening ≡ opening
   opened_is settings moment (OfPair (OfFixed engine rbc ke kr)) = refl
   opened_is settings moment (OfPair (OfKeys engine rbc ke kr ra rb)) = refl
   opened_is settings moment (OfStations selective) = refl
@@ -125,10 +126,10 @@ module _ (grow : FactsGrow) where
 
   -- a number that wasn't opened, of a link or not
   opens_new : (plan : Plan) (w : World) (n m : ℕ) (opening : LinkOpening) → link_at w m ≡ None → (b : Bool) → is_link m ≡ b
-      → opening_in (if b then went_on w m (opened plan.settings w.moment opening) else (w, [])).0 n ≡ or_opening (opening_in w n) (named n m (Some opening))
+      → opening_in (if b then went_on w m (opened_link plan.settings w.moment opening) else (w, [])).0 n ≡ or_opening (opening_in w n) (named n m (Some opening))
   opens_new plan w n m opening is true link =
       let f : Option Link → Option LinkOpening = option_map (λ (x : Link). x.opening) in
-      let k : Link = (opened plan.settings w.moment opening).0 in
+      let k : Link = (opened_link plan.settings w.moment opening).0 in
       elim (cases_eq n m) [
         | inl e ↦
             let was : opening_in w n ≡ None = ap f (ap (link_at w) e ∙ is) in

@@ -5,13 +5,13 @@ use Rattle.std.specs.Prelude.{Option, Some}
 use Rattle.er_settings.specs.Ranges.{AllAllowed}
 use Rattle.er_settings.specs.Laws.{AllowedAreBounded}
 use Rattle.er_scenario.specs.declared.step.Step.{Step}
-use Rattle.station_pair.specs.Laws.{Prefix, LosingLineReasons}
+use Rattle.hdlc_pair_laws.specs.Laws.{Prefix, LosingLineReasons}
 use Rattle.drill_model.specs.Outcomes.{Occurrence}
 use Rattle.drill_model.specs.Links.{Link}
 use Rattle.drill_model.specs.Steps.{AllFit}
 use Rattle.drill_model.specs.Worlds.{Plan, link_at, history_on, world_run}
 use Rattle.drill_model.specs.Kinds.{IsNumbered, IsOrderKeeping}
-use Rattle.drill_model.specs.Headline.{FitsSettings, FitsSteps, InOrderAlways, LosingLineReasonsAlways}
+use Rattle.drill_laws.specs.Laws.{FitsSettings, FitsSteps, InOrderAlways, LosingLineReasonsAlways}
 use Rattle.drill_model.specs.Growth.{FactsGrow, HistoryGrows, HistoryOfOwn, HistoryOfOther}
 use Rattle.drill_laws.proofs.Tellings.{StationLaws}
 use Rattle.drill_laws.proofs.Wired.{Either}

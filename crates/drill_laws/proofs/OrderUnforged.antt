@@ -5,19 +5,19 @@ use Rattle.std.specs.Prelude.{Option, Some}
 use Rattle.std.specs.List.{list_any}
 use Rattle.std.proofs.lemmas.Bool.{or_parts}
 use Rattle.std.proofs.lemmas.List.Folds.{list_any-append}
-use Rattle.er_settings.specs.declared.settings.Settings.{Settings}
+use Rattle.er_settings.specs.Values.{Settings}
 use Rattle.er_settings.specs.Ranges.{AllAllowed}
 use Rattle.er_scenario.specs.declared.step.Step.{Step}
-use Rattle.safe_pair.specs.Facts.{SideFact, marked}
-use Rattle.safe_pair.specs.Openings.{PairOpening, OfFixed, OfKeys}
-use Rattle.end_pair.specs.Openings.{Opening}
-use Rattle.end_pair.specs.Links.{Link as Pair}
-use Rattle.end_pair.specs.Ordered.{InStepWhileOrdered}
+use Rattle.safety_pair_laws.specs.Facts.{SideFact, marked}
+use Rattle.safety_pair_laws.specs.Openings.{PairOpening, OfFixed, OfKeys}
+use Rattle.er_end_pair_laws.specs.Openings.{Opening}
+use Rattle.er_end_pair_laws.specs.Links.{Link as Pair}
+use Rattle.er_end_pair_laws.specs.Ordered.{InStepWhileOrdered}
 use Rattle.drill_model.specs.Outcomes.{Occurrence}
-use Rattle.drill_model.specs.Links.{Link, LinkOpening, OfPair, OfStations, OfStacks, opened, LinkStep, link_step}
+use Rattle.drill_model.specs.Links.{Link, LinkOpening, OfPair, OfStations, OfStacks, opened_link, LinkStep, link_step}
 use Rattle.drill_model.specs.Worlds.{Plan, link_at, history_on, world_run}
 use Rattle.drill_model.specs.Kinds.{is_disorder, is_disordered, IsNumbered, EndsAgree}
-use Rattle.drill_model.specs.Headline.{IsUnforged, OrderIsUnforged}
+use Rattle.drill_model.specs.Claims.{IsUnforged, OrderIsUnforged}
 use Rattle.drill_model.specs.Steps.{AllFit}
 use Rattle.drill_model.specs.Growth.{FactsGrow, HistoryGrows, HistoryOfOwn, HistoryOfOther}
 use Rattle.drill_laws.proofs.Tellings.{StationLaws}
@@ -90,16 +90,16 @@ module _ (laws : StackLaws) (while_ordered : InStepWhileOrdered) (facts : FactsG
       }
 
   opens_trusted : (settings : Settings) (moment : ℕ) (opening : LinkOpening) → FitsLinkOpening facts opening
-      → Trusted settings (opened settings moment opening).0 (opened settings moment opening).1
+      → Trusted settings (opened_link settings moment opening).0 (opened_link settings moment opening).1
   opens_trusted settings moment (OfPair opening) fit = inr (lower_pair opening moment)
     where
-      lower_pair : (opening : PairOpening) (moment : ℕ) → IsLower (opened settings moment (OfPair opening)).0.opening
+      lower_pair : (opening : PairOpening) (moment : ℕ) → IsLower (opened_link settings moment (OfPair opening)).0.opening
       lower_pair (OfFixed engine rbc ke kr) moment = tt
       lower_pair (OfKeys engine rbc ke kr ra rb) moment = tt
   opens_trusted settings moment (OfStations selective) fit = inr tt
   opens_trusted settings moment (OfStacks engine rbc ke kr ra rb) fit =
       let k : Numbers = record { engine = engine; rbc = rbc; ke = ke; kr = kr; ra = ra; rb = rb } in
-      let a : Link × List Occurrence = opened settings moment (OfStacks engine rbc ke kr ra rb) in
+      let a : Link × List Occurrence = opened_link settings moment (OfStacks engine rbc ke kr ra rb) in
       let u : IsStacked settings a.0 a.1 = stacked_opens laws.only laws.calls laws.opens settings moment k fit in
       let q : Pair = pair_of settings a.0 a.1 u in
       let k_is : u.k ≡ k = opened_numbers laws.only laws.calls laws.opens settings moment k fit in

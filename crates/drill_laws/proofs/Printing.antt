@@ -6,15 +6,16 @@ use Rattle.std.proofs.lemmas.Bool.{cases_eq, eq-eqb, ne_eqb, cond_both}
 use Rattle.er_base.specs.declared.release.Release.{Release}
 use Rattle.des_block.specs.declared.triple_key.TripleKey.{TripleKey}
 use Rattle.safety_automaton.specs.Safety.{Safety, SafetyEvent, SafetyOutcome, SentAu1, SentAu2, SentAu3, SentAr, ReceivedAr, AcceptedDt, SentDt, Refused, ReleasedLocally, ReleasedByPeer, NothingDone, step}
-use Rattle.safe_pair.specs.Facts.{SideFact, MarkedFact, heard_in, marked, marked_from}
-use Rattle.safe_pair.specs.Marks.{MarksGrow}
+use Rattle.safety_pair_laws.specs.Facts.{SideFact, MarkedFact, heard_in, marked, marked_from}
+use Rattle.safety_pair_laws.specs.Marks.{MarksGrow}
 use Rattle.hdlc_frames.specs.Framing.{Verdict}
-use Rattle.station_model.specs.Stations.{Station, settled, is_down}
-use Rattle.station_model.specs.Calls.{starts, hands, finishes, ticks}
-use Rattle.station_model.specs.Selective.{receives_as}
-use Rattle.station_model.specs.Events.{said_octets, news, quits, is_late}
-use Rattle.drill_model.specs.Outcomes.{Outcome, SendRefusal, Arrived, Frame, Occurrence, facts_at, facts_in}
-use Rattle.drill_model.specs.StationEnds.{if_up, if_arrived, if_released, told_by, called, frames_heard, heard_parts, refusal_of, handed_unless, user_releases, if_expired}
+use Rattle.hdlc_station_model.specs.Stations.{Station, settled, is_down}
+use Rattle.hdlc_station_model.specs.Calls.{starts, hands, finishes, ticks}
+use Rattle.hdlc_station_model.specs.Selective.{receives_as}
+use Rattle.hdlc_station_model.specs.Events.{said_octets, news, quits, is_late}
+use Rattle.er_end_model.specs.Outcomes.{SendRefusal}
+use Rattle.drill_model.specs.Outcomes.{Outcome, Arrived, Frame, Occurrence, facts_at, facts_in}
+use Rattle.drill_model.specs.StationEnds.{if_up, if_arrived, if_released, told_by, station_and_told, frames_heard, heard_parts, refusal_of, handed_unless, station_release, if_expired}
 use Rattle.drill_model.specs.Ends.{OfSafe, OfStation, OfStack, EndEvent, safety_event, outcomes_by, safe_end_step, station_end_step}
 use Rattle.drill_model.specs.Ends as event
 use Rattle.drill_model.specs.Worlds.{Came, On, Drained, history_at, history_on, facts_on}
@@ -154,9 +155,9 @@ rising_expired : (late : Bool) (t : Station) → IsRising (flat_map place_of (if
 rising_expired true t = rising_told t
 rising_expired false t = rising_told t
 
-rising_releases : (sub : ℕ) (s : Station) → IsRising (flat_map place_of (user_releases sub s).1)
+rising_releases : (sub : ℕ) (s : Station) → IsRising (flat_map place_of (station_release sub s).1)
 rising_releases sub s =
-    cond_both (is_down s.phase) (s, []) (called (quits sub s)) (λ (a : Station × List Outcome). IsRising (flat_map place_of a.1)) (λ e. tt) (λ e. rising_told (quits sub s))
+    cond_both (is_down s.phase) (s, []) (station_and_told (quits sub s)) (λ (a : Station × List Outcome). IsRising (flat_map place_of a.1)) (λ e. tt) (λ e. rising_told (quits sub s))
 
 parts_are : (selective : Bool) (moment : ℕ) (verdicts : List Verdict) (s : Station)
     → flat_map (λ (part : List Outcome). part) (heard_parts selective moment verdicts s) ≡ (frames_heard selective moment verdicts s).1

@@ -5,21 +5,22 @@ use Rattle.er_settings.specs.Ranges.{AllAllowed}
 use Rattle.er_settings.specs.Laws.{AllowedAreBounded}
 use Rattle.er_scenario.specs.declared.step.Step.{Step}
 use Rattle.er_scenario.specs.declared.step.Step.TheVariants as does
-use Rattle.station_pair.specs.Links.{Link as Pair}
-use Rattle.station_pair.specs.Steps.{happens, run}
-use Rattle.station_pair.specs.Steps as on_pair
-use Rattle.station_pair.specs.Laws.{Opening, after}
-use Rattle.station_pair.specs.Recovery.{Recovery, PassesBound}
-use Rattle.end_pair.specs.Links.{Link as Ends}
-use Rattle.end_pair.specs.Steps.{run as ends_run}
-use Rattle.end_pair.specs.Steps as on_ends
-use Rattle.end_pair.specs.Recovery as of_ends
+use Rattle.hdlc_pair_laws.specs.Links.{Link as Pair}
+use Rattle.hdlc_pair_laws.specs.Steps.{happens, run}
+use Rattle.hdlc_pair_laws.specs.Steps as on_pair
+use Rattle.hdlc_pair_laws.specs.Laws.{Opening, after}
+use Rattle.hdlc_pair_laws.specs.Recovery.{Recovery, PassesBound}
+use Rattle.er_end_pair_laws.specs.Links.{Link as Ends}
+use Rattle.er_end_pair_laws.specs.Steps.{run as ends_run}
+use Rattle.er_end_pair_laws.specs.Steps as on_ends
+use Rattle.er_end_pair_laws.specs.Recovery as of_ends
 use Rattle.drill_model.specs.Outcomes.{Occurrence}
 use Rattle.drill_model.specs.Links.{Link, LinkOpening, OfStations}
 use Rattle.drill_model.specs.Steps.{AllFit}
 use Rattle.drill_model.specs.Worlds.{Plan, link_at, history_on, world_run}
 use Rattle.drill_model.specs.Recovery.{IsLive, GoOn, NoneWaits, IsRepairable, AreStations, ArePassesAndTakes}
-use Rattle.drill_model.specs.Headline.{FitsSettings, FitsSteps, IsEmpty, IsDelivered, RepairsAlways, DrainsAlways}
+use Rattle.drill_laws.specs.Laws.{FitsSettings, FitsSteps, RepairsAlways, DrainsAlways}
+use Rattle.drill_model.specs.Claims.{IsEmpty, IsDelivered}
 use Rattle.drill_model.specs.Growth.{FactsGrow, HistoryGrows, HistoryOfOwn, HistoryOfOther, RunGrows}
 use Rattle.drill_laws.proofs.Tellings.{StationLaws}
 use Rattle.drill_laws.proofs.Wired.{Either, IsWired}

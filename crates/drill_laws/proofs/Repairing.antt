@@ -3,19 +3,19 @@ use Rattle.std.proofs.Common.{◌≡◌, ℕ, zero, suc, ◌+◌, ◌≤◌, max
 use Rattle.std.specs.Prelude.{Option, Some, None}
 use Rattle.er_base.specs.declared.side.Side.{Side}
 use Rattle.er_base.specs.declared.side.Side.TheVariants.{E, R}
-use Rattle.station_model.specs.Lines.{next_of}
-use Rattle.station_pair.specs.Links.{Link as Pair, opened}
-use Rattle.station_pair.specs.Steps.{happens, run}
-use Rattle.station_pair.specs.Steps as on_pair
-use Rattle.station_pair.specs.Laws.{Opening, after}
-use Rattle.station_pair.specs.Laws as of_pair
-use Rattle.station_pair.specs.Recovery.{ArePasses, AreLive, MayRepeat, IsRecovered, Recovery, PassesBound, passes_bound, bound_of}
+use Rattle.hdlc_station_model.specs.Lines.{next_of}
+use Rattle.hdlc_pair_laws.specs.Links.{Link as Pair, opened}
+use Rattle.hdlc_pair_laws.specs.Steps.{happens, run}
+use Rattle.hdlc_pair_laws.specs.Steps as on_pair
+use Rattle.hdlc_pair_laws.specs.Laws.{Opening, after}
+use Rattle.hdlc_pair_laws.specs.Laws as of_pair
+use Rattle.hdlc_pair_laws.specs.Recovery.{ArePasses, AreLive, MayRepeat, IsRecovered, Recovery, PassesBound, passes_bound, bound_of}
 use Rattle.drill_model.specs.Outcomes.{Occurrence}
 use Rattle.drill_model.specs.Links.{Link, waiting_of, Pass, Tick, link_step}
 use Rattle.drill_model.specs.Worlds.{Plan, overfull_side, Drain, drain, drain_on}
 use Rattle.drill_model.specs.Kinds.{sent_by}
 use Rattle.drill_model.specs.Recovery.{IsLive, GoesOnAt, GoOn, NoneWaits, IsRepairable, drain_bound, DrainEmpties}
-use Rattle.drill_model.specs.Headline.{IsConnectedEnd, HasAllPayloads}
+use Rattle.drill_model.specs.Claims.{IsConnectedEnd, HasAllPayloads}
 use Rattle.drill_laws.proofs.Tellings.{StationLaws}
 use Rattle.drill_laws.proofs.Wiring.{Sees}
 use Rattle.drill_laws.proofs.Wired.{cleared, pass_goes, take_sees, tick_goes, run_append}

@@ -8,7 +8,7 @@ use Rattle.std.proofs.lemmas.List.Folds.{list_any-append}
 use Rattle.std.proofs.lemmas.Slice.Eq.{bytes_eq-Decides}
 use Rattle.er_base.specs.declared.side.Side.{Side}
 use Rattle.des_block.specs.declared.triple_key.TripleKey.{TripleKey}
-use Rattle.safe_pair.specs.Facts.{Fact, Sent, Sealed, Verified, Connected, Accepted, MarkedFact, is_key, is_sealing, sealings_of, sealings, was_sealed, is_side, is_mistrust_of, is_mistrust, mistrusts}
+use Rattle.safety_pair_laws.specs.Facts.{Fact, Sent, Sealed, Verified, Connected, Accepted, MarkedFact, is_key, is_sealing, sealings_of, sealings, was_sealed, is_side, is_mistrust_of, is_mistrust, mistrusts}
 
 -- one of the two sides sealed this text under these session keys
 abbrev pub IsSealed : TripleKey → (text : List ℕ) → List MarkedFact → Type 0

@@ -12,17 +12,17 @@ use Rattle.des_block.specs.declared.triple_key.TripleKey.{TripleKey}
 use Rattle.hdlc_frames.specs.Framing.{Verdict}
 use Rattle.x224_class2.specs.Tpdus.{Dr}
 use Rattle.safety_automaton.specs.Safety.{Safety}
-use Rattle.safe_pair.specs.Facts.{Fact, SideFact, at_side, facts_of}
-use Rattle.safe_pair.specs.Openings.{PairOpening}
-use Rattle.station_model.specs.Events.{said_octets}
-use Rattle.end_model.specs.Outcomes.{SendRefusal}
-use Rattle.end_model.specs.Layers.{Spoken, Core, model}
-use Rattle.end_model.specs.Steps.{begins_at, ends, gives, shuts, finishes, departs, gives_next, goes_on, offers, most_offers, concludes, starts, comes, refusal_of, sends_unless, uses, is_spent, di_of, time_at, ticks, normal_disconnect}
-use Rattle.end_model.specs.Ends.{hears_each}
+use Rattle.safety_pair_laws.specs.Facts.{Fact, SideFact, at_side, facts_of}
+use Rattle.safety_pair_laws.specs.Openings.{PairOpening}
+use Rattle.hdlc_station_model.specs.Events.{said_octets}
+use Rattle.er_end_model.specs.Outcomes.{SendRefusal}
+use Rattle.er_end_model.specs.Layers.{Spoken, Core, model}
+use Rattle.er_end_model.specs.Steps.{new_event_at, with_release, hand_tpdu, close_link, send_owed_answer, send_dr, hand_next_tpdu, has_next_tpdu, hand_waiting_tpdus, most_offers, conclude_event, step_start, step_frame, refusal_of, step_send_unless, step_take, is_spent, di_of, on_expiry, step_tick, normal_disconnect}
+use Rattle.er_end_model.specs.Ends.{hears_each}
 use Rattle.drill_model.specs.Outcomes.{Outcome, Frame, at_end, facts_in}
 use Rattle.drill_model.specs.Growth.{FactsGrow}
 use Rattle.drill_model.specs.StationEnds.{if_released, if_expired}
-use Rattle.drill_model.specs.StackEnds.{facts_told, told_at, stack_told, told_unless, took}
+use Rattle.drill_model.specs.StackEnds.{facts_told, told_at, stack_told, told_unless, told_of_take}
 use Rattle.drill_model.specs.StackReports.{user_in}
 use Rattle.drill_model.specs.Kinds.{sent_in, accepted_in}
 use Rattle.drill_laws.proofs.Speaking.{Speaks, Spoke, comes_spoke, sends_spoke, uses_silent, facts_append, facts_of_facts, rest_silent, expired_silent, took_silent}
@@ -38,42 +38,42 @@ module _ (before : Safety) where
   rests_if true x y hx hy = hx
   rests_if false x y hx hy = hy
 
-  departs_rests : (why : Release) (reason : ℕ) (user : List ℕ) (x : Core) → Rests x → Rests (departs model why reason user x)
-  departs_rests why reason user x h = if_rests (model.may_send x.line) (gives model (Dr reason user) x) x h h
+  departs_rests : (why : Release) (reason : ℕ) (user : List ℕ) (x : Core) → Rests x → Rests (send_dr model why reason user x)
+  departs_rests why reason user x h = if_rests (model.may_send x.line) (hand_tpdu model (Dr reason user) x) x h h
     where
-      if_rests : (b : Bool) (y z : Core) → Rests y → Rests z → Rests (ends why (shuts model (if b then y else z)))
+      if_rests : (b : Bool) (y z : Core) → Rests y → Rests z → Rests (with_release why (close_link model (if b then y else z)))
       if_rests true y z hy hz = hy
       if_rests false y z hy hz = hz
 
-  offers_rest : (n : ℕ) (x : Core) → Rests x → Rests (offers model n x)
-  unfolding offers
+  offers_rest : (n : ℕ) (x : Core) → Rests x → Rests (hand_waiting_tpdus model n x)
+  unfolding hand_waiting_tpdus
   offers_rest zero x h = h
-  offers_rest (suc n) x h = rests_if (goes_on model x) (offers model n (gives_next model x)) x (offers_rest n (gives_next model x) h) h
+  offers_rest (suc n) x h = rests_if (has_next_tpdu model x) (hand_waiting_tpdus model n (hand_next_tpdu model x)) x (offers_rest n (hand_next_tpdu model x) h) h
 
-  concludes_rests : (x : Core) → Rests x → Rests (concludes model x)
-  concludes_rests x h = rests_if (is_some x.released) x (finishes model (offers model most_offers x)) h (offers_rest most_offers x h)
+  concludes_rests : (x : Core) → Rests x → Rests (conclude_event model x)
+  concludes_rests x h = rests_if (is_some x.released) x (send_owed_answer model (hand_waiting_tpdus model most_offers x)) h (offers_rest most_offers x h)
 
-  time_rests : (why : Option Release) (x : Core) → Rests x → Rests (time_at model why x)
+  time_rests : (why : Option Release) (x : Core) → Rests x → Rests (on_expiry model why x)
   time_rests (Some why) x h = h
   time_rests None x h =
       let why : Release = release_of SetUpTimeSpent in
-      rests_if (is_spent x) (departs model why normal_disconnect (di_of why x.safe.safety) x) x
+      rests_if (is_spent x) (send_dr model why normal_disconnect (di_of why x.safe.safety) x) x
       (departs_rests why normal_disconnect (di_of why x.safe.safety) x h) h
 
-pub starts_rest : (now : ℕ) (x : Core) → Rests x.safe.safety (starts model now x)
+pub starts_rest : (now : ℕ) (x : Core) → Rests x.safe.safety (step_start model now x)
 starts_rest now x =
-    let y : Core = begins_at model now x in
+    let y : Core = new_event_at model now x in
     let z : Core = record y { line = model.starts y.moment y.line } in
-    rests_if x.safe.safety (is_some y.released) y (concludes model z) (refl, refl) (concludes_rests x.safe.safety z (refl, refl))
+    rests_if x.safe.safety (is_some y.released) y (conclude_event model z) (refl, refl) (concludes_rests x.safe.safety z (refl, refl))
 
-pub ticks_rest : (now : ℕ) (x : Core) → Rests x.safe.safety (ticks model now x)
+pub ticks_rest : (now : ℕ) (x : Core) → Rests x.safe.safety (step_tick model now x)
 ticks_rest now x =
     let s : Safety = x.safe.safety in
-    let y : Core = begins_at model now x in
+    let y : Core = new_event_at model now x in
     let z : Core = record y { line = model.ticks y.moment y.line } in
     let why : Option Release = model.given_up y.moment y.line in
-    rests_if s (is_some y.released) y (concludes model (time_at model why z)) (refl, refl)
-    (concludes_rests s (time_at model why z) (time_rests s why z (refl, refl)))
+    rests_if s (is_some y.released) y (conclude_event model (on_expiry model why z)) (refl, refl)
+    (concludes_rests s (on_expiry model why z) (time_rests s why z (refl, refl)))
 
 -- ---- what outcomes tell
 
@@ -124,33 +124,33 @@ module _ (grow : FactsGrow) (opening : PairOpening) where
     told_calls before x h = record { spoke = x.upper.spoke; speaks = h; tells = told_tells x }
 
     sends_call_at : (moment : ℕ) (user : List ℕ) (x : Core) (o : Option SendRefusal)
-        → Calls key_of x.safe.safety (told_unless o (sends_unless model o moment user x)) (sends_unless model o moment user x).safe.safety
+        → Calls key_of x.safe.safety (told_unless o (step_send_unless model o moment user x)) (step_send_unless model o moment user x).safe.safety
     sends_call_at moment user x (Some refusal) = record {
       spoke = None;
       speaks = refl;
       tells = record { facts_are = λ side. refl; sent_is = refl; accepted_is = refl };
     }
     sends_call_at moment user x None =
-        told_calls x.safe.safety (sends_unless model None moment user x) (sends_spoke key_of x.safe.safety moment user x refl)
+        told_calls x.safe.safety (step_send_unless model None moment user x) (sends_spoke key_of x.safe.safety moment user x refl)
 
     pub sends_call : (moment : ℕ) (user : List ℕ) (x : Core)
         → let o = refusal_of model user x in
-        Calls key_of x.safe.safety (told_unless o (sends_unless model o moment user x)) (sends_unless model o moment user x).safe.safety
+        Calls key_of x.safe.safety (told_unless o (step_send_unless model o moment user x)) (step_send_unless model o moment user x).safe.safety
     sends_call moment user x = sends_call_at moment user x (refusal_of model user x)
 
-    took_none : (message : Option (List ℕ)) → (flat_map sent_in (took message) ≡ []) × (flat_map accepted_in (took message) ≡ [])
+    took_none : (message : Option (List ℕ)) → (flat_map sent_in (told_of_take message) ≡ []) × (flat_map accepted_in (told_of_take message) ≡ [])
     took_none None = (refl, refl)
     took_none (Some message) = (refl, refl)
 
-    pub takes_call : (moment : ℕ) (x : Core) → Calls key_of x.safe.safety (took (model.oldest x.upper) ++ told_at (uses model moment x)) (uses model moment x).safe.safety
+    pub takes_call : (moment : ℕ) (x : Core) → Calls key_of x.safe.safety (told_of_take (model.oldest x.upper) ++ told_at (step_take model moment x)) (step_take model moment x).safe.safety
     takes_call moment x =
-        let y : Core = uses model moment x in
+        let y : Core = step_take model moment x in
         let message : Option (List ℕ) = model.oldest x.upper in
         let none = took_none message in
         record {
           spoke = y.upper.spoke;
           speaks = uses_silent key_of x.safe.safety moment x refl;
-          tells = tells_behind y.upper.spoke (took message) (told_at y) (λ side. took_silent grow opening side message) none.0 none.1 (told_tells y);
+          tells = tells_behind y.upper.spoke (told_of_take message) (told_at y) (λ side. took_silent grow opening side message) none.0 none.1 (told_tells y);
         }
 
     -- one frame
@@ -158,7 +158,7 @@ module _ (grow : FactsGrow) (opening : PairOpening) where
         → Calls key_of x.safe.safety (stack_told (λ now. key_of) moment verdicts x) (hears_each (λ now. key_of) moment verdicts x).safe.safety
     hears_call moment [] x one = absurd cc
     hears_call moment (v ∷ []) x one =
-        let y : Core = comes model (λ now. key_of) moment v x in
+        let y : Core = step_frame model (λ now. key_of) moment v x in
         subst (λ (os : List Outcome). Calls key_of x.safe.safety os y.safe.safety) (sym (append-nil (told_at y)))
         (told_calls x.safe.safety y (comes_spoke key_of x.safe.safety moment v x refl))
     hears_call moment (v ∷ w ∷ more) x one = absurd cc

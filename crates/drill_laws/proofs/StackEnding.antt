@@ -5,7 +5,7 @@ use Rattle.er_base.specs.declared.release.Release.{Release}
 use Rattle.er_base.specs.declared.cause.Cause.TheVariants.{User, BlockRefused, SetUpTimeSpent}
 use Rattle.er_base.specs.Causes.{release_of, by_this_end}
 use Rattle.hdlc_frames.specs.Framing.{Verdict}
-use Rattle.station_model.specs.Stations.{Deed as LinkDeed}
+use Rattle.hdlc_station_model.specs.Stations.{Deed as LinkDeed}
 use Rattle.t70_header.specs.Joining as joining
 use Rattle.x224_tpdu.specs.Spelling.{Pdu, connection_request, connection_confirm, disconnect_request, disconnect_confirm, data_tpdu, acknowledgement, tpdu_error}
 use Rattle.x224_tpdu.specs.declared.fault.TpFault.{TpFault}
@@ -21,11 +21,11 @@ use Rattle.safety_automaton.specs.Rules.{StepsOnly, IsStep}
 use Rattle.safety_automaton.specs.Reports.{report_of}
 use Rattle.safety_automaton.specs.Safety.{Safety, SafetyEvent, ConnectRequest, Received, DataRequest, DisconnectRequest, SafetyOutcome, SentAu1, SentAu2, SentAu3, SentAr, ReceivedAr, AcceptedDt, SentDt, ReleasedLocally, ReleasedByPeer, NothingDone, peer_flag, sent_by, step}
 use Rattle.safety_automaton.specs.Safety as safety
-use Rattle.safe_pair.specs.Facts.{facts_of}
-use Rattle.end_model.specs.Outcomes.{SendRefusal}
-use Rattle.end_model.specs.Layers.{Spoken, Core, model}
-use Rattle.end_model.specs.Steps.{Finds, begins_at, ends, gives, shuts, finishes, departs, cut_off, deserted, parts, why_of, spoken, is_some_octets, says, accepts, skips, Carrier, InCr, InCc, InDt, answers, keeps, acts, text_comes, does, block_at, is_ready, connects, comes_up, link_at, link_comes, gives_next, goes_on, offers, most_offers, concludes, starts, comes, refusal_of, sends_unless, uses, leaves, is_spent, di_of, time_at, ticks, normal_disconnect}
-use Rattle.end_pair.specs.Ordered.{is_cc, begins_with_cc}
+use Rattle.safety_pair_laws.specs.Facts.{facts_of}
+use Rattle.er_end_model.specs.Outcomes.{SendRefusal}
+use Rattle.er_end_model.specs.Layers.{Spoken, Core, model}
+use Rattle.er_end_model.specs.Steps.{Finds, new_event_at, with_release, hand_tpdu, close_link, send_owed_answer, send_dr, answer_dr, end_after_di, on_safety_release, why_of, with_safety_step, is_some_octets, hand_text, accept_text, skip_message, Carrier, InCr, InCc, InDt, hand_answer, keep_message, on_safety_report, on_text, on_transport_deed, on_joined_block, is_ready, connect_with_text, on_link_up, on_link_told, on_link_deed, hand_next_tpdu, has_next_tpdu, hand_waiting_tpdus, most_offers, conclude_event, step_start, step_frame, refusal_of, step_send_unless, step_take, step_release, is_spent, di_of, on_expiry, step_tick, normal_disconnect}
+use Rattle.er_end_pair_laws.specs.Ordered.{is_cc, begins_with_cc}
 use Rattle.drill_laws.proofs.StackCalls.{facts_spoken}
 
 -- ---- a reception hands nothing and gives nothing
@@ -103,7 +103,7 @@ module _ (S : List Segment) (C : Bool) where
 
   -- ---- releases
 
-  gives_calm : (tpdu : Given) (x : Core) → is_cc tpdu ≡ false → Calm x → Calm (gives model tpdu x)
+  gives_calm : (tpdu : Given) (x : Core) → is_cc tpdu ≡ false → Calm x → Calm (hand_tpdu model tpdu x)
   gives_calm tpdu x other h =
       record { segments_are = h.segments_are; cc_is = other_more x.upper.transport.gave tpdu other ∙ h.cc_is; none = h.none }
 
@@ -115,89 +115,89 @@ module _ (S : List Segment) (C : Bool) where
         none = ap (λ u. facts_spoken u.spoke) same ∙ h.none;
       }
 
-  departs_calm : (why : Release) (reason : ℕ) (user : List ℕ) (x : Core) → Calm x → Calm (departs model why reason user x)
+  departs_calm : (why : Release) (reason : ℕ) (user : List ℕ) (x : Core) → Calm x → Calm (send_dr model why reason user x)
   departs_calm why reason user x h =
-      if_core (λ y. Calm (ends why (shuts model y))) (model.may_send x.line) (gives model (Dr reason user) x) x
-      (same_calm (gives model (Dr reason user) x) _ refl (gives_calm (Dr reason user) x refl h)) (same_calm x _ refl h)
+      if_core (λ y. Calm (with_release why (close_link model y))) (model.may_send x.line) (hand_tpdu model (Dr reason user) x) x
+      (same_calm (hand_tpdu model (Dr reason user) x) _ refl (gives_calm (Dr reason user) x refl h)) (same_calm x _ refl h)
 
-  cut_off_calm : (why : Release) (x : Core) → Calm x → Calm (cut_off model why x)
+  cut_off_calm : (why : Release) (x : Core) → Calm x → Calm (answer_dr model why x)
   cut_off_calm why x h =
-      if_core (λ y. Calm (ends why (finishes model y))) (model.may_send x.line) (gives model Dc x) x
-      (same_calm (gives model Dc x) _ refl (gives_calm Dc x refl h)) (same_calm x _ refl h)
+      if_core (λ y. Calm (with_release why (send_owed_answer model y))) (model.may_send x.line) (hand_tpdu model Dc x) x
+      (same_calm (hand_tpdu model Dc x) _ refl (gives_calm Dc x refl h)) (same_calm x _ refl h)
 
-  parts_calm : (why : Release) (di : List ℕ) (x : Core) → Calm x → Calm (parts model why di x)
+  parts_calm : (why : Release) (di : List ℕ) (x : Core) → Calm x → Calm (on_safety_release model why di x)
   parts_calm why di x h =
-      if_core Calm why.by_peer (deserted model why x) (departs model why normal_disconnect di x) (same_calm x (deserted model why x) refl h) (departs_calm why normal_disconnect di x h)
+      if_core Calm why.by_peer (end_after_di model why x) (send_dr model why normal_disconnect di x) (same_calm x (end_after_di model why x) refl h) (departs_calm why normal_disconnect di x h)
 
   -- ---- what keeps an end live
 
   abbrev Live : Core → Type 0
   Live x = x.released ≡ None
 
-  says_live : (text : List ℕ) (x : Core) → Live x → Live (says model text x)
+  says_live : (text : List ℕ) (x : Core) → Live x → Live (hand_text model text x)
   says_live text x h = if_core Live (is_some_octets text && model.may_hand x.upper) (record x { upper = model.hands_message x.upper text }) x h h
 
-  accepts_live : (text : List ℕ) (x : Core) → Live x → Live (accepts model text x)
+  accepts_live : (text : List ℕ) (x : Core) → Live x → Live (accept_text model text x)
   accepts_live text x h = if_core Live (is_some_octets text) (record x { upper = model.accepts x.upper text }) x h h
 
-  answers_live : (carrier : Carrier) (text : List ℕ) (x : Core) → Live x → Live (answers model carrier text x)
+  answers_live : (carrier : Carrier) (text : List ℕ) (x : Core) → Live x → Live (hand_answer model carrier text x)
   answers_live InCr text x h = accepts_live text x h
   answers_live InCc text x h = says_live text x h
-  answers_live InDt text x h = says_live text (skips model x) h
+  answers_live InDt text x h = says_live text (skip_message model x) h
 
-  keeps_live : (carrier : Carrier) (user : List ℕ) (x : Core) → Live x → Live (keeps model carrier user x)
+  keeps_live : (carrier : Carrier) (user : List ℕ) (x : Core) → Live x → Live (keep_message model carrier user x)
   keeps_live InCr user x h = h
   keeps_live InCc user x h = h
   keeps_live InDt user x h = h
 
-  offers_released : (n : ℕ) (x : Core) → (offers model n x).released ≡ x.released
-  unfolding offers
+  offers_released : (n : ℕ) (x : Core) → (hand_waiting_tpdus model n x).released ≡ x.released
+  unfolding hand_waiting_tpdus
   offers_released zero x = refl
   offers_released (suc n) x =
-      if_core (λ y. y.released ≡ x.released) (goes_on model x) (offers model n (gives_next model x)) x (offers_released n (gives_next model x)) refl
+      if_core (λ y. y.released ≡ x.released) (has_next_tpdu model x) (hand_waiting_tpdus model n (hand_next_tpdu model x)) x (offers_released n (hand_next_tpdu model x)) refl
 
-  concludes_at : (x : Core) (o : Option Release) → x.released ≡ o → Ended x → Ended (if is_some o then x else finishes model (offers model most_offers x))
+  concludes_at : (x : Core) (o : Option Release) → x.released ≡ o → Ended x → Ended (if is_some o then x else send_owed_answer model (hand_waiting_tpdus model most_offers x))
   concludes_at x None is h = inl (offers_released most_offers x ∙ is)
   concludes_at x (Some why) is h = h
 
-  concludes_ended : (x : Core) → Ended x → Ended (concludes model x)
+  concludes_ended : (x : Core) → Ended x → Ended (conclude_event model x)
   concludes_ended x h = concludes_at x x.released refl h
 
   -- ---- a text comes
 
   abbrev told : (carrier : Carrier) (event : SafetyEvent) (next : Safety) (outcome : SafetyOutcome) → Core → Core
-  told carrier event next outcome x = acts model carrier (report_of outcome) (sent_by outcome) (spoken model event (next, outcome) x)
+  told carrier event next outcome x = on_safety_report model carrier (report_of outcome) (sent_by outcome) (with_safety_step model event (next, outcome) x)
 
   -- a step of the safety side that has no facts
   spoken_calm : (event : SafetyEvent) (next : Safety) (outcome : SafetyOutcome) (x : Core) → facts_of event outcome ≡ [] → Fresh x
-      → Calm (spoken model event (next, outcome) x)
+      → Calm (with_safety_step model event (next, outcome) x)
   spoken_calm event next outcome x none h = record { segments_are = h.segments_are; cc_is = h.cc_is; none = none }
 
   acts_ended : (carrier : Carrier) (text : List ℕ) (next : Safety) (outcome : SafetyOutcome) (x : Core) → Fresh x → Ended (told carrier (Received text) next outcome x)
   acts_ended carrier text next (SentAu1 octets) x h = inl h.live
-  acts_ended carrier text next (SentAu2 session sealed octets) x h = inl (answers_live carrier octets (spoken model (Received text) (next, SentAu2 session sealed octets) x) h.live)
+  acts_ended carrier text next (SentAu2 session sealed octets) x h = inl (answers_live carrier octets (with_safety_step model (Received text) (next, SentAu2 session sealed octets) x) h.live)
   acts_ended carrier text next (SentAu3 session verified sealed octets) x h =
-      inl (answers_live carrier octets (spoken model (Received text) (next, SentAu3 session verified sealed octets) x) h.live)
+      inl (answers_live carrier octets (with_safety_step model (Received text) (next, SentAu3 session verified sealed octets) x) h.live)
   acts_ended carrier text next (SentAr c verified sealed octets) x h =
-      inl (answers_live carrier octets (spoken model (Received text) (next, SentAr c verified sealed octets) x) h.live)
-  acts_ended carrier text next (ReceivedAr c verified) x h = inl (answers_live carrier [] (spoken model (Received text) (next, ReceivedAr c verified) x) h.live)
+      inl (answers_live carrier octets (with_safety_step model (Received text) (next, SentAr c verified sealed octets) x) h.live)
+  acts_ended carrier text next (ReceivedAr c verified) x h = inl (answers_live carrier [] (with_safety_step model (Received text) (next, ReceivedAr c verified) x) h.live)
   acts_ended carrier text next (AcceptedDt session user verified) x h =
-      inl (keeps_live carrier user (spoken model (Received text) (next, AcceptedDt session user verified) x) h.live)
+      inl (keeps_live carrier user (with_safety_step model (Received text) (next, AcceptedDt session user verified) x) h.live)
   acts_ended carrier text next (SentDt session user sealed octets) x h = inl h.live
   acts_ended carrier text next (safety.Refused refusal) x h = inl h.live
   acts_ended carrier text next (ReleasedLocally why octets) x h =
-      inr (parts_calm why octets (spoken model (Received text) (next, ReleasedLocally why octets) x) (spoken_calm (Received text) next (ReleasedLocally why octets) x refl h))
+      inr (parts_calm why octets (with_safety_step model (Received text) (next, ReleasedLocally why octets) x) (spoken_calm (Received text) next (ReleasedLocally why octets) x refl h))
   acts_ended carrier text next (ReleasedByPeer why) x h =
-      inr (parts_calm why [] (spoken model (Received text) (next, ReleasedByPeer why) x) (spoken_calm (Received text) next (ReleasedByPeer why) x refl h))
+      inr (parts_calm why [] (with_safety_step model (Received text) (next, ReleasedByPeer why) x) (spoken_calm (Received text) next (ReleasedByPeer why) x refl h))
   acts_ended carrier text next NothingDone x h = inl h.live
 
   module _ (finds : Finds) where
-    text_ended : (carrier : Carrier) (text : List ℕ) (x : Core) → Fresh x → Ended (text_comes model finds carrier text x)
+    text_ended : (carrier : Carrier) (text : List ℕ) (x : Core) → Fresh x → Ended (on_text model finds carrier text x)
     text_ended carrier text x h =
         let a : Safety × SafetyOutcome = step (finds x.moment) x.safe.safety (Received text) in
         acts_ended carrier text a.0 a.1 x h
 
-    does_ended : (deed : Deed) (x : Core) → Fresh x → Ended (does model finds deed x)
+    does_ended : (deed : Deed) (x : Core) → Fresh x → Ended (on_transport_deed model finds deed x)
     does_ended Nothing x h = inl h.live
     does_ended (Called user) x h = text_ended InCr user x h
     does_ended (Confirmed user) x h = text_ended InCc user x h
@@ -205,7 +205,7 @@ module _ (S : List Segment) (C : Bool) where
     does_ended (Disconnected user) x h = inr (cut_off_calm (why_of (di_in user (peer_flag x.safe.safety))) x (calm x h))
     does_ended (transport.Refused sub reason) x h = inr (departs_calm (by_this_end 2 sub) reason [] x (calm x h))
 
-    block_ended : (answer : joining.Answer) (x : Core) → Fresh x → Ended (block_at model finds answer x)
+    block_ended : (answer : joining.Answer) (x : Core) → Fresh x → Ended (on_joined_block model finds answer x)
     block_ended (Ok None) x h = inl h.live
     block_ended (Ok (Some tpdu)) x h =
         let same = reception_same x.upper.transport tpdu in
@@ -213,19 +213,19 @@ module _ (S : List Segment) (C : Bool) where
         (record { live = h.live; segments_are = same.0 ∙ h.segments_are; cc_is = ap begins_with_cc same.1 ∙ h.cc_is; silent = h.silent })
     block_ended (Err fault) x h = inr (departs_calm (release_of BlockRefused) protocol_error [] x (calm x h))
 
-    comes_up_ended : (x : Core) → Fresh x → Ended (comes_up model x)
+    comes_up_ended : (x : Core) → Fresh x → Ended (on_link_up model x)
     comes_up_ended x h =
         let a : Safety × SafetyOutcome = step no_keys x.safe.safety ConnectRequest in
-        let y : Core = spoken model ConnectRequest a x in
-        if_core Ended (model.may_connect x.upper && is_ready x.safe.safety.phase) (connects model (sent_by a.1) y) x
+        let y : Core = with_safety_step model ConnectRequest a x in
+        if_core Ended (model.may_connect x.upper && is_ready x.safe.safety.phase) (connect_with_text model (sent_by a.1) y) x
         (inl (if_core Live (is_some_octets (sent_by a.1)) (record y { upper = model.connects y.upper (sent_by a.1) }) y h.live h.live)) (inl h.live)
 
-    link_ended : (payload : Option (List ℕ)) (up : Bool) (released : Option Release) (x : Core) → Fresh x → Ended (link_at model finds payload up released x)
+    link_ended : (payload : Option (List ℕ)) (up : Bool) (released : Option Release) (x : Core) → Fresh x → Ended (on_link_told model finds payload up released x)
     link_ended (Some payload) up released x h =
         block_ended (joining.step x.joined payload).1 (record x { joined = (joining.step x.joined payload).0 })
         (record { live = h.live; segments_are = h.segments_are; cc_is = h.cc_is; silent = h.silent })
     link_ended None true released x h = comes_up_ended x h
-    link_ended None false (Some why) x h = inr (same_calm x (ends why x) refl (calm x h))
+    link_ended None false (Some why) x h = inr (same_calm x (with_release why x) refl (calm x h))
     link_ended None false None x h = inl h.live
 
 -- ---- the events
@@ -241,60 +241,60 @@ unless x y z None is same segments cc silent live = live is
 unless x y z (Some why) is same segments cc silent live =
     inr (record { segments_are = segments; cc_is = cc; none = ap facts_spoken silent })
 
-pub starts_ended : (now : ℕ) (x : Core) → EndsCalmly x (starts model now x)
+pub starts_ended : (now : ℕ) (x : Core) → EndsCalmly x (step_start model now x)
 starts_ended now x =
-    let y : Core = begins_at model now x in
+    let y : Core = new_event_at model now x in
     let z : Core = record y { line = model.starts y.moment y.line } in
-    unless x (concludes model z) y x.released refl refl refl refl refl
+    unless x (conclude_event model z) y x.released refl refl refl refl refl
     (λ live. concludes_ended x.upper.transport.segments (begins_with_cc x.upper.transport.gave) z (inl live))
 
-pub comes_ended : (finds : Finds) (now : ℕ) (verdict : Verdict) (x : Core) → EndsCalmly x (comes model finds now verdict x)
+pub comes_ended : (finds : Finds) (now : ℕ) (verdict : Verdict) (x : Core) → EndsCalmly x (step_frame model finds now verdict x)
 comes_ended finds now verdict x =
     let S : List Segment = x.upper.transport.segments in
     let C : Bool = begins_with_cc x.upper.transport.gave in
-    let y : Core = begins_at model now x in
+    let y : Core = new_event_at model now x in
     let z : Core = record y { line = model.receives y.moment verdict y.line } in
     let deed : LinkDeed = model.told y.moment verdict y.line in
-    unless x (concludes model (link_comes model finds deed z)) y x.released refl refl refl refl refl
-    (λ live. concludes_ended S C (link_comes model finds deed z)
+    unless x (conclude_event model (on_link_deed model finds deed z)) y x.released refl refl refl refl refl
+    (λ live. concludes_ended S C (on_link_deed model finds deed z)
     (link_ended S C finds deed.payload deed.up deed.released z (record { live = live; segments_are = refl; cc_is = refl; silent = refl })))
 
 -- a send, by whether it is refused
-pub sends_ended : (now : ℕ) (user : List ℕ) (x : Core) (o : Option SendRefusal) → refusal_of model user x ≡ o → (sends_unless model o now user x).released ≡ x.released
+pub sends_ended : (now : ℕ) (user : List ℕ) (x : Core) (o : Option SendRefusal) → refusal_of model user x ≡ o → (step_send_unless model o now user x).released ≡ x.released
 sends_ended now user x (Some refusal) is = refl
 sends_ended now user x None is =
     let S : List Segment = x.upper.transport.segments in
     let C : Bool = begins_with_cc x.upper.transport.gave in
-    let y : Core = begins_at model now x in
+    let y : Core = new_event_at model now x in
     let a : Safety × SafetyOutcome = step no_keys y.safe.safety (DataRequest user) in
-    let z : Core = spoken model (DataRequest user) a y in
+    let z : Core = with_safety_step model (DataRequest user) a y in
     let w : Core = record z { upper = model.sends z.upper user } in
-    let said : (says model (sent_by a.1) w).released ≡ x.released =
+    let said : (hand_text model (sent_by a.1) w).released ≡ x.released =
     if_core (λ v. v.released ≡ x.released) (is_some_octets (sent_by a.1) && model.may_hand w.upper) (record w { upper = model.hands_message w.upper (sent_by a.1) }) w refl refl in
-    concluded (says model (sent_by a.1) w) ∙ said
+    concluded (hand_text model (sent_by a.1) w) ∙ said
   where
-    concluded : (v : Core) → (concludes model v).released ≡ v.released
-    concluded v = if_core (λ u. u.released ≡ v.released) (is_some v.released) v (finishes model (offers model most_offers v)) refl (offers_released [] false most_offers v)
+    concluded : (v : Core) → (conclude_event model v).released ≡ v.released
+    concluded v = if_core (λ u. u.released ≡ v.released) (is_some v.released) v (send_owed_answer model (hand_waiting_tpdus model most_offers v)) refl (offers_released [] false most_offers v)
 
-pub uses_ended : (now : ℕ) (x : Core) → EndsCalmly x (uses model now x)
+pub uses_ended : (now : ℕ) (x : Core) → EndsCalmly x (step_take model now x)
 uses_ended now x =
     let S : List Segment = x.upper.transport.segments in
     let C : Bool = begins_with_cc x.upper.transport.gave in
-    let y : Core = begins_at model now x in
+    let y : Core = new_event_at model now x in
     let z : Core = record y { upper = model.uses y.upper } in
     let rest : Calm S C y = record { segments_are = refl; cc_is = refl; none = refl } in
     let taken : Calm S C z = record { segments_are = refl; cc_is = refl; none = refl } in
-    if_core (Ended S C) (model.untaken y.upper == 0) y (concludes model z) (inr rest) (concludes_ended S C z (inr taken))
+    if_core (Ended S C) (model.untaken y.upper == 0) y (conclude_event model z) (inr rest) (concludes_ended S C z (inr taken))
 
-pub leaves_ended : StepsOnly → (now sub : ℕ) (x : Core) → EndsCalmly x (leaves model now sub x)
+pub leaves_ended : StepsOnly → (now sub : ℕ) (x : Core) → EndsCalmly x (step_release model now sub x)
 leaves_ended only now sub x =
     let S : List Segment = x.upper.transport.segments in
     let C : Bool = begins_with_cc x.upper.transport.gave in
-    let y : Core = begins_at model now x in
+    let y : Core = new_event_at model now x in
     let a : Safety × SafetyOutcome = step no_keys y.safe.safety (DisconnectRequest sub) in
-    let z : Core = spoken model (DisconnectRequest sub) a y in
+    let z : Core = with_safety_step model (DisconnectRequest sub) a y in
     let none : facts_of (DisconnectRequest sub) a.1 ≡ [] = no_facts y.safe.safety a.0 a.1 sub (only no_keys y.safe.safety (DisconnectRequest sub)) in
-    unless x (departs model (release_of (User sub)) normal_disconnect (sent_by a.1) z) y x.released refl refl refl refl refl
+    unless x (send_dr model (release_of (User sub)) normal_disconnect (sent_by a.1) z) y x.released refl refl refl refl refl
     (λ live. inr (departs_calm S C (release_of (User sub)) normal_disconnect (sent_by a.1) z (record { segments_are = refl; cc_is = refl; none = none })))
   where
     not_received : (sub : ℕ) (octets : List ℕ) → DisconnectRequest sub ≡ Received octets → ⊥
@@ -316,19 +316,19 @@ leaves_ended only now sub x =
     no_facts s next (ReleasedByPeer why) sub r = refl
     no_facts s next NothingDone sub r = refl
 
-pub ticks_ended : (now : ℕ) (x : Core) → EndsCalmly x (ticks model now x)
+pub ticks_ended : (now : ℕ) (x : Core) → EndsCalmly x (step_tick model now x)
 ticks_ended now x =
     let S : List Segment = x.upper.transport.segments in
     let C : Bool = begins_with_cc x.upper.transport.gave in
-    let y : Core = begins_at model now x in
+    let y : Core = new_event_at model now x in
     let z : Core = record y { line = model.ticks y.moment y.line } in
     let why : Option Release = model.given_up y.moment y.line in
-    unless x (concludes model (time_at model why z)) y x.released refl refl refl refl refl
-    (λ live. concludes_ended S C (time_at model why z) (time_ended S C why z (record { live = live; segments_are = refl; cc_is = refl; silent = refl })))
+    unless x (conclude_event model (on_expiry model why z)) y x.released refl refl refl refl refl
+    (λ live. concludes_ended S C (on_expiry model why z) (time_ended S C why z (record { live = live; segments_are = refl; cc_is = refl; silent = refl })))
   where
-    time_ended : (S : List Segment) (C : Bool) (why : Option Release) (z : Core) → Fresh S C z → Ended S C (time_at model why z)
-    time_ended S C (Some why) z h = inr (same_calm S C z (ends why z) refl (calm S C z h))
+    time_ended : (S : List Segment) (C : Bool) (why : Option Release) (z : Core) → Fresh S C z → Ended S C (on_expiry model why z)
+    time_ended S C (Some why) z h = inr (same_calm S C z (with_release why z) refl (calm S C z h))
     time_ended S C None z h =
         let why : Release = release_of SetUpTimeSpent in
-        if_core (Ended S C) (is_spent z) (departs model why normal_disconnect (di_of why z.safe.safety) z) z
+        if_core (Ended S C) (is_spent z) (send_dr model why normal_disconnect (di_of why z.safe.safety) z) z
         (inr (departs_calm S C why normal_disconnect (di_of why z.safe.safety) z (calm S C z h))) (inl h.live)

@@ -8,15 +8,15 @@ use Rattle.er_base.specs.declared.release.Release.{Release}
 use Rattle.des_block.specs.declared.triple_key.TripleKey.{TripleKey}
 use Rattle.hdlc_frames.specs.Framing.{Verdict}
 use Rattle.safety_automaton.specs.Rules.{StepsOnly}
-use Rattle.station_model.specs.Events.{said_octets, news}
-use Rattle.end_model.specs.Outcomes.{SendRefusal}
-use Rattle.end_model.specs.Layers.{Core, model}
-use Rattle.end_model.specs.Steps.{Finds, begins_at, starts, comes, refusal_of, sends_unless, uses, leaves, ticks}
-use Rattle.end_model.specs.Ends.{End as Stack, Event, Start, Come, Send, Take, Leave, Tick, hears_each, step, finds_expired}
-use Rattle.end_pair.specs.Links.{frames_said, frames_of_each, frames_unless, frames_by}
+use Rattle.hdlc_station_model.specs.Events.{said_octets, news}
+use Rattle.er_end_model.specs.Outcomes.{SendRefusal}
+use Rattle.er_end_model.specs.Layers.{Core, model}
+use Rattle.er_end_model.specs.Steps.{Finds, new_event_at, step_start, step_frame, refusal_of, step_send_unless, step_take, step_release, step_tick}
+use Rattle.er_end_model.specs.Ends.{End as Stack, Event, Start, Come, Send, Take, Leave, Tick, hears_each, step, finds_expired}
+use Rattle.er_end_pair_laws.specs.Links.{frames_said, frames_of_each, frames_unless, frames_by}
 use Rattle.drill_model.specs.Outcomes.{Outcome, Refused, Took, NothingToTake, Frame, Expired, frames_of, frames_in}
 use Rattle.drill_model.specs.StationEnds.{if_released, if_expired}
-use Rattle.drill_model.specs.StackEnds.{facts_told, told_at, stack_told, as_refusal, told_unless, took}
+use Rattle.drill_model.specs.StackEnds.{facts_told, told_at, stack_told, told_unless, told_of_take}
 use Rattle.drill_model.specs.StackReports.{IsOrderly, CallsReport}
 use Rattle.drill_model.specs.Kinds.{sent_in, accepted_in, released_in, passed_in, is_disorder, is_disturbance}
 use Rattle.drill_model.specs.Ends.{End, OfStack, EndEvent, stack_end_step}
@@ -90,7 +90,7 @@ module _ (only : StepsOnly) (reports : CallsReport) where
       → Says x (hears_each finds moment vs x) (stack_told finds moment vs x) false
   heard_says finds moment [] x orderly = silent_says x x [] false refl refl refl refl refl refl refl refl refl
   heard_says finds moment (v ∷ vs) x orderly =
-      let y : Core = comes model finds moment v x in
+      let y : Core = step_frame model finds moment v x in
       let r = (reports x orderly).1 finds moment v in
       says_then x y (hears_each finds moment vs y) (told_at y) (stack_told finds moment vs y) false false
       (call_says x y (comes_went only finds moment v x) r.1) (heard_says finds moment vs y r.0)
@@ -98,24 +98,24 @@ module _ (only : StepsOnly) (reports : CallsReport) where
   heard_frames : (finds : Finds) (moment : ℕ) (vs : List Verdict) (x : Core) → frames_in (stack_told finds moment vs x) ≡ frames_of_each finds moment vs x
   heard_frames finds moment [] x = refl
   heard_frames finds moment (v ∷ vs) x =
-      let y : Core = comes model finds moment v x in
+      let y : Core = step_frame model finds moment v x in
       frames_append (told_at y) (stack_told finds moment vs y)
       ∙ ap₂ (λ (a b : List (List ℕ)). a ++ b) (frames_told y) (heard_frames finds moment vs y)
 
   heard_orderly : (finds : Finds) (moment : ℕ) (vs : List Verdict) (x : Core) → IsOrderly x → IsOrderly (hears_each finds moment vs x)
   heard_orderly finds moment [] x orderly = orderly
-  heard_orderly finds moment (v ∷ vs) x orderly = heard_orderly finds moment vs (comes model finds moment v x) ((reports x orderly).1 finds moment v).0
+  heard_orderly finds moment (v ∷ vs) x orderly = heard_orderly finds moment vs (step_frame model finds moment v x) ((reports x orderly).1 finds moment v).0
 
   begins_does : (moment : ℕ) (m : Stack) → IsOrderly m.core → Does moment Start m (told_at (step moment Start m).0.core) false
   begins_does moment m orderly =
-      let x : Core = starts model moment m.core in
+      let x : Core = step_start model moment m.core in
       let r = (reports m.core orderly).0 moment in
       record { says = call_says m.core x (starts_went moment m.core) r.1; frames = frames_told x; orderly = r.0 }
 
   hears_does : (finds : Finds) (moment : ℕ) (octets : List ℕ) (m : Stack) → IsOrderly m.core
-      → Does moment (Come finds octets) m (stack_told finds moment (news m.stream octets) (begins_at model moment m.core)) false
+      → Does moment (Come finds octets) m (stack_told finds moment (news m.stream octets) (new_event_at model moment m.core)) false
   hears_does finds moment octets m orderly =
-      let x : Core = begins_at model moment m.core in
+      let x : Core = new_event_at model moment m.core in
       let vs : List Verdict = news m.stream octets in
       let first : Says m.core x [] false = silent_says m.core x [] false refl refl refl refl refl refl refl refl refl in
       record {
@@ -126,11 +126,11 @@ module _ (only : StepsOnly) (reports : CallsReport) where
 
   -- a send, by whether it is refused
   sent_says : (moment : ℕ) (user : List ℕ) (x : Core) → IsOrderly x → (o : Option SendRefusal) → refusal_of model user x ≡ o
-      → let y = sends_unless model o moment user x in Says x y (told_unless o y) false × IsOrderly y
+      → let y = step_send_unless model o moment user x in Says x y (told_unless o y) false × IsOrderly y
   sent_says moment user x orderly (Some refusal) is =
-      (silent_says x x (Refused (as_refusal refusal) ∷ []) false refl refl refl refl refl refl refl refl refl, orderly)
+      (silent_says x x (Refused refusal ∷ []) false refl refl refl refl refl refl refl refl refl, orderly)
   sent_says moment user x orderly None is =
-      let y : Core = sends_unless model None moment user x in
+      let y : Core = step_send_unless model None moment user x in
       let r = (reports x orderly).2 moment user in
       (call_says x y (sends_went moment user x is) r.1, r.0)
 
@@ -145,29 +145,29 @@ module _ (only : StepsOnly) (reports : CallsReport) where
       let both = sent_says moment user m.core orderly o refl in
       record { says = both.0; frames = sent_frames o (step moment (Send user) m).0.core; orderly = both.1 }
 
-  took_says : (x : Core) (o : Option (List ℕ)) → Says x x (took o) false
+  took_says : (x : Core) (o : Option (List ℕ)) → Says x x (told_of_take o) false
   took_says x None = silent_says x x (NothingToTake ∷ []) false refl refl refl refl refl refl refl refl refl
   took_says x (Some message) = silent_says x x (Took message ∷ []) false refl refl refl refl refl refl refl refl refl
 
-  took_frames : (o : Option (List ℕ)) (os : List Outcome) → frames_in (took o ++ os) ≡ frames_in os
+  took_frames : (o : Option (List ℕ)) (os : List Outcome) → frames_in (told_of_take o ++ os) ≡ frames_in os
   took_frames None os = refl
   took_frames (Some message) os = refl
 
   takes_does : (moment : ℕ) (m : Stack) → IsOrderly m.core
-      → Does moment Take m (took (model.oldest m.core.upper) ++ told_at (step moment Take m).0.core) false
+      → Does moment Take m (told_of_take (model.oldest m.core.upper) ++ told_at (step moment Take m).0.core) false
   takes_does moment m orderly =
-      let x : Core = uses model moment m.core in
+      let x : Core = step_take model moment m.core in
       let r = (reports m.core orderly).3 moment in
       let o : Option (List ℕ) = model.oldest m.core.upper in
       record {
-        says = says_then m.core m.core x (took o) (told_at x) false false (took_says m.core o) (call_says m.core x (uses_went moment m.core) r.1);
+        says = says_then m.core m.core x (told_of_take o) (told_at x) false false (took_says m.core o) (call_says m.core x (uses_went moment m.core) r.1);
         frames = took_frames o (told_at x) ∙ frames_told x;
         orderly = r.0;
       }
 
   leaves_does : (moment sub : ℕ) (m : Stack) → IsOrderly m.core → Does moment (Leave sub) m (told_at (step moment (Leave sub) m).0.core) false
   leaves_does moment sub m orderly =
-      let x : Core = leaves model moment sub m.core in
+      let x : Core = step_release model moment sub m.core in
       let r = (reports m.core orderly).4 moment sub in
       record { says = call_says m.core x (leaves_went only moment sub m.core) r.1; frames = frames_told x; orderly = r.0 }
 
@@ -184,12 +184,12 @@ module _ (only : StepsOnly) (reports : CallsReport) where
   or_false false = refl
 
   ticks_does : (moment : ℕ) (m : Stack) → IsOrderly m.core
-      → Does moment Tick m (if_expired (finds_expired (begins_at model moment m.core)) ++ told_at (step moment Tick m).0.core)
-      (finds_expired (begins_at model moment m.core))
+      → Does moment Tick m (if_expired (finds_expired (new_event_at model moment m.core)) ++ told_at (step moment Tick m).0.core)
+      (finds_expired (new_event_at model moment m.core))
   ticks_does moment m orderly =
-      let x : Core = ticks model moment m.core in
+      let x : Core = step_tick model moment m.core in
       let r = (reports m.core orderly).5 moment in
-      let late : Bool = finds_expired (begins_at model moment m.core) in
+      let late : Bool = finds_expired (new_event_at model moment m.core) in
       let both : Says m.core x (if_expired late ++ told_at x) (late || false) =
       says_then m.core m.core x (if_expired late) (told_at x) late false (expired_says m.core late) (call_says m.core x (ticks_went moment m.core) r.1) in
       record {
@@ -216,7 +216,7 @@ module _ (only : StepsOnly) (reports : CallsReport) where
   is_late_at moment m (event.Send user) = false
   is_late_at moment m event.Take = false
   is_late_at moment m (event.Release sub) = false
-  is_late_at moment m event.Tick = finds_expired (begins_at model moment m.core)
+  is_late_at moment m event.Tick = finds_expired (new_event_at model moment m.core)
 
   pub stack_leads : (key_of : ℕ → ℕ → Option TripleKey) (moment : ℕ) (m : Stack) (given : EndEvent)
       → (stack_end_step key_of moment m given).0 ≡ OfStack (step moment (as_given key_of given) m).0

@@ -6,7 +6,7 @@ use Rattle.er_base.specs.declared.cause.Cause.TheVariants.{User, BlockRefused, S
 use Rattle.er_base.specs.Causes.{release_of, by_this_end}
 use Rattle.des_block.specs.declared.triple_key.TripleKey.{TripleKey}
 use Rattle.hdlc_frames.specs.Framing.{Verdict}
-use Rattle.station_model.specs.Stations.{Deed as LinkDeed}
+use Rattle.hdlc_station_model.specs.Stations.{Deed as LinkDeed}
 use Rattle.t70_header.specs.Joining as joining
 use Rattle.x224_class2.specs.Tpdus.{Dr, Dc}
 use Rattle.x224_class2.specs.Transport.{Deed, Nothing, Called, Confirmed, Message, Disconnected}
@@ -17,8 +17,8 @@ use Rattle.safety_automaton.specs.Keys.{no_keys}
 use Rattle.safety_automaton.specs.Rules.{StepsOnly}
 use Rattle.safety_automaton.specs.Reports.{Report, ToldAnswered, ToldConnected, ToldAccepted, ToldReleased, ToldIgnored, report_of}
 use Rattle.safety_automaton.specs.Safety.{Safety, SafetyEvent, ConnectRequest, Received, DataRequest, DisconnectRequest, SafetyOutcome, peer_flag, sent_by, step}
-use Rattle.end_model.specs.Layers.{Core, model}
-use Rattle.end_model.specs.Steps.{Finds, begins_at, ends, gives, shuts, finishes, departs, cut_off, deserted, parts, why_of, spoken, is_some_octets, says, accepts, skips, Carrier, InCr, InCc, InDt, answers, keeps, acts, text_comes, does, block_at, is_ready, connects, comes_up, link_at, link_comes, gives_next, goes_on, offers, most_offers, concludes, starts, comes, is_connected, refusal_of, sends_unless, uses, leaves, is_spent, di_of, time_at, ticks, normal_disconnect}
+use Rattle.er_end_model.specs.Layers.{Core, model}
+use Rattle.er_end_model.specs.Steps.{Finds, new_event_at, with_release, hand_tpdu, close_link, send_owed_answer, send_dr, answer_dr, end_after_di, on_safety_release, why_of, with_safety_step, is_some_octets, hand_text, accept_text, skip_message, Carrier, InCr, InCc, InDt, hand_answer, keep_message, on_safety_report, on_text, on_transport_deed, on_joined_block, is_ready, connect_with_text, on_link_up, on_link_told, on_link_deed, hand_next_tpdu, has_next_tpdu, hand_waiting_tpdus, most_offers, conclude_event, step_start, step_frame, is_connected, refusal_of, step_send_unless, step_take, step_release, is_spent, di_of, on_expiry, step_tick, normal_disconnect}
 use Rattle.drill_laws.proofs.StackSaying.{sent_in_step, sent_by_step, no_send, unrefused, send_step}
 
 if_core : (P : Core → Type 0) (b : Bool) (x y : Core) → P x → P y → P (if b then x else y)
@@ -30,51 +30,51 @@ module _ (U : ℕ) (T : List (List ℕ)) where
   abbrev pub Keeps : Core → Type 0
   Keeps x = (x.upper.used ≡ U) × (sent_in_step x.upper.spoke ≡ T)
 
-  departs_keep : (why : Release) (reason : ℕ) (user : List ℕ) (x : Core) → Keeps x → Keeps (departs model why reason user x)
-  departs_keep why reason user x h = if_core (λ y. Keeps (ends why (shuts model y))) (model.may_send x.line) (gives model (Dr reason user) x) x h h
+  departs_keep : (why : Release) (reason : ℕ) (user : List ℕ) (x : Core) → Keeps x → Keeps (send_dr model why reason user x)
+  departs_keep why reason user x h = if_core (λ y. Keeps (with_release why (close_link model y))) (model.may_send x.line) (hand_tpdu model (Dr reason user) x) x h h
 
-  cut_off_keeps : (why : Release) (x : Core) → Keeps x → Keeps (cut_off model why x)
-  cut_off_keeps why x h = if_core (λ y. Keeps (ends why (finishes model y))) (model.may_send x.line) (gives model Dc x) x h h
+  cut_off_keeps : (why : Release) (x : Core) → Keeps x → Keeps (answer_dr model why x)
+  cut_off_keeps why x h = if_core (λ y. Keeps (with_release why (send_owed_answer model y))) (model.may_send x.line) (hand_tpdu model Dc x) x h h
 
-  parts_keep : (why : Release) (di : List ℕ) (x : Core) → Keeps x → Keeps (parts model why di x)
-  parts_keep why di x h = if_core Keeps why.by_peer (deserted model why x) (departs model why normal_disconnect di x) h (departs_keep why normal_disconnect di x h)
+  parts_keep : (why : Release) (di : List ℕ) (x : Core) → Keeps x → Keeps (on_safety_release model why di x)
+  parts_keep why di x h = if_core Keeps why.by_peer (end_after_di model why x) (send_dr model why normal_disconnect di x) h (departs_keep why normal_disconnect di x h)
 
-  says_keep : (text : List ℕ) (x : Core) → Keeps x → Keeps (says model text x)
+  says_keep : (text : List ℕ) (x : Core) → Keeps x → Keeps (hand_text model text x)
   says_keep text x h = if_core Keeps (is_some_octets text && model.may_hand x.upper) (record x { upper = model.hands_message x.upper text }) x h h
 
-  accepts_keep : (text : List ℕ) (x : Core) → Keeps x → Keeps (accepts model text x)
+  accepts_keep : (text : List ℕ) (x : Core) → Keeps x → Keeps (accept_text model text x)
   accepts_keep text x h = if_core Keeps (is_some_octets text) (record x { upper = model.accepts x.upper text }) x h h
 
-  answers_keep : (carrier : Carrier) (text : List ℕ) (x : Core) → Keeps x → Keeps (answers model carrier text x)
+  answers_keep : (carrier : Carrier) (text : List ℕ) (x : Core) → Keeps x → Keeps (hand_answer model carrier text x)
   answers_keep InCr text x h = accepts_keep text x h
   answers_keep InCc text x h = says_keep text x h
-  answers_keep InDt text x h = says_keep text (skips model x) h
+  answers_keep InDt text x h = says_keep text (skip_message model x) h
 
-  keeps_keep : (carrier : Carrier) (user : List ℕ) (x : Core) → Keeps x → Keeps (keeps model carrier user x)
+  keeps_keep : (carrier : Carrier) (user : List ℕ) (x : Core) → Keeps x → Keeps (keep_message model carrier user x)
   keeps_keep InCr user x h = h
   keeps_keep InCc user x h = h
   keeps_keep InDt user x h = h
 
-  acts_keep : (carrier : Carrier) (report : Report) (octets : List ℕ) (x : Core) → Keeps x → Keeps (acts model carrier report octets x)
+  acts_keep : (carrier : Carrier) (report : Report) (octets : List ℕ) (x : Core) → Keeps x → Keeps (on_safety_report model carrier report octets x)
   acts_keep carrier ToldAnswered octets x h = answers_keep carrier octets x h
   acts_keep carrier (ToldConnected peer) octets x h = answers_keep carrier octets x h
   acts_keep carrier (ToldAccepted user) octets x h = keeps_keep carrier user x h
   acts_keep carrier (ToldReleased why) octets x h = parts_keep why octets x h
   acts_keep carrier ToldIgnored octets x h = h
 
-  offers_keep : (n : ℕ) (x : Core) → Keeps x → Keeps (offers model n x)
-  unfolding offers
+  offers_keep : (n : ℕ) (x : Core) → Keeps x → Keeps (hand_waiting_tpdus model n x)
+  unfolding hand_waiting_tpdus
   offers_keep zero x h = h
-  offers_keep (suc n) x h = if_core Keeps (goes_on model x) (offers model n (gives_next model x)) x (offers_keep n (gives_next model x) h) h
+  offers_keep (suc n) x h = if_core Keeps (has_next_tpdu model x) (hand_waiting_tpdus model n (hand_next_tpdu model x)) x (offers_keep n (hand_next_tpdu model x) h) h
 
-  concludes_keep : (x : Core) → Keeps x → Keeps (concludes model x)
-  concludes_keep x h = if_core Keeps (is_some x.released) x (finishes model (offers model most_offers x)) h (offers_keep most_offers x h)
+  concludes_keep : (x : Core) → Keeps x → Keeps (conclude_event model x)
+  concludes_keep x h = if_core Keeps (is_some x.released) x (send_owed_answer model (hand_waiting_tpdus model most_offers x)) h (offers_keep most_offers x h)
 
-  time_keeps : (why : Option Release) (x : Core) → Keeps x → Keeps (time_at model why x)
+  time_keeps : (why : Option Release) (x : Core) → Keeps x → Keeps (on_expiry model why x)
   time_keeps (Some why) x h = h
   time_keeps None x h =
       let why : Release = release_of SetUpTimeSpent in
-      if_core Keeps (is_spent x) (departs model why normal_disconnect (di_of why x.safe.safety) x) x (departs_keep why normal_disconnect (di_of why x.safe.safety) x h) h
+      if_core Keeps (is_spent x) (send_dr model why normal_disconnect (di_of why x.safe.safety) x) x (departs_keep why normal_disconnect (di_of why x.safe.safety) x h) h
 
 -- ---- the events that are no send
 
@@ -88,13 +88,13 @@ module _ (only : StepsOnly) where
   abbrev Still : ℕ → Core → Type 0
   Still U x = Keeps U [] x
 
-  text_keeps : (U : ℕ) (finds : Finds) (carrier : Carrier) (text : List ℕ) (x : Core) → Still U x → Keeps U [] (text_comes model finds carrier text x)
+  text_keeps : (U : ℕ) (finds : Finds) (carrier : Carrier) (text : List ℕ) (x : Core) → Still U x → Keeps U [] (on_text model finds carrier text x)
   text_keeps U finds carrier text x h =
       let a : Safety × SafetyOutcome = step (finds x.moment) x.safe.safety (Received text) in
-      acts_keep U [] carrier (report_of a.1) (sent_by a.1) (spoken model (Received text) a x)
+      acts_keep U [] carrier (report_of a.1) (sent_by a.1) (with_safety_step model (Received text) a x)
       (h.0, sends_none (finds x.moment) x.safe.safety (Received text) (λ user e. cc))
 
-  does_keep : (U : ℕ) (finds : Finds) (deed : Deed) (x : Core) → Still U x → Keeps U [] (does model finds deed x)
+  does_keep : (U : ℕ) (finds : Finds) (deed : Deed) (x : Core) → Still U x → Keeps U [] (on_transport_deed model finds deed x)
   does_keep U finds Nothing x h = h
   does_keep U finds (Called user) x h = text_keeps U finds InCr user x h
   does_keep U finds (Confirmed user) x h = text_keeps U finds InCc user x h
@@ -102,73 +102,73 @@ module _ (only : StepsOnly) where
   does_keep U finds (Disconnected user) x h = cut_off_keeps U [] (why_of (di_in user (peer_flag x.safe.safety))) x h
   does_keep U finds (transport.Refused sub reason) x h = departs_keep U [] (by_this_end 2 sub) reason [] x h
 
-  block_keeps : (U : ℕ) (finds : Finds) (answer : joining.Answer) (x : Core) → Still U x → Keeps U [] (block_at model finds answer x)
+  block_keeps : (U : ℕ) (finds : Finds) (answer : joining.Answer) (x : Core) → Still U x → Keeps U [] (on_joined_block model finds answer x)
   block_keeps U finds (Ok None) x h = h
   block_keeps U finds (Ok (Some tpdu)) x h = does_keep U finds (model.deed x.upper tpdu) (record x { upper = model.hears x.upper tpdu }) h
   block_keeps U finds (Err fault) x h = departs_keep U [] (release_of BlockRefused) protocol_error [] x h
 
-  comes_up_keeps : (U : ℕ) (x : Core) → Still U x → Keeps U [] (comes_up model x)
+  comes_up_keeps : (U : ℕ) (x : Core) → Still U x → Keeps U [] (on_link_up model x)
   comes_up_keeps U x h =
       let a : Safety × SafetyOutcome = step no_keys x.safe.safety ConnectRequest in
-      let y : Core = spoken model ConnectRequest a x in
+      let y : Core = with_safety_step model ConnectRequest a x in
       let now : Keeps U [] y = (h.0, sends_none no_keys x.safe.safety ConnectRequest (λ user e. cc)) in
-      if_core (Keeps U []) (model.may_connect x.upper && is_ready x.safe.safety.phase) (connects model (sent_by a.1) y) x
+      if_core (Keeps U []) (model.may_connect x.upper && is_ready x.safe.safety.phase) (connect_with_text model (sent_by a.1) y) x
       (if_core (Keeps U []) (is_some_octets (sent_by a.1)) (record y { upper = model.connects y.upper (sent_by a.1) }) y now now) h
 
   link_keeps : (U : ℕ) (finds : Finds) (payload : Option (List ℕ)) (up : Bool) (why : Option Release) (x : Core) → Still U x
-      → Keeps U [] (link_at model finds payload up why x)
+      → Keeps U [] (on_link_told model finds payload up why x)
   link_keeps U finds (Some payload) up why x h = block_keeps U finds (joining.step x.joined payload).1 (record x { joined = (joining.step x.joined payload).0 }) h
   link_keeps U finds None true why x h = comes_up_keeps U x h
   link_keeps U finds None false (Some why) x h = h
   link_keeps U finds None false None x h = h
 
-  pub starts_keep : (now : ℕ) (x : Core) → Keeps x.upper.used [] (starts model now x)
+  pub starts_keep : (now : ℕ) (x : Core) → Keeps x.upper.used [] (step_start model now x)
   starts_keep now x =
-      let y : Core = begins_at model now x in
+      let y : Core = new_event_at model now x in
       let z : Core = record y { line = model.starts y.moment y.line } in
-      if_core (Keeps x.upper.used []) (is_some y.released) y (concludes model z) (refl, refl) (concludes_keep x.upper.used [] z (refl, refl))
+      if_core (Keeps x.upper.used []) (is_some y.released) y (conclude_event model z) (refl, refl) (concludes_keep x.upper.used [] z (refl, refl))
 
-  pub comes_keep : (finds : Finds) (now : ℕ) (verdict : Verdict) (x : Core) → Keeps x.upper.used [] (comes model finds now verdict x)
+  pub comes_keep : (finds : Finds) (now : ℕ) (verdict : Verdict) (x : Core) → Keeps x.upper.used [] (step_frame model finds now verdict x)
   comes_keep finds now verdict x =
-      let y : Core = begins_at model now x in
+      let y : Core = new_event_at model now x in
       let z : Core = record y { line = model.receives y.moment verdict y.line } in
       let deed : LinkDeed = model.told y.moment verdict y.line in
-      if_core (Keeps x.upper.used []) (is_some y.released) y (concludes model (link_comes model finds deed z)) (refl, refl)
-      (concludes_keep x.upper.used [] (link_comes model finds deed z) (link_keeps x.upper.used finds deed.payload deed.up deed.released z (refl, refl)))
+      if_core (Keeps x.upper.used []) (is_some y.released) y (conclude_event model (on_link_deed model finds deed z)) (refl, refl)
+      (concludes_keep x.upper.used [] (on_link_deed model finds deed z) (link_keeps x.upper.used finds deed.payload deed.up deed.released z (refl, refl)))
 
-  pub leaves_keep : (now sub : ℕ) (x : Core) → Keeps x.upper.used [] (leaves model now sub x)
+  pub leaves_keep : (now sub : ℕ) (x : Core) → Keeps x.upper.used [] (step_release model now sub x)
   leaves_keep now sub x =
-      let y : Core = begins_at model now x in
+      let y : Core = new_event_at model now x in
       let a : Safety × SafetyOutcome = step no_keys y.safe.safety (DisconnectRequest sub) in
-      let z : Core = spoken model (DisconnectRequest sub) a y in
-      if_core (Keeps x.upper.used []) (is_some y.released) y (departs model (release_of (User sub)) normal_disconnect (sent_by a.1) z) (refl, refl)
+      let z : Core = with_safety_step model (DisconnectRequest sub) a y in
+      if_core (Keeps x.upper.used []) (is_some y.released) y (send_dr model (release_of (User sub)) normal_disconnect (sent_by a.1) z) (refl, refl)
       (departs_keep x.upper.used [] (release_of (User sub)) normal_disconnect (sent_by a.1) z
       (refl, sends_none no_keys y.safe.safety (DisconnectRequest sub) (λ user e. cc)))
 
-  pub ticks_keep : (now : ℕ) (x : Core) → Keeps x.upper.used [] (ticks model now x)
+  pub ticks_keep : (now : ℕ) (x : Core) → Keeps x.upper.used [] (step_tick model now x)
   ticks_keep now x =
-      let y : Core = begins_at model now x in
+      let y : Core = new_event_at model now x in
       let z : Core = record y { line = model.ticks y.moment y.line } in
       let why : Option Release = model.given_up y.moment y.line in
-      if_core (Keeps x.upper.used []) (is_some y.released) y (concludes model (time_at model why z)) (refl, refl)
-      (concludes_keep x.upper.used [] (time_at model why z) (time_keeps x.upper.used [] why z (refl, refl)))
+      if_core (Keeps x.upper.used []) (is_some y.released) y (conclude_event model (on_expiry model why z)) (refl, refl)
+      (concludes_keep x.upper.used [] (on_expiry model why z) (time_keeps x.upper.used [] why z (refl, refl)))
 
 -- a message is taken where one waits
-pub uses_none : (now : ℕ) (x : Core) → (length x.upper.accepted - x.upper.used == 0) ≡ true → Keeps x.upper.used [] (uses model now x)
+pub uses_none : (now : ℕ) (x : Core) → (length x.upper.accepted - x.upper.used == 0) ≡ true → Keeps x.upper.used [] (step_take model now x)
 uses_none now x none = rw none (refl, refl)
 
-pub uses_one : (now : ℕ) (x : Core) → (length x.upper.accepted - x.upper.used == 0) ≡ false → Keeps (x.upper.used + 1) [] (uses model now x)
+pub uses_one : (now : ℕ) (x : Core) → (length x.upper.accepted - x.upper.used == 0) ≡ false → Keeps (x.upper.used + 1) [] (step_take model now x)
 uses_one now x some =
-    let y : Core = begins_at model now x in
+    let y : Core = new_event_at model now x in
     let z : Core = record y { upper = model.uses y.upper } in
     rw some (concludes_keep (x.upper.used + 1) [] z (refl, refl))
 
 -- a send that isn't refused
-pub sends_keep : (now : ℕ) (user : List ℕ) (x : Core) → refusal_of model user x ≡ None → Keeps x.upper.used (user ∷ []) (sends_unless model None now user x)
+pub sends_keep : (now : ℕ) (user : List ℕ) (x : Core) → refusal_of model user x ≡ None → Keeps x.upper.used (user ∷ []) (step_send_unless model None now user x)
 sends_keep now user x none =
-    let parts = unrefused x.released (is_connected x.safe.safety.phase) user (model.waiting x.upper) none in
-    let y : Core = begins_at model now x in
+    let on_safety_release = unrefused x.released (is_connected x.safe.safety.phase) user (model.waiting x.upper) none in
+    let y : Core = new_event_at model now x in
     let a : Safety × SafetyOutcome = step no_keys y.safe.safety (DataRequest user) in
-    let z : Core = record (spoken model (DataRequest user) a y) { upper = model.sends (spoken model (DataRequest user) a y).upper user } in
-    let h : Keeps x.upper.used (user ∷ []) z = (refl, send_step y.safe.safety y.safe.safety.phase user parts.1.0 parts.1.1) in
-    concludes_keep x.upper.used (user ∷ []) (says model (sent_by a.1) z) (says_keep x.upper.used (user ∷ []) (sent_by a.1) z h)
+    let z : Core = record (with_safety_step model (DataRequest user) a y) { upper = model.sends (with_safety_step model (DataRequest user) a y).upper user } in
+    let h : Keeps x.upper.used (user ∷ []) z = (refl, send_step y.safe.safety y.safe.safety.phase user on_safety_release.1.0 on_safety_release.1.1) in
+    concludes_keep x.upper.used (user ∷ []) (hand_text model (sent_by a.1) z) (says_keep x.upper.used (user ∷ []) (sent_by a.1) z h)

@@ -4,31 +4,31 @@ use Rattle.std.specs.Prelude.{Option, Some}
 use Rattle.std.specs.List.{AllByRecursion}
 use Rattle.std.proofs.lemmas.Bool.{eq-eqb}
 use Rattle.er_base.specs.declared.release.Release.{Release}
-use Rattle.er_settings.specs.declared.settings.Settings.{Settings}
+use Rattle.er_settings.specs.Values.{Settings}
 use Rattle.er_settings.specs.Ranges.{AllAllowed}
 use Rattle.er_scenario.specs.declared.step.Step.{Step}
 use Rattle.safety_automaton.specs.Rules.{StepsOnly}
 use Rattle.safety_automaton.specs.Safety.{Phase, Ready, WaitAu1, WaitAu2, WaitAu3, WaitAr, Connected, Released}
-use Rattle.safe_pair.specs.Marks.{MarksGrow}
-use Rattle.safe_pair.specs.Openings.{PairOpening, OfFixed, OfKeys}
-use Rattle.safe_pair.specs.Deliveries.{IsConnectedPhase}
-use Rattle.end_model.specs.Steps.{is_connected}
-use Rattle.end_model.specs.Ends.{End as Stack}
-use Rattle.end_model.specs.Bounds as end_bounds_words
-use Rattle.end_pair.specs.Openings.{Opening, Agree}
-use Rattle.end_pair.specs.Links.{Link as Pair}
-use Rattle.end_pair.specs.Steps.{run}
-use Rattle.end_pair.specs.Laws.{Prefix, OneFrame, LosingLineReasons, InStep, Delivery, DeliveryBound, DrainEmpties}
-use Rattle.end_pair.specs.Laws as of_pair
-use Rattle.end_pair.specs.Reasons as of_pair_reasons
+use Rattle.safety_pair_laws.specs.Marks.{MarksGrow}
+use Rattle.safety_pair_laws.specs.Openings.{PairOpening, OfFixed, OfKeys}
+use Rattle.safety_pair_laws.specs.Deliveries.{IsConnectedPhase}
+use Rattle.er_end_model.specs.Steps.{is_connected}
+use Rattle.er_end_model.specs.Ends.{End as Stack}
+use Rattle.er_end_model.specs.Bounds as end_bounds_words
+use Rattle.er_end_pair_laws.specs.Openings.{Opening, Agree}
+use Rattle.er_end_pair_laws.specs.Links.{Link as Pair}
+use Rattle.er_end_pair_laws.specs.Steps.{run}
+use Rattle.er_end_pair_laws.specs.Laws.{Prefix, OneFrame, LosingLineReasons, InStep, Delivery, DeliveryBound, DrainEmpties}
+use Rattle.er_end_pair_laws.specs.Laws as of_pair
+use Rattle.er_end_pair_laws.specs.Reasons as of_pair_reasons
 use Rattle.drill_model.specs.Outcomes.{Occurrence}
 use Rattle.drill_model.specs.StackReports.{OpensOrderly, CallsReport}
 use Rattle.drill_model.specs.Ends.{End, OfStack}
-use Rattle.drill_model.specs.Links.{Link, LinkOpening, OfPair, OfStations, OfStacks, opened, LinkStep, Send, Pass, Change, Take, Release as ReleaseStep, Tick}
+use Rattle.drill_model.specs.Links.{Link, LinkOpening, OfPair, OfStations, OfStacks, opened_link, LinkStep, Send, Pass, Change, Take, Release as ReleaseStep, Tick}
 use Rattle.drill_model.specs.Worlds.{Plan, Drain, drain, link_at, history_on, world_run}
 use Rattle.drill_model.specs.Kinds.{releases_in, is_disturbed, IsOrderKeeping, IsLossFree, EndsAgree, deliveries, bound}
-use Rattle.drill_model.specs.Headline.{FitsSettings, IsInOrder, IsLosingLineReason, IsConnectedEnd, HasTakenAll, HasAll, IsEmpty, IsDelivered, IsUnforged}
-use Rattle.drill_model.specs.Headline as claim
+use Rattle.drill_model.specs.Claims.{IsInOrder, IsLosingLineReason, IsConnectedEnd, HasTakenAll, HasAll, IsEmpty, IsDelivered, IsUnforged}
+use Rattle.drill_model.specs.Claims as claim
 use Rattle.drill_model.specs.Steps.{AllFit}
 use Rattle.drill_model.specs.Growth.{FactsGrow, HistoryGrows, HistoryOfOwn, HistoryOfOther}
 use Rattle.drill_laws.proofs.Losing.{prefix_of, not_false}
@@ -197,15 +197,15 @@ module _ (laws : StackLaws) (facts : FactsGrow) where
   fits_stack (ReleaseStep side sub) fit = tt
   fits_stack (Tick moment) fit = tt
 
-  opened_lower : (settings : Settings) (moment : ℕ) (opening : LinkOpening) → IsLower opening → (opened settings moment opening).0.opening ≡ opening
-      → IsLower (opened settings moment opening).0.opening
+  opened_lower : (settings : Settings) (moment : ℕ) (opening : LinkOpening) → IsLower opening → (opened_link settings moment opening).0.opening ≡ opening
+      → IsLower (opened_link settings moment opening).0.opening
   opened_lower settings moment opening lower is = subst IsLower (sym is) lower
 
   opens_stacked : (settings : Settings) (moment : ℕ) (opening : LinkOpening) → FitsLinkOpening facts opening
-      → Stacked settings (opened settings moment opening).0 (opened settings moment opening).1
+      → Stacked settings (opened_link settings moment opening).0 (opened_link settings moment opening).1
   opens_stacked settings moment (OfPair opening) fit = inr (lower_pair opening moment)
     where
-      lower_pair : (opening : PairOpening) (moment : ℕ) → IsLower (opened settings moment (OfPair opening)).0.opening
+      lower_pair : (opening : PairOpening) (moment : ℕ) → IsLower (opened_link settings moment (OfPair opening)).0.opening
       lower_pair (OfFixed engine rbc ke kr) moment = tt
       lower_pair (OfKeys engine rbc ke kr ra rb) moment = tt
   opens_stacked settings moment (OfStations selective) fit = inr tt

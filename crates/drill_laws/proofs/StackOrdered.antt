@@ -7,32 +7,32 @@ use Rattle.er_base.specs.declared.side.Side.{Side}
 use Rattle.er_base.specs.declared.side.Side.TheVariants.{E, R}
 use Rattle.er_base.specs.declared.release.Release.{Release}
 use Rattle.er_base.specs.Sides.{other}
-use Rattle.er_settings.specs.declared.settings.Settings.{Settings}
+use Rattle.er_settings.specs.Values.{Settings}
 use Rattle.hdlc_frames.specs.Framing.{Verdict}
 use Rattle.x224_class2.specs.Segments.{messages_in}
 use Rattle.safety_automaton.specs.Safety.{Safety, SafetyEvent, SafetyOutcome, session_in, SentAu1, SentAu2, SentAu3, SentAr, ReceivedAr, AcceptedDt, SentDt, Refused, ReleasedLocally, ReleasedByPeer, NothingDone, step}
 use Rattle.safety_automaton.specs.Rules.{IsStep, StepsOnly}
-use Rattle.safe_pair.specs.Facts.{SideFact, MarkedFact, at_side, facts_of, marked_from, marked}
-use Rattle.safe_pair.specs.Marks.{MarksGrow}
-use Rattle.safe_pair.specs.Openings.{PairOpening, OfKeys}
-use Rattle.end_model.specs.Outcomes.{SendRefusal}
-use Rattle.end_model.specs.Layers.{Spoken, Core, model}
-use Rattle.end_model.specs.Steps.{begins_at, starts, comes, refusal_at, refusal_of, sends_unless, uses, leaves, ticks, is_connected}
-use Rattle.station_model.specs.Events.{news}
-use Rattle.station_model.specs.Lines.{IsPrefix}
-use Rattle.end_model.specs.Ends.{End as Stack, Call, Answer, opened as stack_opened, hears_each, finds_expired}
-use Rattle.end_model.specs.Ends as on_end
-use Rattle.end_pair.specs.Links.{Link as Pair, end_of}
-use Rattle.end_pair.specs.Laws.{IsOneFrame}
-use Rattle.end_pair.specs.Ordered.{begins_with_cc, HasConfirmed, HasSaid, Knows, IsJoined, AreOrdered}
+use Rattle.safety_pair_laws.specs.Facts.{SideFact, MarkedFact, at_side, facts_of, marked_from, marked}
+use Rattle.safety_pair_laws.specs.Marks.{MarksGrow}
+use Rattle.safety_pair_laws.specs.Openings.{PairOpening, OfKeys}
+use Rattle.er_end_model.specs.Outcomes.{SendRefusal}
+use Rattle.er_end_model.specs.Layers.{Spoken, Core, model}
+use Rattle.er_end_model.specs.Steps.{new_event_at, step_start, step_frame, refusal_at, refusal_of, step_send_unless, step_take, step_release, step_tick, is_connected}
+use Rattle.hdlc_station_model.specs.Events.{news}
+use Rattle.hdlc_station_model.specs.Lines.{IsPrefix}
+use Rattle.er_end_model.specs.Ends.{End as Stack, Call, Answer, opened as stack_opened, hears_each, finds_expired}
+use Rattle.er_end_model.specs.Ends as on_end
+use Rattle.er_end_pair_laws.specs.Links.{Link as Pair, end_of}
+use Rattle.er_end_pair_laws.specs.Laws.{IsOneFrame}
+use Rattle.er_end_pair_laws.specs.Ordered.{begins_with_cc, HasConfirmed, HasSaid, Knows, IsJoined, AreOrdered}
 use Rattle.drill_model.specs.Outcomes.{Outcome, NothingWaits, UserReleased, Passed, Occurrence, at_end, facts_in}
 use Rattle.drill_model.specs.Growth.{FactsGrow}
-use Rattle.drill_model.specs.StackEnds.{told_at, stack_told, told_unless, took}
+use Rattle.drill_model.specs.StackEnds.{told_at, stack_told, told_unless, told_of_take}
 use Rattle.drill_model.specs.StackReports.{IsOrderly, OpensOrderly, CallsReport, user_in}
 use Rattle.drill_model.specs.Ends.{End, OfStack, EndEvent, Receive, stack_end_step, end_step}
 use Rattle.drill_model.specs.Ends as event
-use Rattle.drill_model.specs.Waiting.{changes}
-use Rattle.drill_model.specs.Links.{Link, LinkOpening, key_on, waiting_of, with_waiting, answered, joined, opened_stacks, LinkStep, Send, Pass, Change, Take, Release as ReleaseStep, Tick, pass, link_step}
+use Rattle.drill_model.specs.Waiting.{change_first}
+use Rattle.drill_model.specs.Links.{Link, LinkOpening, key_on, waiting_of, with_waiting, with_answer, link_of, opened_stacks, LinkStep, Send, Pass, Change, Take, Release as ReleaseStep, Tick, pass, link_step}
 use Rattle.drill_model.specs.Links as drill
 use Rattle.drill_model.specs.Kinds.{sent_in, accepted_in}
 use Rattle.drill_laws.proofs.Speaking.{Speaks, Spoke, comes_spoke, sends_spoke, uses_silent, leaves_spoke, took_silent}
@@ -137,7 +137,7 @@ module _ (k : Numbers) where
     gave = λ gave. sealed_still (key k) (text_au2 k) M more (h.gave gave);
     known = λ live known. sealed_still (key k) (text_au2 k) M more (h.known live known);
     said = λ said. sealed_still (key k) (text_ar k) M more (h.said said);
-    joined = λ live joined. sealed_still (key k) (text_ar k) M more (h.joined live joined);
+    joined = λ live link_of. sealed_still (key k) (text_ar k) M more (h.joined live link_of);
     sent = all_sealed_still (key k) (text_r k) r.upper.sent M more h.sent;
   }
 
@@ -178,7 +178,7 @@ module _ (k : Numbers) where
       | inl live ↦ λ says. h.joined (live_before x y stays live) (sym (ap (λ (s : Safety). is_connected s.phase) same) ∙ said live says)
       | inr quiet ↦ λ says. h.said (same_said x y quiet.segments_are says)
     ];
-    joined = λ live joined. h.joined (live_before x y stays live) (sym (ap (λ (s : Safety). is_connected s.phase) same) ∙ joined);
+    joined = λ live link_of. h.joined (live_before x y stays live) (sym (ap (λ (s : Safety). is_connected s.phase) same) ∙ link_of);
     sent = subst (AllByRecursion (λ user. Sealed (text_r k user) M)) (sym sent) h.sent;
   }
 
@@ -211,7 +211,7 @@ module _ (k : Numbers) where
       let P : List ℕ → Type 0 = λ user. Sealed (text_e k user) (M ++ more) in
       let goes : EngineGoes k y.safe.safety s.outcome M more =
       e_goes k (key_of k) x.safe.safety y.safe.safety M s.event s.outcome (row_of only x.safe.safety y.safe.safety s speaks) engine (after.is_engine live) came h.unforged
-      (λ known. h.at_r.gave (after.au2 live known)) (λ joined. h.at_r.said (after.ar live joined)) (λ known. h.at_e.known was known) in
+      (λ known. h.at_r.gave (after.au2 live known)) (λ link_of. h.at_r.said (after.ar live link_of)) (λ known. h.at_e.known was known) in
       record {
         unforged = unforged_more M more h.unforged goes.unforged;
         at_e = record {
@@ -231,7 +231,7 @@ module _ (k : Numbers) where
       let P : List ℕ → Type 0 = λ user. Sealed (text_r k user) (M ++ more) in
       let goes : CentreGoes k y.safe.safety s.outcome M more =
       r_goes k (key_of k) x.safe.safety y.safe.safety M s.event s.outcome (row_of only x.safe.safety y.safe.safety s speaks) centre (after.is_centre live) came h.unforged
-      (λ joined. h.at_e.said (after.au3 live joined)) (λ known. h.at_r.known was known) (λ joined. h.at_r.joined was joined) in
+      (λ link_of. h.at_e.said (after.au3 live link_of)) (λ known. h.at_r.known was known) (λ link_of. h.at_r.joined was link_of) in
       record {
         unforged = unforged_more M more h.unforged goes.unforged;
         at_e = engine_still e M more h.at_e;
@@ -239,7 +239,7 @@ module _ (k : Numbers) where
           gave = λ gave. goes.au2 (after.r_gave live gave);
           known = λ still known. goes.au2 known;
           said = λ says. goes.ar (after.r_said live says);
-          joined = λ still joined. goes.ar joined;
+          joined = λ still link_of. goes.ar link_of;
           sent = subst (AllByRecursion P) (sym sent)
               (all_append P x.upper.sent (sent_by_step s.outcome) (all_sealed_still (key k) (text_r k) x.upper.sent M more h.at_r.sent) goes.sent);
         };
@@ -275,7 +275,7 @@ module _ (k : Numbers) where
         gave = λ gave. h.at_r.gave (sym quiet.cc_is ∙ gave);
         known = λ live known. not_live y why (Sealed (text_au2 k) M) is live;
         said = λ says. h.at_r.said (same_said x y quiet.segments_are says);
-        joined = λ live joined. not_live y why (Sealed (text_ar k) M) is live;
+        joined = λ live link_of. not_live y why (Sealed (text_ar k) M) is live;
         sent = subst (AllByRecursion (λ user. Sealed (text_r k user) M)) (sym same) h.at_r.sent;
       } in
       let none : Sound e y (M ++ []) = record { unforged = unforged_more M [] h.unforged refl; at_e = engine_still e M [] h.at_e; at_r = centre_still y M [] here } in
@@ -354,11 +354,11 @@ module _ (grow : FactsGrow) (marks : MarksGrow) (only : StepsOnly) (reports : Ca
   rest_ends x (Some why) is = inr (record { segments_are = refl; cc_is = refl; none = refl })
 
   sent_event : (moment : ℕ) (user : List ℕ) (x : Core) (o : Option SendRefusal) → refusal_of model user x ≡ o
-      → Event x (sends_unless model o moment user x) (told_unless o (sends_unless model o moment user x))
+      → Event x (step_send_unless model o moment user x) (told_unless o (step_send_unless model o moment user x))
   sent_event moment user x (Some refusal) is =
       record { spoke = None; speaks = refl; tells = record { facts_are = λ side. refl; sent_is = refl; accepted_is = refl }; ends = rest_ends x x.released refl }
   sent_event moment user x None is =
-      let y : Core = sends_unless model None moment user x in
+      let y : Core = step_send_unless model None moment user x in
       let live : x.released ≡ None = refusal_live x.released (is_connected x.safe.safety.phase) user (model.waiting x.upper) is in
       record {
         spoke = y.upper.spoke;
@@ -367,7 +367,7 @@ module _ (grow : FactsGrow) (marks : MarksGrow) (only : StepsOnly) (reports : Ca
         ends = inl (sends_ended moment user x None is ∙ live);
       }
 
-  took_none : (message : Option (List ℕ)) → (flat_map sent_in (took message) ≡ []) × (flat_map accepted_in (took message) ≡ [])
+  took_none : (message : Option (List ℕ)) → (flat_map sent_in (told_of_take message) ≡ []) × (flat_map accepted_in (told_of_take message) ≡ [])
   took_none None = (refl, refl)
   took_none (Some message) = (refl, refl)
 
@@ -384,7 +384,7 @@ module _ (grow : FactsGrow) (marks : MarksGrow) (only : StepsOnly) (reports : Ca
       → Event x (hears_each (λ now. key_of k) moment verdicts x) (stack_told (λ now. key_of k) moment verdicts x)
   heard_event moment [] x one = absurd cc
   heard_event moment (v ∷ []) x one =
-      let y : Core = comes model (λ now. key_of k) moment v x in
+      let y : Core = step_frame model (λ now. key_of k) moment v x in
       record {
         spoke = y.upper.spoke;
         speaks = comes_spoke (key_of k) x.safe.safety moment v x refl;
@@ -401,11 +401,11 @@ module _ (grow : FactsGrow) (marks : MarksGrow) (only : StepsOnly) (reports : Ca
 
   event_at : (moment : ℕ) (m : Stack) (given : EndEvent) → OneFrame m given → Event m.core (next_of moment given m).core (told_of moment given m)
   event_at moment m event.Start one =
-      let y : Core = starts model moment m.core in
+      let y : Core = step_start model moment m.core in
       let rests = starts_rest moment m.core in
       record { spoke = None; speaks = rests.1; tells = starts_tell grow opening y rests.0; ends = ends_so m.core y None rests.0 (starts_ended moment m.core) }
   event_at moment m (event.Receive octets) one =
-      let v = heard_event moment (news m.stream octets) (begins_at model moment m.core) one in
+      let v = heard_event moment (news m.stream octets) (new_event_at model moment m.core) one in
       record {
         spoke = v.spoke;
         speaks = v.speaks;
@@ -417,24 +417,24 @@ module _ (grow : FactsGrow) (marks : MarksGrow) (only : StepsOnly) (reports : Ca
       }
   event_at moment m (event.Send user) one = sent_event moment user m.core (refusal_of model user m.core) refl
   event_at moment m event.Take one =
-      let y : Core = uses model moment m.core in
+      let y : Core = step_take model moment m.core in
       let message : Option (List ℕ) = model.oldest m.core.upper in
       let none = took_none message in
       record {
         spoke = y.upper.spoke;
         speaks = uses_silent (key_of k) m.core.safe.safety moment m.core refl;
-        tells = tells_behind grow opening y.upper.spoke (took message) (told_at y) (λ side. took_silent grow opening side message) none.0 none.1 (told_tells grow opening y);
+        tells = tells_behind grow opening y.upper.spoke (told_of_take message) (told_at y) (λ side. took_silent grow opening side message) none.0 none.1 (told_tells grow opening y);
         ends = ends_so m.core y y.upper.spoke refl (uses_ended moment m.core);
       }
   event_at moment m (event.Release sub) one =
-      called m.core (leaves model moment sub m.core) (leaves_spoke (key_of k) m.core.safe.safety moment sub m.core refl) (leaves_ended only moment sub m.core)
+      called m.core (step_release model moment sub m.core) (leaves_spoke (key_of k) m.core.safe.safety moment sub m.core refl) (leaves_ended only moment sub m.core)
   event_at moment m event.Tick one =
-      let y : Core = ticks model moment m.core in
+      let y : Core = step_tick model moment m.core in
       let rests = ticks_rest moment m.core in
       record {
         spoke = None;
         speaks = rests.1;
-        tells = ticks_tell grow opening (finds_expired (begins_at model moment m.core)) y rests.0;
+        tells = ticks_tell grow opening (finds_expired (new_event_at model moment m.core)) y rests.0;
         ends = ends_so m.core y None rests.0 (ticks_ended moment m.core);
       }
 
@@ -463,11 +463,11 @@ module _ (grow : FactsGrow) (marks : MarksGrow) (only : StepsOnly) (reports : Ca
     pub e_is : l.e ≡ OfStack e
     pub r_is : l.r ≡ OfStack r
 
-  gives_e : (l : Link) (e r : Stack) (given : EndEvent) → Stands l e r → drill.give l E given ≡ answered l E (stack_end_step (key_of k) l.moment e given)
-  gives_e l e r given s = ap₂ (λ (o : LinkOpening) (end : End). answered l E (end_step (key_on o) l.moment end given)) s.opening_is s.e_is
+  gives_e : (l : Link) (e r : Stack) (given : EndEvent) → Stands l e r → drill.give l E given ≡ with_answer l E (stack_end_step (key_of k) l.moment e given)
+  gives_e l e r given s = ap₂ (λ (o : LinkOpening) (end : End). with_answer l E (end_step (key_on o) l.moment end given)) s.opening_is s.e_is
 
-  gives_r : (l : Link) (e r : Stack) (given : EndEvent) → Stands l e r → drill.give l R given ≡ answered l R (stack_end_step (key_of k) l.moment r given)
-  gives_r l e r given s = ap₂ (λ (o : LinkOpening) (end : End). answered l R (end_step (key_on o) l.moment end given)) s.opening_is s.r_is
+  gives_r : (l : Link) (e r : Stack) (given : EndEvent) → Stands l e r → drill.give l R given ≡ with_answer l R (stack_end_step (key_of k) l.moment r given)
+  gives_r l e r given s = ap₂ (λ (o : LinkOpening) (end : End). with_answer l R (end_step (key_on o) l.moment end given)) s.opening_is s.r_is
 
   stands_e : (l : Link) (e r : Stack) (given : EndEvent) → Stands l e r → Stands (drill.give l E given).0 (next_of l.moment given e) r
   stands_e l e r given s =
@@ -542,7 +542,7 @@ module _ (grow : FactsGrow) (marks : MarksGrow) (only : StepsOnly) (reports : Ca
   tick_facts : (side : Side) (moment : ℕ) (m : Stack) → facts_in (map (at_end side) (told_of moment event.Tick m)) ≡ []
   tick_facts side moment m =
       let rests = ticks_rest moment m.core in
-      (ticks_tell grow opening (finds_expired (begins_at model moment m.core)) (ticks model moment m.core) rests.0).facts_are side
+      (ticks_tell grow opening (finds_expired (new_event_at model moment m.core)) (step_tick model moment m.core) rests.0).facts_are side
 
   ticked : (l : Link) (e r : Stack) (history : List Occurrence) (now : ℕ) → Stands l e r → IsOrderly e.core → IsOrderly r.core
       → let m = record l { moment = now } in let a = drill.give m E event.Tick in let b = drill.give a.0 R event.Tick in
@@ -661,8 +661,8 @@ module _ (grow : FactsGrow) (marks : MarksGrow) (only : StepsOnly) (reports : Ca
   step_ordered l history p q (Pass side) v before after h there = pass_sound l history p q side (waiting_of l side) refl v before after h there
   step_ordered l history p q (Change side change) v before after h there =
       let frames : List (List ℕ) = waiting_of l side in
-      quiet_sound (with_waiting l side (changes change frames).0) history (map (at_end side) (changes change frames).1) p q (silent_changes grow side change frames)
-      (lined_stands l side (changes change frames).0 p.e p.r (sees_stands l history p v)) h there
+      quiet_sound (with_waiting l side (change_first change frames).0) history (map (at_end side) (change_first change frames).1) p q (silent_changes grow side change frames)
+      (lined_stands l side (change_first change frames).0 p.e p.r (sees_stands l history p v)) h there
   step_ordered l history p q (Take side) v before after h there =
       event_sound l history [] p q side event.Take refl (sees_stands l history p v) tt v.orderly_e v.orderly_r before after h there
   step_ordered l history p q (ReleaseStep side sub) v before after h there =
@@ -688,7 +688,7 @@ module _ (grow : FactsGrow) (marks : MarksGrow) (only : StepsOnly) (reports : Ca
   opened_ordered orderly settings moment q after there =
       let e : Stack = stack_opened (Call settings k.engine k.rbc k.ke k.rb moment) in
       let r : Stack = stack_opened (Answer settings k.rbc k.ra moment) in
-      let l : Link = joined (opening_of k) moment (OfStack e) (OfStack r) in
+      let l : Link = link_of (opening_of k) moment (OfStack e) (OfStack r) in
       let s : Stands l e r = record { opening_is = refl; e_is = refl; r_is = refl } in
       let none : SoundAt e r [] = record {
         unforged = refl;
@@ -697,7 +697,7 @@ module _ (grow : FactsGrow) (marks : MarksGrow) (only : StepsOnly) (reports : Ca
           gave = λ gave. absurd (none_known gave);
           known = λ live known. absurd (none_known known);
           said = λ says. absurd (says refl);
-          joined = λ live joined. absurd (none_known joined);
+          joined = λ live link_of. absurd (none_known link_of);
           sent = tt;
         };
       } in

@@ -6,16 +6,16 @@ use Rattle.er_base.specs.declared.release.Release.{Release}
 use Rattle.des_block.specs.declared.triple_key.TripleKey.{TripleKey}
 use Rattle.hdlc_frames.specs.Framing.{Verdict}
 use Rattle.safety_automaton.specs.Safety.{SafetyOutcome, SentAu1, SentAu2, SentAu3, SentAr, ReceivedAr, AcceptedDt, SentDt, Refused, ReleasedLocally, ReleasedByPeer, NothingDone}
-use Rattle.safe_pair.specs.Facts.{heard_in, facts_by}
-use Rattle.station_model.specs.Events.{said_octets, news}
-use Rattle.end_model.specs.Outcomes.{SendRefusal}
-use Rattle.end_model.specs.Layers.{Spoken, Core, model}
-use Rattle.end_model.specs.Steps.{Finds, begins_at, gives_next, goes_on, offers, most_offers, finishes, concludes, comes, refusal_of, uses}
-use Rattle.end_model.specs.Ends.{End as Stack, finds_expired}
-use Rattle.end_model.specs.Ends as stacks
+use Rattle.safety_pair_laws.specs.Facts.{heard_in, facts_by}
+use Rattle.hdlc_station_model.specs.Events.{said_octets, news}
+use Rattle.er_end_model.specs.Outcomes.{SendRefusal}
+use Rattle.er_end_model.specs.Layers.{Spoken, Core, model}
+use Rattle.er_end_model.specs.Steps.{Finds, new_event_at, hand_next_tpdu, has_next_tpdu, hand_waiting_tpdus, most_offers, send_owed_answer, conclude_event, step_frame, refusal_of, step_take}
+use Rattle.er_end_model.specs.Ends.{End as Stack, finds_expired}
+use Rattle.er_end_model.specs.Ends as stacks
 use Rattle.drill_model.specs.Outcomes.{Outcome, OfSafety, Frame}
 use Rattle.drill_model.specs.StationEnds.{if_released, if_expired}
-use Rattle.drill_model.specs.StackEnds.{facts_told, told_at, behind, stack_parts, stack_told, told_unless, took}
+use Rattle.drill_model.specs.StackEnds.{facts_told, told_at, behind, stack_parts, stack_told, told_unless, told_of_take}
 use Rattle.drill_model.specs.Ends.{EndEvent, Start, stack_end_step}
 use Rattle.drill_model.specs.Ends as event
 use Rattle.drill_model.specs.Texts.{place_of}
@@ -69,7 +69,7 @@ each_rising : (finds : Finds) (moment : ℕ) (verdicts : List Verdict) (x : Core
     × AllByRecursion (λ (part : List Outcome). IsRising (flat_map place_of part)) (stack_parts finds moment verdicts x)
 each_rising finds moment [] x = (refl, tt)
 each_rising finds moment (verdict ∷ verdicts) x =
-    let y : Core = comes model finds moment verdict x in
+    let y : Core = step_frame model finds moment verdict x in
     let rest = each_rising finds moment verdicts y in
     (ap (λ (os : List Outcome). told_at y ++ os) rest.0, (rising_told y, rest.1))
 
@@ -80,20 +80,20 @@ none_if : (b : Bool) (x y : Core) → x.upper.spoke ≡ None → y.upper.spoke �
 none_if true x y hx hy = hx
 none_if false x y hx hy = hy
 
-none_offered : (n : ℕ) (x : Core) → x.upper.spoke ≡ None → (offers model n x).upper.spoke ≡ None
-unfolding offers
+none_offered : (n : ℕ) (x : Core) → x.upper.spoke ≡ None → (hand_waiting_tpdus model n x).upper.spoke ≡ None
+unfolding hand_waiting_tpdus
 none_offered zero x none = none
-none_offered (suc n) x none = none_if (goes_on model x) (offers model n (gives_next model x)) x (none_offered n (gives_next model x) none) none
+none_offered (suc n) x none = none_if (has_next_tpdu model x) (hand_waiting_tpdus model n (hand_next_tpdu model x)) x (none_offered n (hand_next_tpdu model x) none) none
 
-none_used : (moment : ℕ) (x : Core) → (uses model moment x).upper.spoke ≡ None
+none_used : (moment : ℕ) (x : Core) → (step_take model moment x).upper.spoke ≡ None
 none_used moment x =
-    let y : Core = begins_at model moment x in
+    let y : Core = new_event_at model moment x in
     let z : Core = record y { upper = model.uses y.upper } in
-    none_if (model.untaken y.upper == 0) y (concludes model z) refl
-    (none_if (is_some z.released) z (finishes model (offers model most_offers z)) refl (none_offered most_offers z refl))
+    none_if (model.untaken y.upper == 0) y (conclude_event model z) refl
+    (none_if (is_some z.released) z (send_owed_answer model (hand_waiting_tpdus model most_offers z)) refl (none_offered most_offers z refl))
 
 rising_took : (message : Option (List ℕ)) (spoke : Option Spoken) (released : Option Release) (frames : List (List ℕ)) → spoke ≡ None
-    → IsRising (flat_map place_of (took message ++ (facts_told spoke ++ (if_released released ++ map Frame frames))))
+    → IsRising (flat_map place_of (told_of_take message ++ (facts_told spoke ++ (if_released released ++ map Frame frames))))
 rising_took None None released frames none = up_rest 4 (omega arith) released frames
 rising_took (Some message) None released frames none = up_rest 4 (omega arith) released frames
 rising_took message (Some s) released frames none = absurd (cc)
@@ -116,10 +116,10 @@ pub stack_in_order : (key_of : ℕ → ℕ → Option TripleKey) (moment : ℕ) 
     → (flat_map (λ part. part) (parts_of_stack key_of moment m event) ≡ (stack_end_step key_of moment m event).1)
     × AllByRecursion (λ part. IsRising (flat_map place_of part)) (parts_of_stack key_of moment m event)
 stack_in_order key_of moment m Start = one_part _ (rising_told (behind moment stacks.Start m).core)
-stack_in_order key_of moment m (event.Receive octets) = each_rising (λ now. key_of) moment (news m.stream octets) (begins_at model moment m.core)
+stack_in_order key_of moment m (event.Receive octets) = each_rising (λ now. key_of) moment (news m.stream octets) (new_event_at model moment m.core)
 stack_in_order key_of moment m (event.Send user) = one_part _ (rising_unless (refusal_of model user m.core) (behind moment (stacks.Send user) m).core)
 stack_in_order key_of moment m event.Take =
-    let x : Core = uses model moment m.core in
+    let x : Core = step_take model moment m.core in
     one_part _ (rising_took (model.oldest m.core.upper) x.upper.spoke x.leaves (said_octets x.line) (none_used moment m.core))
 stack_in_order key_of moment m (event.Release sub) = one_part _ (rising_told (behind moment (stacks.Leave sub) m).core)
-stack_in_order key_of moment m event.Tick = one_part _ (rising_expired (finds_expired (begins_at model moment m.core)) (behind moment stacks.Tick m).core)
+stack_in_order key_of moment m event.Tick = one_part _ (rising_expired (finds_expired (new_event_at model moment m.core)) (behind moment stacks.Tick m).core)

@@ -1,21 +1,21 @@
 -- A link of two stacks recovers: passes and takes of it are those of its pair of ends, and a tick is a tick of the pair.
 use Rattle.std.proofs.Common.{◌≡◌, ℕ, max, List, [], ◌∷◌, ◌++◌, refl, sym, ap, subst, ◌∙◌}
-use Rattle.er_settings.specs.declared.settings.Settings.{Settings}
+use Rattle.er_settings.specs.Values.{Settings}
 use Rattle.er_settings.specs.Ranges.{AllAllowed}
 use Rattle.safety_automaton.specs.Rules.{StepsOnly}
-use Rattle.end_model.specs.Steps.{Finds}
-use Rattle.end_pair.specs.Openings.{Opening, Agree}
-use Rattle.end_pair.specs.Links.{Link as Pair}
-use Rattle.end_pair.specs.Steps.{run}
-use Rattle.end_pair.specs.Steps as on_pair
-use Rattle.end_pair.specs.Laws as of_pair
-use Rattle.end_pair.specs.Recovery as of_recovery
+use Rattle.er_end_model.specs.Steps.{Finds}
+use Rattle.er_end_pair_laws.specs.Openings.{Opening, Agree}
+use Rattle.er_end_pair_laws.specs.Links.{Link as Pair}
+use Rattle.er_end_pair_laws.specs.Steps.{run}
+use Rattle.er_end_pair_laws.specs.Steps as on_pair
+use Rattle.er_end_pair_laws.specs.Laws as of_pair
+use Rattle.er_end_pair_laws.specs.Recovery as of_recovery
 use Rattle.drill_model.specs.Outcomes.{Occurrence}
 use Rattle.drill_model.specs.StackReports.{CallsReport}
 use Rattle.drill_model.specs.Links.{Link, LinkOpening, Pass, Take, Tick, link_step}
 use Rattle.drill_model.specs.Kinds.{EndsAgree}
 use Rattle.drill_model.specs.Recovery.{IsLive, GoesOnAt, GoOn, NoneWaits, IsRepairable}
-use Rattle.drill_model.specs.Headline.{HasAll, IsEmpty}
+use Rattle.drill_model.specs.Claims.{HasAll, IsEmpty}
 use Rattle.drill_laws.proofs.OneLink.{KeptByPasses, KeptByTakes}
 use Rattle.drill_laws.proofs.StackWiring.{Numbers, opening_of, finds_of, Sees}
 use Rattle.drill_laws.proofs.StackWired.{paired, IsStacked, take_sees, one_pass_sees, tick_sees, run_append}

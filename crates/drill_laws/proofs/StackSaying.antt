@@ -10,8 +10,8 @@ use Rattle.er_base.specs.declared.cause.Cause.TheVariants.{User, BlockRefused, S
 use Rattle.er_base.specs.Causes.{release_of, by_this_end}
 use Rattle.des_block.specs.declared.triple_key.TripleKey.{TripleKey}
 use Rattle.hdlc_frames.specs.Framing.{Verdict}
-use Rattle.station_model.specs.Stations.{Deed as LinkDeed}
-use Rattle.station_model.specs.Events.{said_octets}
+use Rattle.hdlc_station_model.specs.Stations.{Deed as LinkDeed}
+use Rattle.hdlc_station_model.specs.Events.{said_octets}
 use Rattle.t70_header.specs.Joining as joining
 use Rattle.x224_class2.specs.Tpdus.{Dr, Dc}
 use Rattle.x224_class2.specs.Transport.{Deed, Nothing, Called, Confirmed, Message, Disconnected}
@@ -25,10 +25,10 @@ use Rattle.safety_automaton.specs.Reports.{Report, ToldAnswered, ToldConnected, 
 use Rattle.safety_automaton.specs.Safety.{Safety, Phase, Ready, WaitAu1, WaitAu2, WaitAu3, WaitAr, Connected, SafetyEvent, ConnectRequest, Received, DataRequest, DisconnectRequest, SafetyOutcome, SentAu1, SentAu2, SentAu3, SentAr, ReceivedAr, AcceptedDt, SentDt, ReleasedLocally, ReleasedByPeer, NothingDone, peer_flag, sent_by, step}
 use Rattle.safety_automaton.specs.Safety as safety
 use Rattle.safety_automaton.specs.Safety.{sends as sends_side}
-use Rattle.safe_pair.specs.Facts.{Fact, heard_in, facts_by, facts_of}
-use Rattle.end_model.specs.Outcomes.{RefusedNotConnected, RefusedLength, RefusedFull}
-use Rattle.end_model.specs.Layers.{Spoken, Core, model}
-use Rattle.end_model.specs.Steps.{Finds, begins_at, ends, gives, shuts, finishes, departs, cut_off, deserted, parts, why_of, spoken, is_some_octets, says, accepts, skips, Carrier, InCr, InCc, InDt, answers, keeps, acts, text_comes, does, block_at, is_ready, connects, comes_up, link_at, link_comes, gives_next, goes_on, offers, most_offers, concludes, starts, comes, is_connected, refusal_at, refusal_of, sends_unless, uses, leaves, is_spent, di_of, time_at, ticks, normal_disconnect}
+use Rattle.safety_pair_laws.specs.Facts.{Fact, heard_in, facts_by, facts_of}
+use Rattle.er_end_model.specs.Outcomes.{RefusedNotConnected, RefusedLength, RefusedFull}
+use Rattle.er_end_model.specs.Layers.{Spoken, Core, model}
+use Rattle.er_end_model.specs.Steps.{Finds, new_event_at, with_release, hand_tpdu, close_link, send_owed_answer, send_dr, answer_dr, end_after_di, on_safety_release, why_of, with_safety_step, is_some_octets, hand_text, accept_text, skip_message, Carrier, InCr, InCc, InDt, hand_answer, keep_message, on_safety_report, on_text, on_transport_deed, on_joined_block, is_ready, connect_with_text, on_link_up, on_link_told, on_link_deed, hand_next_tpdu, has_next_tpdu, hand_waiting_tpdus, most_offers, conclude_event, step_start, step_frame, is_connected, refusal_at, refusal_of, step_send_unless, step_take, step_release, is_spent, di_of, on_expiry, step_tick, normal_disconnect}
 use Rattle.drill_model.specs.Outcomes.{Outcome, OfSafety, Released, Frame}
 use Rattle.drill_model.specs.StationEnds.{if_released}
 use Rattle.drill_model.specs.StackEnds.{facts_told, told_at}
@@ -84,31 +84,31 @@ module _ (A S : List (List ℕ)) where
   if_core P true x y hx hy = hx
   if_core P false x y hx hy = hy
 
-  ended : (x : Core) (why : Release) → Grows x → Grows (ends why x)
+  ended : (x : Core) (why : Release) → Grows x → Grows (with_release why x)
   ended x why h = record { accepted_is = h.accepted_is; sent_is = h.sent_is; release_is = refl }
 
-  departs_grow : (why : Release) (reason : ℕ) (user : List ℕ) (x : Core) → Grows x → Grows (departs model why reason user x)
+  departs_grow : (why : Release) (reason : ℕ) (user : List ℕ) (x : Core) → Grows x → Grows (send_dr model why reason user x)
   departs_grow why reason user x h =
-      if_core (λ y. Grows (ends why (shuts model y))) (model.may_send x.line) (gives model (Dr reason user) x) x (ended x why h) (ended x why h)
+      if_core (λ y. Grows (with_release why (close_link model y))) (model.may_send x.line) (hand_tpdu model (Dr reason user) x) x (ended x why h) (ended x why h)
 
-  cut_off_grows : (why : Release) (x : Core) → Grows x → Grows (cut_off model why x)
-  cut_off_grows why x h = if_core (λ y. Grows (ends why (finishes model y))) (model.may_send x.line) (gives model Dc x) x (ended x why h) (ended x why h)
+  cut_off_grows : (why : Release) (x : Core) → Grows x → Grows (answer_dr model why x)
+  cut_off_grows why x h = if_core (λ y. Grows (with_release why (send_owed_answer model y))) (model.may_send x.line) (hand_tpdu model Dc x) x (ended x why h) (ended x why h)
 
-  parts_grow : (why : Release) (di : List ℕ) (x : Core) → Grows x → Grows (parts model why di x)
-  parts_grow why di x h = if_core Grows why.by_peer (deserted model why x) (departs model why normal_disconnect di x) (ended x why h) (departs_grow why normal_disconnect di x h)
+  parts_grow : (why : Release) (di : List ℕ) (x : Core) → Grows x → Grows (on_safety_release model why di x)
+  parts_grow why di x h = if_core Grows why.by_peer (end_after_di model why x) (send_dr model why normal_disconnect di x) (ended x why h) (departs_grow why normal_disconnect di x h)
 
-  says_grow : (text : List ℕ) (x : Core) → Grows x → Grows (says model text x)
+  says_grow : (text : List ℕ) (x : Core) → Grows x → Grows (hand_text model text x)
   says_grow text x h = if_core Grows (is_some_octets text && model.may_hand x.upper) (record x { upper = model.hands_message x.upper text }) x h h
 
-  accepts_grow : (text : List ℕ) (x : Core) → Grows x → Grows (accepts model text x)
+  accepts_grow : (text : List ℕ) (x : Core) → Grows x → Grows (accept_text model text x)
   accepts_grow text x h = if_core Grows (is_some_octets text) (record x { upper = model.accepts x.upper text }) x h h
 
-  answers_grow : (carrier : Carrier) (text : List ℕ) (x : Core) → Grows x → Grows (answers model carrier text x)
+  answers_grow : (carrier : Carrier) (text : List ℕ) (x : Core) → Grows x → Grows (hand_answer model carrier text x)
   answers_grow InCr text x h = accepts_grow text x h
   answers_grow InCc text x h = says_grow text x h
-  answers_grow InDt text x h = says_grow text (skips model x) h
+  answers_grow InDt text x h = says_grow text (skip_message model x) h
 
-  keeps_grow : (carrier : Carrier) (user : List ℕ) (x : Core) → x.upper.news ≡ None → Grows x → Grows (keeps model carrier user x)
+  keeps_grow : (carrier : Carrier) (user : List ℕ) (x : Core) → x.upper.news ≡ None → Grows x → Grows (keep_message model carrier user x)
   keeps_grow InCr user x none h = h
   keeps_grow InCc user x none h = h
   keeps_grow InDt user x none h = record {
@@ -117,20 +117,20 @@ module _ (A S : List (List ℕ)) where
     release_is = h.release_is;
   }
 
-  acts_grow : (carrier : Carrier) (report : Report) (octets : List ℕ) (x : Core) → x.upper.news ≡ None → Grows x → Grows (acts model carrier report octets x)
+  acts_grow : (carrier : Carrier) (report : Report) (octets : List ℕ) (x : Core) → x.upper.news ≡ None → Grows x → Grows (on_safety_report model carrier report octets x)
   acts_grow carrier ToldAnswered octets x none h = answers_grow carrier octets x h
   acts_grow carrier (ToldConnected peer) octets x none h = answers_grow carrier octets x h
   acts_grow carrier (ToldAccepted user) octets x none h = keeps_grow carrier user x none h
   acts_grow carrier (ToldReleased why) octets x none h = parts_grow why octets x h
   acts_grow carrier ToldIgnored octets x none h = h
 
-  offers_grow : (n : ℕ) (x : Core) → Grows x → Grows (offers model n x)
-  unfolding offers
+  offers_grow : (n : ℕ) (x : Core) → Grows x → Grows (hand_waiting_tpdus model n x)
+  unfolding hand_waiting_tpdus
   offers_grow zero x h = h
-  offers_grow (suc n) x h = if_core Grows (goes_on model x) (offers model n (gives_next model x)) x (offers_grow n (gives_next model x) h) h
+  offers_grow (suc n) x h = if_core Grows (has_next_tpdu model x) (hand_waiting_tpdus model n (hand_next_tpdu model x)) x (offers_grow n (hand_next_tpdu model x) h) h
 
-  concludes_grow : (x : Core) → Grows x → Grows (concludes model x)
-  concludes_grow x h = if_core Grows (is_some x.released) x (finishes model (offers model most_offers x)) h (offers_grow most_offers x h)
+  concludes_grow : (x : Core) → Grows x → Grows (conclude_event model x)
+  concludes_grow x h = if_core Grows (is_some x.released) x (send_owed_answer model (hand_waiting_tpdus model most_offers x)) h (offers_grow most_offers x h)
 
   -- the side took no step yet, and nothing came
   abbrev Still : Core → Type 0
@@ -144,7 +144,7 @@ module _ (A S : List (List ℕ)) where
   }
 
   -- a step of the safety side that sends no message
-  stepped : (event : SafetyEvent) (a : Safety × SafetyOutcome) (x : Core) → sent_by_step a.1 ≡ [] → Still x → Grows (spoken model event a x)
+  stepped : (event : SafetyEvent) (a : Safety × SafetyOutcome) (x : Core) → sent_by_step a.1 ≡ [] → Still x → Grows (with_safety_step model event a x)
   stepped event a x none h = record {
     accepted_is = h.0 ∙ sym (append-nil A) ∙ ap (λ (o : Option (List ℕ)). A ++ option_to_list o) (sym h.2);
     sent_is = h.1 ∙ sym (append-nil S) ∙ ap (λ (xs : List (List ℕ)). S ++ xs) (sym none);
@@ -152,14 +152,14 @@ module _ (A S : List (List ℕ)) where
   }
 
   module _ (only : StepsOnly) where
-    text_grows : (finds : Finds) (carrier : Carrier) (text : List ℕ) (x : Core) → Still x → Grows (text_comes model finds carrier text x)
+    text_grows : (finds : Finds) (carrier : Carrier) (text : List ℕ) (x : Core) → Still x → Grows (on_text model finds carrier text x)
     text_grows finds carrier text x h =
         let key_of : ℕ → ℕ → Option TripleKey = finds x.moment in
         let a : Safety × SafetyOutcome = step key_of x.safe.safety (Received text) in
         let none : sent_by_step a.1 ≡ [] = no_send key_of x.safe.safety (Received text) a.0 a.1 (λ user e. cc) (only key_of x.safe.safety (Received text)) in
-        acts_grow carrier (report_of a.1) (sent_by a.1) (spoken model (Received text) a x) h.2 (stepped (Received text) a x none h)
+        acts_grow carrier (report_of a.1) (sent_by a.1) (with_safety_step model (Received text) a x) h.2 (stepped (Received text) a x none h)
 
-    does_grow : (finds : Finds) (deed : Deed) (x : Core) → Still x → Grows (does model finds deed x)
+    does_grow : (finds : Finds) (deed : Deed) (x : Core) → Still x → Grows (on_transport_deed model finds deed x)
     does_grow finds Nothing x h = still_grows x h
     does_grow finds (Called user) x h = text_grows finds InCr user x h
     does_grow finds (Confirmed user) x h = text_grows finds InCc user x h
@@ -167,31 +167,31 @@ module _ (A S : List (List ℕ)) where
     does_grow finds (Disconnected user) x h = cut_off_grows (why_of (di_in user (peer_flag x.safe.safety))) x (still_grows x h)
     does_grow finds (transport.Refused sub reason) x h = departs_grow (by_this_end 2 sub) reason [] x (still_grows x h)
 
-    block_grows : (finds : Finds) (answer : joining.Answer) (x : Core) → Still x → Grows (block_at model finds answer x)
+    block_grows : (finds : Finds) (answer : joining.Answer) (x : Core) → Still x → Grows (on_joined_block model finds answer x)
     block_grows finds (Ok None) x h = still_grows x h
     block_grows finds (Ok (Some tpdu)) x h = does_grow finds (model.deed x.upper tpdu) (record x { upper = model.hears x.upper tpdu }) h
     block_grows finds (Err fault) x h = departs_grow (release_of BlockRefused) protocol_error [] x (still_grows x h)
 
-    comes_up_grows : (x : Core) → Still x → Grows (comes_up model x)
+    comes_up_grows : (x : Core) → Still x → Grows (on_link_up model x)
     comes_up_grows x h =
         let a : Safety × SafetyOutcome = step no_keys x.safe.safety ConnectRequest in
-        let y : Core = spoken model ConnectRequest a x in
+        let y : Core = with_safety_step model ConnectRequest a x in
         let none : sent_by_step a.1 ≡ [] = no_send no_keys x.safe.safety ConnectRequest a.0 a.1 (λ user e. cc) (only no_keys x.safe.safety ConnectRequest) in
         let now : Grows y = stepped ConnectRequest a x none h in
-        if_core Grows (model.may_connect x.upper && is_ready x.safe.safety.phase) (connects model (sent_by a.1) y) x
+        if_core Grows (model.may_connect x.upper && is_ready x.safe.safety.phase) (connect_with_text model (sent_by a.1) y) x
         (if_core Grows (is_some_octets (sent_by a.1)) (record y { upper = model.connects y.upper (sent_by a.1) }) y now now) (still_grows x h)
 
-    link_grows : (finds : Finds) (payload : Option (List ℕ)) (up : Bool) (why : Option Release) (x : Core) → Still x → Grows (link_at model finds payload up why x)
+    link_grows : (finds : Finds) (payload : Option (List ℕ)) (up : Bool) (why : Option Release) (x : Core) → Still x → Grows (on_link_told model finds payload up why x)
     link_grows finds (Some payload) up why x h = block_grows finds (joining.step x.joined payload).1 (record x { joined = (joining.step x.joined payload).0 }) h
     link_grows finds None true why x h = comes_up_grows x h
     link_grows finds None false (Some why) x h = ended x why (still_grows x h)
     link_grows finds None false None x h = still_grows x h
 
-  time_grows : (why : Option Release) (x : Core) → Grows x → Grows (time_at model why x)
+  time_grows : (why : Option Release) (x : Core) → Grows x → Grows (on_expiry model why x)
   time_grows (Some why) x h = ended x why h
   time_grows None x h =
       let why : Release = release_of SetUpTimeSpent in
-      if_core Grows (is_spent x) (departs model why normal_disconnect (di_of why x.safe.safety) x) x (departs_grow why normal_disconnect (di_of why x.safe.safety) x h) h
+      if_core Grows (is_spent x) (send_dr model why normal_disconnect (di_of why x.safe.safety) x) x (departs_grow why normal_disconnect (di_of why x.safe.safety) x h) h
 
 -- ---- the events
 
@@ -212,51 +212,51 @@ unless_released : (P : Core → Type 0) (o : Option Release) (x y : Core) → (o
 unless_released P None x y hy hx = hy refl
 unless_released P (Some why) x y hy hx = hx why refl
 
-rested : (now : ℕ) (x : Core) → Rests x (begins_at model now x)
+rested : (now : ℕ) (x : Core) → Rests x (new_event_at model now x)
 rested now x = record { accepted_is = refl; sent_is = refl; news_is = refl; spoke_is = refl; left_is = refl; released_is = refl }
 
-begun_still : (now : ℕ) (x : Core) → x.released ≡ None → Still x.upper.accepted x.upper.sent (begins_at model now x)
+begun_still : (now : ℕ) (x : Core) → x.released ≡ None → Still x.upper.accepted x.upper.sent (new_event_at model now x)
 begun_still now x live = (refl, refl, refl, refl, sym live)
 
-pub starts_went : (now : ℕ) (x : Core) → Went x (starts model now x)
+pub starts_went : (now : ℕ) (x : Core) → Went x (step_start model now x)
 starts_went now x =
-    let y : Core = begins_at model now x in
+    let y : Core = new_event_at model now x in
     let z : Core = record y { line = model.starts y.moment y.line } in
-    unless_released (Went x) y.released y (concludes model z)
+    unless_released (Went x) y.released y (conclude_event model z)
     (λ live. inl (live, concludes_grow x.upper.accepted x.upper.sent z (still_grows x.upper.accepted x.upper.sent z (begun_still now x live)))) (λ why is. inr (rested now x))
 
-pub comes_went : StepsOnly → (finds : Finds) (now : ℕ) (verdict : Verdict) (x : Core) → Went x (comes model finds now verdict x)
+pub comes_went : StepsOnly → (finds : Finds) (now : ℕ) (verdict : Verdict) (x : Core) → Went x (step_frame model finds now verdict x)
 comes_went only finds now verdict x =
-    let y : Core = begins_at model now x in
+    let y : Core = new_event_at model now x in
     let z : Core = record y { line = model.receives y.moment verdict y.line } in
     let deed : LinkDeed = model.told y.moment verdict y.line in
     let A : List (List ℕ) = x.upper.accepted in
     let S : List (List ℕ) = x.upper.sent in
-    unless_released (Went x) y.released y (concludes model (link_comes model finds deed z))
-    (λ live. inl (live, concludes_grow A S (link_comes model finds deed z) (link_grows A S only finds deed.payload deed.up deed.released z (begun_still now x live))))
+    unless_released (Went x) y.released y (conclude_event model (on_link_deed model finds deed z))
+    (λ live. inl (live, concludes_grow A S (on_link_deed model finds deed z) (link_grows A S only finds deed.payload deed.up deed.released z (begun_still now x live))))
     (λ why is. inr (rested now x))
 
-pub leaves_went : StepsOnly → (now sub : ℕ) (x : Core) → Went x (leaves model now sub x)
+pub leaves_went : StepsOnly → (now sub : ℕ) (x : Core) → Went x (step_release model now sub x)
 leaves_went only now sub x =
-    let y : Core = begins_at model now x in
+    let y : Core = new_event_at model now x in
     let a : Safety × SafetyOutcome = step no_keys y.safe.safety (DisconnectRequest sub) in
-    let z : Core = spoken model (DisconnectRequest sub) a y in
+    let z : Core = with_safety_step model (DisconnectRequest sub) a y in
     let A : List (List ℕ) = x.upper.accepted in
     let S : List (List ℕ) = x.upper.sent in
     let none : sent_by_step a.1 ≡ [] = no_send no_keys y.safe.safety (DisconnectRequest sub) a.0 a.1 (λ user e. cc) (only no_keys y.safe.safety (DisconnectRequest sub)) in
-    unless_released (Went x) y.released y (departs model (release_of (User sub)) normal_disconnect (sent_by a.1) z)
+    unless_released (Went x) y.released y (send_dr model (release_of (User sub)) normal_disconnect (sent_by a.1) z)
     (λ live. inl (live, departs_grow A S (release_of (User sub)) normal_disconnect (sent_by a.1) z (stepped A S (DisconnectRequest sub) a y none (begun_still now x live))))
     (λ why is. inr (rested now x))
 
-pub ticks_went : (now : ℕ) (x : Core) → Went x (ticks model now x)
+pub ticks_went : (now : ℕ) (x : Core) → Went x (step_tick model now x)
 ticks_went now x =
-    let y : Core = begins_at model now x in
+    let y : Core = new_event_at model now x in
     let z : Core = record y { line = model.ticks y.moment y.line } in
     let why : Option Release = model.given_up y.moment y.line in
     let A : List (List ℕ) = x.upper.accepted in
     let S : List (List ℕ) = x.upper.sent in
-    unless_released (Went x) y.released y (concludes model (time_at model why z))
-    (λ live. inl (live, concludes_grow A S (time_at model why z) (time_grows A S why z (still_grows A S z (begun_still now x live))))) (λ why is. inr (rested now x))
+    unless_released (Went x) y.released y (conclude_event model (on_expiry model why z))
+    (λ live. inl (live, concludes_grow A S (on_expiry model why z) (time_grows A S why z (still_grows A S z (begun_still now x live))))) (λ why is. inr (rested now x))
 
 -- a take changes nothing of these
 module _ (before : Core) where
@@ -275,23 +275,23 @@ module _ (before : Core) where
     released_is = r ∙ h.released_is;
   }
 
-  offers_rest : (n : ℕ) (x : Core) → Rests before x → Rests before (offers model n x)
-  unfolding offers
+  offers_rest : (n : ℕ) (x : Core) → Rests before x → Rests before (hand_waiting_tpdus model n x)
+  unfolding hand_waiting_tpdus
   offers_rest zero x h = h
   offers_rest (suc n) x h =
-      rests_if (goes_on model x) (offers model n (gives_next model x)) x (offers_rest n (gives_next model x) (same_rests x (gives_next model x) refl refl refl refl refl refl h)) h
+      rests_if (has_next_tpdu model x) (hand_waiting_tpdus model n (hand_next_tpdu model x)) x (offers_rest n (hand_next_tpdu model x) (same_rests x (hand_next_tpdu model x) refl refl refl refl refl refl h)) h
 
-  concludes_rest : (x : Core) → Rests before x → Rests before (concludes model x)
+  concludes_rest : (x : Core) → Rests before x → Rests before (conclude_event model x)
   concludes_rest x h =
-      let y : Core = offers model most_offers x in
-      rests_if (is_some x.released) x (finishes model y) h (same_rests y (finishes model y) refl refl refl refl refl refl (offers_rest most_offers x h))
+      let y : Core = hand_waiting_tpdus model most_offers x in
+      rests_if (is_some x.released) x (send_owed_answer model y) h (same_rests y (send_owed_answer model y) refl refl refl refl refl refl (offers_rest most_offers x h))
 
-pub uses_went : (now : ℕ) (x : Core) → Went x (uses model now x)
+pub uses_went : (now : ℕ) (x : Core) → Went x (step_take model now x)
 uses_went now x =
-    let y : Core = begins_at model now x in
+    let y : Core = new_event_at model now x in
     let z : Core = record y { upper = model.uses y.upper } in
     let h : Rests x z = record { accepted_is = refl; sent_is = refl; news_is = refl; spoke_is = refl; left_is = refl; released_is = refl } in
-    inr (rests_if x (model.untaken y.upper == 0) y (concludes model z) (rested now x) (concludes_rest x z h))
+    inr (rests_if x (model.untaken y.upper == 0) y (conclude_event model z) (rested now x) (concludes_rest x z h))
 
 -- ---- a send that isn't refused
 
@@ -316,21 +316,21 @@ send_step s (WaitAr connection) user connected message = absurd (cc)
 send_step s (Connected peer session) user connected message = rw message refl
 send_step s (safety.Released release session) user connected message = absurd (cc)
 
-pub sends_went : (now : ℕ) (user : List ℕ) (x : Core) → refusal_of model user x ≡ None → Went x (sends_unless model None now user x)
+pub sends_went : (now : ℕ) (user : List ℕ) (x : Core) → refusal_of model user x ≡ None → Went x (step_send_unless model None now user x)
 sends_went now user x none =
-    let parts = unrefused x.released (is_connected x.safe.safety.phase) user (model.waiting x.upper) none in
-    let y : Core = begins_at model now x in
+    let on_safety_release = unrefused x.released (is_connected x.safe.safety.phase) user (model.waiting x.upper) none in
+    let y : Core = new_event_at model now x in
     let a : Safety × SafetyOutcome = step no_keys y.safe.safety (DataRequest user) in
-    let z : Core = record (spoken model (DataRequest user) a y) { upper = model.sends (spoken model (DataRequest user) a y).upper user } in
+    let z : Core = record (with_safety_step model (DataRequest user) a y) { upper = model.sends (with_safety_step model (DataRequest user) a y).upper user } in
     let A : List (List ℕ) = x.upper.accepted in
     let S : List (List ℕ) = x.upper.sent in
-    let step_sent : sent_by_step a.1 ≡ user ∷ [] = send_step y.safe.safety y.safe.safety.phase user parts.1.0 parts.1.1 in
+    let step_sent : sent_by_step a.1 ≡ user ∷ [] = send_step y.safe.safety y.safe.safety.phase user on_safety_release.1.0 on_safety_release.1.1 in
     let h : Grows A S z = record {
       accepted_is = sym (append-nil A);
       sent_is = ap (λ (xs : List (List ℕ)). S ++ xs) (sym step_sent);
-      release_is = sym parts.0;
+      release_is = sym on_safety_release.0;
     } in
-    inl (parts.0, concludes_grow A S (says model (sent_by a.1) z) (says_grow A S (sent_by a.1) z h))
+    inl (on_safety_release.0, concludes_grow A S (hand_text model (sent_by a.1) z) (says_grow A S (sent_by a.1) z h))
 
 -- ---- what a call tells
 

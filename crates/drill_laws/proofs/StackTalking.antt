@@ -4,19 +4,19 @@ use Rattle.std.specs.Prelude.{Option}
 use Rattle.er_base.specs.declared.side.Side.{Side}
 use Rattle.er_base.specs.declared.side.Side.TheVariants.{E, R}
 use Rattle.er_base.specs.Sides.{other}
-use Rattle.er_settings.specs.declared.settings.Settings.{Settings}
+use Rattle.er_settings.specs.Values.{Settings}
 use Rattle.des_block.specs.declared.triple_key.TripleKey.{TripleKey}
-use Rattle.safe_pair.specs.Facts.{SideFact}
-use Rattle.safe_pair.specs.Openings.{PairOpening, OfKeys, Pair, key_for, with_safety}
-use Rattle.safe_pair.specs.Talks.{Talks, Begins}
-use Rattle.end_model.specs.Ends.{End as Stack, Call, Answer}
-use Rattle.end_model.specs.Ends as stacks
+use Rattle.safety_pair_laws.specs.Facts.{SideFact}
+use Rattle.safety_pair_laws.specs.Openings.{PairOpening, OfKeys, Pair, key_for, with_safety}
+use Rattle.safety_pair_laws.specs.Talks.{Talks, Begins}
+use Rattle.er_end_model.specs.Ends.{End as Stack, Call, Answer}
+use Rattle.er_end_model.specs.Ends as stacks
 use Rattle.drill_model.specs.Outcomes.{Outcome, NothingWaits, UserReleased, Passed, Occurrence, at_end, facts_in}
 use Rattle.drill_model.specs.Ends.{End, OfStack, EndEvent, Start, stack_end, stack_end_step, end_step}
 use Rattle.drill_model.specs.Ends as event
-use Rattle.drill_model.specs.StackEnds.{stack_begins, stack_hears, stack_sends, stack_takes, stack_releases, stack_ticks}
-use Rattle.drill_model.specs.Waiting.{LineChange, changes}
-use Rattle.drill_model.specs.Links.{Link, LinkOpening, OfStacks, key_on, waiting_of, with_waiting, answered, give, joined, opened_stacks, LinkStep, Send, Pass, Change, Take, Release, Tick, pass, link_step}
+use Rattle.drill_model.specs.StackEnds.{stack_start, stack_hear, stack_send, stack_take, stack_release, stack_tick}
+use Rattle.drill_model.specs.Waiting.{LineChange, change_first}
+use Rattle.drill_model.specs.Links.{Link, LinkOpening, OfStacks, key_on, waiting_of, with_waiting, with_answer, give, link_of, opened_stacks, LinkStep, Send, Pass, Change, Take, Release, Tick, pass, link_step}
 use Rattle.drill_model.specs.Growth.{FactsGrow}
 use Rattle.drill_laws.proofs.Speaking.{Tells, begins_tells, hears_tells, sends_tells, takes_tells, releases_tells, ticks_tells}
 
@@ -46,7 +46,7 @@ module _ (grow : FactsGrow) where
   -- a stack that went on so
   stack_answered : (l : Link) (history : List Occurrence) (t : IsStackTalk l history) (side : Side) (a : Stack × List Outcome)
       → Tells (opening_of l history t) side (stack_at l history t side).core.safe.safety a.1 a.0.core.safe.safety
-      → IsStackTalk (answered l side (stack_end a)).0 (history ++ (answered l side (stack_end a)).1)
+      → IsStackTalk (with_answer l side (stack_end a)).0 (history ++ (with_answer l side (stack_end a)).1)
   stack_answered l history t E a tells =
       let pair : Pair = record { e = t.e.core.safe.safety; r = t.r.core.safe.safety } in
       record {
@@ -84,25 +84,25 @@ module _ (grow : FactsGrow) where
 
   -- what an end of such a link answers
   event_answered : (l : Link) (history : List Occurrence) (t : IsStackTalk l history) (side : Side) (event : EndEvent)
-      → let a = answered l side (stack_end_step (key_for (opening_of l history t)) l.moment (stack_at l history t side) event) in
+      → let a = with_answer l side (stack_end_step (key_for (opening_of l history t)) l.moment (stack_at l history t side) event) in
       IsStackTalk a.0 (history ++ a.1)
-  event_answered l history t side Start = stack_answered l history t side (stack_begins l.moment (stack_at l history t side)) (begins_tells grow (opening_of l history t) side l.moment (stack_at l history t side))
+  event_answered l history t side Start = stack_answered l history t side (stack_start l.moment (stack_at l history t side)) (begins_tells grow (opening_of l history t) side l.moment (stack_at l history t side))
   event_answered l history t side (event.Receive octets) =
-      stack_answered l history t side (stack_hears (λ now. key_for (opening_of l history t)) l.moment octets (stack_at l history t side))
+      stack_answered l history t side (stack_hear (λ now. key_for (opening_of l history t)) l.moment octets (stack_at l history t side))
       (hears_tells grow (opening_of l history t) side l.moment octets (stack_at l history t side))
   event_answered l history t side (event.Send user) =
-      stack_answered l history t side (stack_sends l.moment user (stack_at l history t side)) (sends_tells grow (opening_of l history t) side l.moment user (stack_at l history t side))
+      stack_answered l history t side (stack_send l.moment user (stack_at l history t side)) (sends_tells grow (opening_of l history t) side l.moment user (stack_at l history t side))
   event_answered l history t side event.Take =
-      stack_answered l history t side (stack_takes l.moment (stack_at l history t side)) (takes_tells grow (opening_of l history t) side l.moment (stack_at l history t side))
+      stack_answered l history t side (stack_take l.moment (stack_at l history t side)) (takes_tells grow (opening_of l history t) side l.moment (stack_at l history t side))
   event_answered l history t side (event.Release sub) =
-      stack_answered l history t side (stack_releases l.moment sub (stack_at l history t side)) (releases_tells grow (opening_of l history t) side l.moment sub (stack_at l history t side))
+      stack_answered l history t side (stack_release l.moment sub (stack_at l history t side)) (releases_tells grow (opening_of l history t) side l.moment sub (stack_at l history t side))
   event_answered l history t side event.Tick =
-      stack_answered l history t side (stack_ticks l.moment (stack_at l history t side)) (ticks_tells grow (opening_of l history t) side l.moment (stack_at l history t side))
+      stack_answered l history t side (stack_tick l.moment (stack_at l history t side)) (ticks_tells grow (opening_of l history t) side l.moment (stack_at l history t side))
 
   answers_so : (l : Link) (history : List Occurrence) (t : IsStackTalk l history) (side : Side) (event : EndEvent)
-      → give l side event ≡ answered l side (stack_end_step (key_for (opening_of l history t)) l.moment (stack_at l history t side) event)
-  answers_so l history t E event = ap₂ (λ (o : LinkOpening) (end : End). answered l E (end_step (key_on o) l.moment end event)) t.opening_is t.e_is
-  answers_so l history t R event = ap₂ (λ (o : LinkOpening) (end : End). answered l R (end_step (key_on o) l.moment end event)) t.opening_is t.r_is
+      → give l side event ≡ with_answer l side (stack_end_step (key_for (opening_of l history t)) l.moment (stack_at l history t side) event)
+  answers_so l history t E event = ap₂ (λ (o : LinkOpening) (end : End). with_answer l E (end_step (key_on o) l.moment end event)) t.opening_is t.e_is
+  answers_so l history t R event = ap₂ (λ (o : LinkOpening) (end : End). with_answer l R (end_step (key_on o) l.moment end event)) t.opening_is t.r_is
 
   pub stack_give : (l : Link) (history : List Occurrence) (side : Side) (event : EndEvent) → IsStackTalk l history
       → IsStackTalk (give l side event).0 (history ++ (give l side event).1)
@@ -149,13 +149,13 @@ module _ (grow : FactsGrow) where
   stack_pass l history side (frame ∷ frames) t =
       stack_onto (with_waiting l side frames) history (at_end side (Passed frame) ∷ []) (other side) (event.Receive frame) refl (stack_waiting l history side frames t)
 
-  pub stack_step : ((side : Side) (change : LineChange) (frames : List (List ℕ)) → facts_in (map (at_end side) (changes change frames).1) ≡ [])
+  pub stack_step : ((side : Side) (change : LineChange) (frames : List (List ℕ)) → facts_in (map (at_end side) (change_first change frames).1) ≡ [])
       → (l : Link) (history : List Occurrence) (s : LinkStep) → IsStackTalk l history → IsStackTalk (link_step l s).0 (history ++ (link_step l s).1)
   stack_step none l history (Send side octets) t = stack_give l history side (event.Send octets) t
   stack_step none l history (Pass side) t = stack_pass l history side (waiting_of l side) t
   stack_step none l history (Change side change) t =
-      stack_silent (with_waiting l side (changes change (waiting_of l side)).0) history _ (none side change (waiting_of l side))
-      (stack_waiting l history side (changes change (waiting_of l side)).0 t)
+      stack_silent (with_waiting l side (change_first change (waiting_of l side)).0) history _ (none side change (waiting_of l side))
+      (stack_waiting l history side (change_first change (waiting_of l side)).0 t)
   stack_step none l history (Take side) t = stack_give l history side event.Take t
   stack_step none l history (Release side sub) t = stack_onto l history (at_end side (UserReleased sub) ∷ []) side (event.Release sub) refl t
   stack_step none l history (Tick moment) t =
@@ -170,7 +170,7 @@ module _ (grow : FactsGrow) where
       → let a = opened_stacks settings moment engine rbc ke kr ra rb in IsStackTalk a.0 a.1
   opened_stack_talks settings moment engine rbc ke kr ra rb =
       stack_give
-      (joined (OfStacks engine rbc ke kr ra rb) moment (OfStack (stacks.opened (Call settings engine rbc ke rb moment))) (OfStack (stacks.opened (Answer settings rbc ra moment))))
+      (link_of (OfStacks engine rbc ke kr ra rb) moment (OfStack (stacks.opened (Call settings engine rbc ke rb moment))) (OfStack (stacks.opened (Answer settings rbc ra moment))))
       [] E Start
       (record {
         engine = engine;

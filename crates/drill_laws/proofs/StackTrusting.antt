@@ -9,27 +9,27 @@ use Rattle.std.proofs.lemmas.List.Folds.{list_any-append}
 use Rattle.er_base.specs.declared.side.Side.{Side}
 use Rattle.er_base.specs.declared.side.Side.TheVariants.{E, R}
 use Rattle.er_base.specs.Sides.{other}
-use Rattle.er_settings.specs.declared.settings.Settings.{Settings}
+use Rattle.er_settings.specs.Values.{Settings}
 use Rattle.safety_automaton.specs.Safety.{Safety, SafetyOutcome, step}
 use Rattle.safety_automaton.specs.Rules.{IsStep, StepsOnly}
-use Rattle.safe_pair.specs.Facts.{SideFact, MarkedFact, at_side, marked_from, marked}
-use Rattle.safe_pair.specs.Marks.{MarksGrow}
-use Rattle.safe_pair.specs.Openings.{PairOpening, OfKeys}
-use Rattle.end_model.specs.Layers.{Spoken, model}
-use Rattle.end_model.specs.Steps.{begins_at, starts, ticks}
-use Rattle.station_model.specs.Events.{news}
-use Rattle.station_model.specs.Lines.{IsPrefix}
-use Rattle.end_model.specs.Ends.{End as Stack, Event, Call, Answer, opened as stack_opened, finds_expired}
-use Rattle.end_model.specs.Ends as on_end
-use Rattle.end_pair.specs.Links.{Link as Pair, end_of}
-use Rattle.end_pair.specs.Laws.{IsOneFrame}
+use Rattle.safety_pair_laws.specs.Facts.{SideFact, MarkedFact, at_side, marked_from, marked}
+use Rattle.safety_pair_laws.specs.Marks.{MarksGrow}
+use Rattle.safety_pair_laws.specs.Openings.{PairOpening, OfKeys}
+use Rattle.er_end_model.specs.Layers.{Spoken, model}
+use Rattle.er_end_model.specs.Steps.{new_event_at, step_start, step_tick}
+use Rattle.hdlc_station_model.specs.Events.{news}
+use Rattle.hdlc_station_model.specs.Lines.{IsPrefix}
+use Rattle.er_end_model.specs.Ends.{End as Stack, Event, Call, Answer, opened as stack_opened, finds_expired}
+use Rattle.er_end_model.specs.Ends as on_end
+use Rattle.er_end_pair_laws.specs.Links.{Link as Pair, end_of}
+use Rattle.er_end_pair_laws.specs.Laws.{IsOneFrame}
 use Rattle.drill_model.specs.Outcomes.{Outcome, NothingWaits, UserReleased, Passed, Occurrence, at_end, facts_in}
 use Rattle.drill_model.specs.Growth.{FactsGrow}
 use Rattle.drill_model.specs.StackReports.{IsOrderly, OpensOrderly, CallsReport, user_in}
 use Rattle.drill_model.specs.Ends.{End, OfStack, EndEvent, Receive, stack_end_step, end_step}
 use Rattle.drill_model.specs.Ends as event
-use Rattle.drill_model.specs.Waiting.{changes}
-use Rattle.drill_model.specs.Links.{Link, LinkOpening, key_on, waiting_of, with_waiting, answered, joined, opened_stacks, LinkStep, Send, Pass, Change, Take, Release, Tick, pass, link_step}
+use Rattle.drill_model.specs.Waiting.{change_first}
+use Rattle.drill_model.specs.Links.{Link, LinkOpening, key_on, waiting_of, with_waiting, with_answer, link_of, opened_stacks, LinkStep, Send, Pass, Change, Take, Release, Tick, pass, link_step}
 use Rattle.drill_model.specs.Links as drill
 use Rattle.drill_model.specs.Kinds.{sent_in, accepted_in, is_disturbance, is_disturbed}
 use Rattle.drill_laws.proofs.Speaking.{Speaks}
@@ -180,11 +180,11 @@ module _ (grow : FactsGrow) (marks : MarksGrow) (only : StepsOnly) (reports : Ca
 
   -- ---- an event at an end of a link
 
-  gives_e : (l : Link) (e r : Stack) (given : EndEvent) → Stands k l e r → drill.give l E given ≡ answered l E (stack_end_step (key_of k) l.moment e given)
-  gives_e l e r given s = ap₂ (λ (o : LinkOpening) (end : End). answered l E (end_step (key_on o) l.moment end given)) s.opening_is s.e_is
+  gives_e : (l : Link) (e r : Stack) (given : EndEvent) → Stands k l e r → drill.give l E given ≡ with_answer l E (stack_end_step (key_of k) l.moment e given)
+  gives_e l e r given s = ap₂ (λ (o : LinkOpening) (end : End). with_answer l E (end_step (key_on o) l.moment end given)) s.opening_is s.e_is
 
-  gives_r : (l : Link) (e r : Stack) (given : EndEvent) → Stands k l e r → drill.give l R given ≡ answered l R (stack_end_step (key_of k) l.moment r given)
-  gives_r l e r given s = ap₂ (λ (o : LinkOpening) (end : End). answered l R (end_step (key_on o) l.moment end given)) s.opening_is s.r_is
+  gives_r : (l : Link) (e r : Stack) (given : EndEvent) → Stands k l e r → drill.give l R given ≡ with_answer l R (stack_end_step (key_of k) l.moment r given)
+  gives_r l e r given s = ap₂ (λ (o : LinkOpening) (end : End). with_answer l R (end_step (key_on o) l.moment end given)) s.opening_is s.r_is
 
   abbrev next_of : Link → EndEvent → Stack → Stack
   next_of l given m = (on_end.step l.moment (as_given only reports (key_of k) given) m).0
@@ -240,7 +240,7 @@ module _ (grow : FactsGrow) (marks : MarksGrow) (only : StepsOnly) (reports : Ca
       let d = (stack_does only reports (key_of k) l.moment e event.Tick orderly).says in
       let rests = ticks_rest l.moment e.core in
       let tells : Tells None (told_of l event.Tick e) =
-      ticks_tell grow (OfKeys k.engine k.rbc k.ke k.kr k.ra k.rb) (finds_expired (begins_at model l.moment e.core)) (ticks model l.moment e.core) rests.0 in
+      ticks_tell grow (OfKeys k.engine k.rbc k.ke k.kr k.ra k.rb) (finds_expired (new_event_at model l.moment e.core)) (step_tick model l.moment e.core) rests.0 in
       subst (λ (os : List Occurrence). Sound k next r (history ++ os)) (sym (came_e l e r event.Tick s))
       (e_told e next r history (told_of l event.Tick e) None tells d.sent_is
       (same_e k e.core.safe.safety next.core.safe.safety r.core.safe.safety e.core.upper.sent r.core.upper.sent (marked (facts_in history)) rests.1 h))
@@ -252,7 +252,7 @@ module _ (grow : FactsGrow) (marks : MarksGrow) (only : StepsOnly) (reports : Ca
       let d = (stack_does only reports (key_of k) l.moment r event.Tick orderly).says in
       let rests = ticks_rest l.moment r.core in
       let tells : Tells None (told_of l event.Tick r) =
-      ticks_tell grow (OfKeys k.engine k.rbc k.ke k.kr k.ra k.rb) (finds_expired (begins_at model l.moment r.core)) (ticks model l.moment r.core) rests.0 in
+      ticks_tell grow (OfKeys k.engine k.rbc k.ke k.kr k.ra k.rb) (finds_expired (new_event_at model l.moment r.core)) (step_tick model l.moment r.core) rests.0 in
       subst (λ (os : List Occurrence). Sound k e next (history ++ os)) (sym (came_r l e r event.Tick s))
       (r_told e r next history (told_of l event.Tick r) None tells d.sent_is
       (same_r k e.core.safe.safety r.core.safe.safety next.core.safe.safety e.core.upper.sent r.core.upper.sent (marked (facts_in history)) rests.1 h))
@@ -328,7 +328,7 @@ module _ (grow : FactsGrow) (marks : MarksGrow) (only : StepsOnly) (reports : Ca
       let m : Link = with_waiting l side frames in
       let x : Stack = end_of p (other side) in
       event_sound m history (at_end side (Passed frame) ∷ []) p q (other side) (event.Receive frame) refl (lined_stands l side frames p.e p.r (sees_stands l history p v))
-      (hears_call grow opening (key_of k) m.moment (news x.stream frame) (begins_at model m.moment x.core) (one_of l history p side frame frames waits v before)) before after h there
+      (hears_call grow opening (key_of k) m.moment (news x.stream frame) (new_event_at model m.moment x.core) (one_of l history p side frame frames waits v before)) before after h there
 
   released_disturbs : (history more : List Occurrence) (side : Side) (sub : ℕ) → is_disturbed (history ++ (at_end side (UserReleased sub) ∷ more)) ≡ false → ⊥
   released_disturbs history more side sub e =
@@ -345,8 +345,8 @@ module _ (grow : FactsGrow) (marks : MarksGrow) (only : StepsOnly) (reports : Ca
   step_sound l history p q (Pass side) v before after calm h there = pass_sound l history p q side (waiting_of l side) refl v before after h there
   step_sound l history p q (Change side change) v before after calm h there =
       let frames : List (List ℕ) = waiting_of l side in
-      quiet_sound (with_waiting l side (changes change frames).0) history (map (at_end side) (changes change frames).1) p q (silent_changes grow side change frames)
-      (lined_stands l side (changes change frames).0 p.e p.r (sees_stands l history p v)) h there
+      quiet_sound (with_waiting l side (change_first change frames).0) history (map (at_end side) (change_first change frames).1) p q (silent_changes grow side change frames)
+      (lined_stands l side (change_first change frames).0 p.e p.r (sees_stands l history p v)) h there
   step_sound l history p q (Take side) v before after calm h there =
       event_sound l history [] p q side event.Take refl (sees_stands l history p v)
       (takes_call grow opening (key_of k) l.moment (end_of p side).core) before after h there
@@ -371,12 +371,12 @@ module _ (grow : FactsGrow) (marks : MarksGrow) (only : StepsOnly) (reports : Ca
   opened_sound orderly settings moment q there =
       let e : Stack = stack_opened (Call settings k.engine k.rbc k.ke k.rb moment) in
       let r : Stack = stack_opened (Answer settings k.rbc k.ra moment) in
-      let l : Link = joined (opening_of k) moment (OfStack e) (OfStack r) in
+      let l : Link = link_of (opening_of k) moment (OfStack e) (OfStack r) in
       let s : Stands k l e r = record { opening_is = refl; e_is = refl; r_is = refl } in
       let next : Stack = next_of l event.Start e in
       let d = (stack_does only reports (key_of k) l.moment e event.Start (orderly (Call settings k.engine k.rbc k.ke k.rb moment))).says in
       let rests = starts_rest l.moment e.core in
-      let tells : Tells None (told_of l event.Start e) = starts_tell grow opening (starts model l.moment e.core) rests.0 in
+      let tells : Tells None (told_of l event.Start e) = starts_tell grow opening (step_start model l.moment e.core) rests.0 in
       let none : IsSound k e.core.safe.safety r.core.safe.safety [] [] [] =
       record { unforged = refl; au2 = λ known. absurd (none_known known); au3 = λ known. absurd (none_known known); ar = λ known. absurd (none_known known); by_e = tt; by_r = tt } in
       let told : Sound k next r (map (at_end E) (told_of l event.Start e)) =

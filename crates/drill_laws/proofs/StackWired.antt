@@ -5,22 +5,22 @@ use Rattle.er_base.specs.declared.side.Side.{Side}
 use Rattle.er_base.specs.declared.side.Side.TheVariants.{E, R}
 use Rattle.er_base.specs.Sides.{other}
 use Rattle.er_base.specs.Octets.{AreOctets}
-use Rattle.er_settings.specs.declared.settings.Settings.{Settings}
+use Rattle.er_settings.specs.Values.{Settings}
 use Rattle.safety_automaton.specs.Rules.{StepsOnly}
-use Rattle.safe_pair.specs.Openings.{OfKeys}
-use Rattle.safe_pair.specs.Deliveries.{FitsOpening}
-use Rattle.station_model.specs.Lines.{next_of as pair_next, altered, next_of}
-use Rattle.end_model.specs.Steps.{Finds}
-use Rattle.end_model.specs.Ends.{End as Stack, Event, Start, Come, Leave, Tick as TickEvent, Call, Answer, opened as stack_opened}
-use Rattle.end_pair.specs.Links.{Link as Pair, end_of, line_of, with_line, give}
-use Rattle.end_pair.specs.Steps.{expires_at, is_overfull, pass_next, drained, run, FitsStep, AllFit}
-use Rattle.end_pair.specs.Steps as on_pair
+use Rattle.safety_pair_laws.specs.Openings.{OfKeys}
+use Rattle.safety_pair_laws.specs.Deliveries.{FitsOpening}
+use Rattle.hdlc_station_model.specs.Lines.{next_of as pair_next, altered, next_of}
+use Rattle.er_end_model.specs.Steps.{Finds}
+use Rattle.er_end_model.specs.Ends.{End as Stack, Event, Start, Come, Leave, Tick as TickEvent, Call, Answer, opened as stack_opened}
+use Rattle.er_end_pair_laws.specs.Links.{Link as Pair, end_of, line_of, with_line, give}
+use Rattle.er_end_pair_laws.specs.Steps.{expires_at, is_overfull, pass_next, drained, run, FitsStep, AllFit}
+use Rattle.er_end_pair_laws.specs.Steps as on_pair
 use Rattle.drill_model.specs.Outcomes.{Outcome, UserReleased, Passed, Lost, Repeated, Altered, Inserted, NothingWaits, IsShort, Occurrence, at_end}
 use Rattle.drill_model.specs.StackReports.{OpensOrderly, CallsReport}
 use Rattle.drill_model.specs.Ends.{OfStack, EndEvent}
 use Rattle.drill_model.specs.Ends as event
-use Rattle.drill_model.specs.Waiting.{LineChange, Lose, Repeat, Alter, Put, changes}
-use Rattle.drill_model.specs.Links.{Link, OfStacks, waiting_of, with_waiting, joined, opened_stacks, LinkStep, Send, Pass, Change, Take, Release, Tick, pass, link_step}
+use Rattle.drill_model.specs.Waiting.{LineChange, Lose, Repeat, Alter, Put, change_first}
+use Rattle.drill_model.specs.Links.{Link, OfStacks, waiting_of, with_waiting, link_of, opened_stacks, LinkStep, Send, Pass, Change, Take, Release, Tick, pass, link_step}
 use Rattle.drill_model.specs.Links as drill
 use Rattle.drill_model.specs.Worlds.{next_side, overfull_side, Drain, drain, drain_on}
 use Rattle.drill_laws.proofs.Tellings.{Says, says_nothing, says_more}
@@ -250,7 +250,7 @@ module _ (only : StepsOnly) (reports : CallsReport) where
       (says_more (IsShort (length frame)) [] [] [] [] false false 0 (λ side. refl) says_nothing) line
 
   changes_goes : (k : Numbers) (l : Link) (history : List Occurrence) (p : Pair) (side : Side) (change : LineChange) (frames : List (List ℕ)) → Sees k l history p
-      → line_of p side ≡ frames → let a = changes change frames in GoesAt k history p (with_waiting l side a.0, map (at_end side) a.1)
+      → line_of p side ≡ frames → let a = change_first change frames in GoesAt k history p (with_waiting l side a.0, map (at_end side) a.1)
   changes_goes k l history p side Lose [] v line = still_goes k l history p side (NothingWaits ∷ []) [] v waits_nothing line
   changes_goes k l history p side Lose (frame ∷ frames) v line =
       change_goes k l history p side (on_pair.Lose side) (Lost ∷ []) frames false true p.order_kept false tt v
@@ -376,7 +376,7 @@ module _ (only : StepsOnly) (reports : CallsReport) where
         order_kept = true;
         loss_free = true;
       } in
-      let l : Link = joined (opening_of k) moment (OfStack e) (OfStack r) in
+      let l : Link = link_of (opening_of k) moment (OfStack e) (OfStack r) in
       let v : Sees k l [] p = record {
         opening_is = refl;
         e_is = refl;

@@ -9,14 +9,14 @@ use Rattle.er_base.specs.declared.side.Side.{Side}
 use Rattle.er_base.specs.declared.side.Side.TheVariants.{E, R}
 use Rattle.des_block.specs.declared.triple_key.TripleKey.{TripleKey}
 use Rattle.safety_automaton.specs.Rules.{StepsOnly}
-use Rattle.safe_pair.specs.Openings.{OfKeys, key_for}
-use Rattle.end_model.specs.Steps.{Finds}
-use Rattle.end_model.specs.Ends.{End as Stack, Event, step}
-use Rattle.end_pair.specs.Links.{Link as Pair, end_of, give}
+use Rattle.safety_pair_laws.specs.Openings.{OfKeys, key_for}
+use Rattle.er_end_model.specs.Steps.{Finds}
+use Rattle.er_end_model.specs.Ends.{End as Stack, Event, step}
+use Rattle.er_end_pair_laws.specs.Links.{Link as Pair, end_of, give}
 use Rattle.drill_model.specs.Outcomes.{Outcome, Occurrence, at_end}
 use Rattle.drill_model.specs.StackReports.{IsOrderly, CallsReport}
 use Rattle.drill_model.specs.Ends.{End, OfStack, EndEvent, stack_end_step}
-use Rattle.drill_model.specs.Links.{Link, LinkOpening, OfStacks, key_on, with_waiting, answered}
+use Rattle.drill_model.specs.Links.{Link, LinkOpening, OfStacks, key_on, with_waiting, with_answer}
 use Rattle.drill_model.specs.Links as drill
 use Rattle.drill_model.specs.Kinds.{released_in, passed_in, is_disorder, is_disturbance, sent_by, accepted_by, releases_in, deliveries, is_disordered, is_disturbed}
 use Rattle.drill_laws.proofs.Tellings as line
@@ -122,7 +122,7 @@ module _ (side : Side) (history : List Occurrence) (os : List Outcome) where
 
 acted_sees : (k : Numbers) (l : Link) (history : List Occurrence) (p : Pair) (side : Side) (given : Event) (os : List Outcome) (late free : Bool) → Sees k l history p
     → Does p.moment given (end_of p side) os late → free ≡ (p.loss_free && not late)
-    → SeesAt k history (freed free (give side given p)) (answered l side (OfStack (step p.moment given (end_of p side)).0, os))
+    → SeesAt k history (freed free (give side given p)) (with_answer l side (OfStack (step p.moment given (end_of p side)).0, os))
 acted_sees k l history p E given os late free v d is =
     let w = d.says in
     let q : Pair = freed free (give E given p) in
@@ -178,7 +178,7 @@ acted_sees k l history p R given os late free v d is =
 
 -- what an end of such a link answers
 pub gives_stacked : (k : Numbers) (l : Link) (history : List Occurrence) (p : Pair) (side : Side) (given : EndEvent) → Sees k l history p
-    → drill.give l side given ≡ answered l side (stack_end_step (key_of k) p.moment (end_of p side) given)
+    → drill.give l side given ≡ with_answer l side (stack_end_step (key_of k) p.moment (end_of p side) given)
 gives_stacked k l history p E given v = rw (v.opening_is, v.e_is, v.moment_is) refl
 gives_stacked k l history p R given v = rw (v.opening_is, v.r_is, v.moment_is) refl
 
@@ -197,10 +197,10 @@ module _ (only : StepsOnly) (reports : CallsReport) where
       let event : Event = as_given only reports (key_of k) given in
       let d = stack_does only reports (key_of k) p.moment m given (orderly_at k l history p side v) in
       let q : Pair = freed free (give side event p) in
-      let there : SeesAt k history q (answered l side (OfStack (step p.moment event m).0, a.1)) =
+      let there : SeesAt k history q (with_answer l side (OfStack (step p.moment event m).0, a.1)) =
       acted_sees k l history p side event a.1 (is_late_at only reports p.moment m given) free v d is in
-      let here : SeesAt k history q (answered l side a) =
-      subst (λ (x : End). SeesAt k history q (answered l side (x, a.1))) (sym (stack_leads only reports (key_of k) p.moment m given)) there in
+      let here : SeesAt k history q (with_answer l side a) =
+      subst (λ (x : End). SeesAt k history q (with_answer l side (x, a.1))) (sym (stack_leads only reports (key_of k) p.moment m given)) there in
       subst (SeesAt k history q) (sym (gives_stacked k l history p side given v)) here
 
 -- ---- occurrences at a side that change what waits, or nothing

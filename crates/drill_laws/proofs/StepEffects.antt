@@ -9,38 +9,38 @@ use Rattle.er_base.specs.declared.release.Release.{Release}
 use Rattle.er_base.specs.declared.side.Side.{Side}
 use Rattle.er_base.specs.declared.side.Side.TheVariants.{E, R}
 use Rattle.er_base.specs.Sides.{other}
-use Rattle.er_settings.specs.declared.settings.Settings.{Settings}
+use Rattle.er_settings.specs.Values.{Settings}
 use Rattle.des_block.specs.declared.triple_key.TripleKey.{TripleKey}
 use Rattle.hdlc_frames.specs.Framing.{Verdict}
 use Rattle.sapdu.specs.Messages.{is_message}
 use Rattle.safety_automaton.specs.Rules.{StepsOnly, IsStep}
 use Rattle.safety_automaton.specs.Safety.{Safety, Phase, Ready, WaitAu1, WaitAu2, WaitAu3, WaitAr, Connected, Released, SafetyEvent, ConnectRequest, Received, DataRequest, DisconnectRequest, SafetyOutcome, SentAu1, SentAu2, SentAu3, SentAr, ReceivedAr, AcceptedDt, SentDt, Refused, ReleasedLocally, ReleasedByPeer, NothingDone, step}
 use Rattle.safety_automaton.specs.Safety.{sends as sends_side}
-use Rattle.safe_pair.specs.Facts.{heard_in, facts_by}
-use Rattle.safe_pair.specs.Openings.{OfFixed, OfKeys}
-use Rattle.safe_pair.specs.Deliveries.{IsConnectedPhase}
-use Rattle.station_model.specs.Stations.{Station, made, settled, is_down}
-use Rattle.station_model.specs.Sending.{is_due}
-use Rattle.station_model.specs.Selective.{receives_as}
-use Rattle.station_model.specs.Calls.{finishes, starts as station_starts, hands as station_hands, ticks as station_ticks}
-use Rattle.station_model.specs.Events as station_events
-use Rattle.end_model.specs.Outcomes.{SendRefusal}
-use Rattle.end_model.specs.Layers.{Spoken, Core, model}
-use Rattle.end_model.specs.Steps.{Finds, begins_at, starts, comes, is_connected, refusal_of, sends_unless, uses, leaves, ticks}
-use Rattle.end_model.specs.Ends.{End as Stack, finds_expired}
-use Rattle.end_model.specs.Ends as stacks
+use Rattle.safety_pair_laws.specs.Facts.{heard_in, facts_by}
+use Rattle.safety_pair_laws.specs.Openings.{OfFixed, OfKeys}
+use Rattle.safety_pair_laws.specs.Deliveries.{IsConnectedPhase}
+use Rattle.hdlc_station_model.specs.Stations.{Station, made, settled, is_down}
+use Rattle.hdlc_station_model.specs.Sending.{is_due}
+use Rattle.hdlc_station_model.specs.Selective.{receives_as}
+use Rattle.hdlc_station_model.specs.Calls.{finishes, starts as station_starts, hands as station_hands, ticks as station_ticks}
+use Rattle.hdlc_station_model.specs.Events as station_events
+use Rattle.er_end_model.specs.Outcomes.{SendRefusal}
+use Rattle.er_end_model.specs.Layers.{Spoken, Core, model}
+use Rattle.er_end_model.specs.Steps.{Finds, new_event_at, step_start, step_frame, is_connected, refusal_of, step_send_unless, step_take, step_release, step_tick}
+use Rattle.er_end_model.specs.Ends.{End as Stack, finds_expired}
+use Rattle.er_end_model.specs.Ends as stacks
 use Rattle.drill_model.specs.Outcomes.{Outcome, Arrived, Frame, UserReleased, Passed, NothingWaits, Occurrence, at_end}
 use Rattle.drill_model.specs.Outcomes as came
-use Rattle.drill_model.specs.StationEnds.{if_up, if_arrived, if_released, if_expired, told_by, called, frames_heard, handed_unless}
+use Rattle.drill_model.specs.StationEnds.{if_up, if_arrived, if_released, if_expired, told_by, station_and_told, frames_heard, handed_unless}
 use Rattle.drill_model.specs.StationEnds as station
-use Rattle.drill_model.specs.StackEnds.{facts_told, told_at, stack_told, told_unless, took}
+use Rattle.drill_model.specs.StackEnds.{facts_told, told_at, stack_told, told_unless, told_of_take}
 use Rattle.drill_model.specs.Ends.{End, OfSafe, OfStation, OfStack, EndEvent, outcomes_by, end_step}
 use Rattle.drill_model.specs.Ends as event
-use Rattle.station_model.specs.Lines.{altered}
-use Rattle.station_model.specs.Events.{said_octets, news as station_news, quits}
+use Rattle.hdlc_station_model.specs.Lines.{altered}
+use Rattle.hdlc_station_model.specs.Events.{said_octets, news as station_news, quits}
 use Rattle.drill_model.specs.Waiting.{LineChange, Lose, Repeat, Alter, Put}
 use Rattle.drill_model.specs.Waiting as waits
-use Rattle.drill_model.specs.Links.{Link, LinkOpening, OfPair, OfStations, OfStacks, end_of, waiting_of, with_waiting, key_on, give, joined, joined_pair, opened, Send, Pass, Change, Take, Release as ReleaseStep, Tick, pass, link_step}
+use Rattle.drill_model.specs.Links.{Link, LinkOpening, OfPair, OfStations, OfStacks, end_of, waiting_of, with_waiting, key_on, give, link_of, joined_pair, opened_link, Send, Pass, Change, Take, Release as ReleaseStep, Tick, pass, link_step}
 use Rattle.drill_model.specs.Effects.{Effect, Sends, IsRefused, Passes, Loses, Repeats, Alters, Inserts, Releases, Expires, effect_in, Effects, effects_in, RanOut, HasRunOut, of_first, of_alter, TickEffects}
 use Rattle.drill_laws.proofs.StackSaying.{sent_by_step, sent_in_step}
 use Rattle.drill_laws.proofs.StackKeeping.{Keeps, starts_keep, comes_keep, leaves_keep, ticks_keep, uses_none, uses_one, sends_keep}
@@ -100,14 +100,14 @@ if_tells : (b : Bool) (x y : Station × List Outcome) → told_effects x.1 ≡ [
 if_tells true x y hx hy = hx
 if_tells false x y hx hy = hy
 
-release_station : (sub : ℕ) (s : Station) → told_effects (station.user_releases sub s).1 ≡ []
-release_station sub s = if_tells (is_down s.phase) (s, []) (called (quits sub s)) refl (call_tells (quits sub s))
+release_station : (sub : ℕ) (s : Station) → told_effects (station.station_release sub s).1 ≡ []
+release_station sub s = if_tells (is_down s.phase) (s, []) (station_and_told (quits sub s)) refl (call_tells (quits sub s))
 
 -- a send of these octets, or one that was refused
 abbrev pub SendsOrNot : List ℕ → List Effect → Type 0
 SendsOrNot octets es = (es ≡ Sends octets ∷ []) ⊎ (es ≡ IsRefused ∷ [])
 
-handed_tells : (refusal : Option came.SendRefusal) (moment : ℕ) (payload : List ℕ) (s : Station) → SendsOrNot payload (told_effects (handed_unless refusal moment payload s).1)
+handed_tells : (refusal : Option SendRefusal) (moment : ℕ) (payload : List ℕ) (s : Station) → SendsOrNot payload (told_effects (handed_unless refusal moment payload s).1)
 handed_tells (Some refusal) moment payload s = inr refl
 handed_tells None moment payload s = inl (ap (λ (es : List Effect). Sends payload ∷ es) (call_tells (finishes (station_hands moment payload s))))
 
@@ -173,21 +173,21 @@ kept_tells : (U : ℕ) (T : List (List ℕ)) (x : Core) → Keeps U T x → told
 kept_tells U T x h = core_tells x ∙ ap sends_of h.1
 
 -- a message was taken, or none was there
-took_tells : (message : Option (List ℕ)) (os : List Outcome) → told_effects (took message ++ os) ≡ told_effects os
+took_tells : (message : Option (List ℕ)) (os : List Outcome) → told_effects (told_of_take message ++ os) ≡ told_effects os
 took_tells None os = refl
 took_tells (Some message) os = refl
 
-uses_tell : (moment : ℕ) (x : Core) → told_effects (told_at (uses model moment x)) ≡ []
+uses_tell : (moment : ℕ) (x : Core) → told_effects (told_at (step_take model moment x)) ≡ []
 uses_tell moment x =
     elim (cases_Bool (length x.upper.accepted - x.upper.used == 0)) [
-      | inl none ↦ kept_tells x.upper.used [] (uses model moment x) (uses_none moment x none)
-      | inr some ↦ kept_tells (x.upper.used + 1) [] (uses model moment x) (uses_one moment x some)
+      | inl none ↦ kept_tells x.upper.used [] (step_take model moment x) (uses_none moment x none)
+      | inr some ↦ kept_tells (x.upper.used + 1) [] (step_take model moment x) (uses_one moment x some)
     ]
 
 stack_send_tells : (moment : ℕ) (user : List ℕ) (x : Core) (refusal : Option SendRefusal) → refusal_of model user x ≡ refusal
-    → SendsOrNot user (told_effects (told_unless refusal (sends_unless model refusal moment user x)))
+    → SendsOrNot user (told_effects (told_unless refusal (step_send_unless model refusal moment user x)))
 stack_send_tells moment user x (Some refusal) is = inr refl
-stack_send_tells moment user x None is = inl (kept_tells x.upper.used (user ∷ []) (sends_unless model None moment user x) (sends_keep moment user x is))
+stack_send_tells moment user x None is = inl (kept_tells x.upper.used (user ∷ []) (step_send_unless model None moment user x) (sends_keep moment user x is))
 
 -- ---- an event at an end
 
@@ -204,7 +204,7 @@ IsQuiet event.Tick = ⊥
 abbrev finds : (moment : ℕ) → End → Bool
 finds moment (OfSafe s) = false
 finds moment (OfStation selective s stream) = is_due s.timer (max s.moment moment)
-finds moment (OfStack m) = finds_expired (begins_at model moment m.core)
+finds moment (OfStack m) = finds_expired (new_event_at model moment m.core)
 
 expired_tells : (b : Bool) (os : List Outcome) → told_effects os ≡ [] → told_effects (if_expired b ++ os) ≡ (if b then Expires ∷ [] else [])
 expired_tells true os none = ap (λ (es : List Effect). Expires ∷ es) none
@@ -218,7 +218,7 @@ module _ (only : StepsOnly) where
   stack_heard_tells : (look : Finds) (moment : ℕ) (vs : List Verdict) (x : Core) → told_effects (stack_told look moment vs x) ≡ []
   stack_heard_tells look moment [] x = refl
   stack_heard_tells look moment (v ∷ vs) x =
-      let y : Core = comes model look moment v x in
+      let y : Core = step_frame model look moment v x in
       told_append (told_at y) (stack_told look moment vs y)
       ∙ ap₂ (λ (xs ys : List Effect). xs ++ ys) (kept_tells x.upper.used [] y (comes_keep only look moment v x)) (stack_heard_tells look moment vs y)
 
@@ -236,14 +236,14 @@ module _ (only : StepsOnly) where
   end_quiet key_of moment (OfStation selective s stream) event.Take quiet = refl
   end_quiet key_of moment (OfStation selective s stream) (event.Release sub) quiet = release_station sub s
   end_quiet key_of moment (OfStation selective s stream) event.Tick quiet = absurd quiet
-  end_quiet key_of moment (OfStack m) event.Start quiet = kept_tells m.core.upper.used [] (starts model moment m.core) (starts_keep only moment m.core)
+  end_quiet key_of moment (OfStack m) event.Start quiet = kept_tells m.core.upper.used [] (step_start model moment m.core) (starts_keep only moment m.core)
   end_quiet key_of moment (OfStack m) (event.Receive octets) quiet =
-      stack_heard_tells (λ now. key_of) moment (station_events.news m.stream octets) (begins_at model moment m.core)
+      stack_heard_tells (λ now. key_of) moment (station_events.news m.stream octets) (new_event_at model moment m.core)
   end_quiet key_of moment (OfStack m) (event.Send octets) quiet = absurd quiet
   end_quiet key_of moment (OfStack m) event.Take quiet =
-      took_tells (model.oldest m.core.upper) (told_at (uses model moment m.core)) ∙ uses_tell moment m.core
+      took_tells (model.oldest m.core.upper) (told_at (step_take model moment m.core)) ∙ uses_tell moment m.core
   end_quiet key_of moment (OfStack m) (event.Release sub) quiet =
-      kept_tells m.core.upper.used [] (leaves model moment sub m.core) (leaves_keep only moment sub m.core)
+      kept_tells m.core.upper.used [] (step_release model moment sub m.core) (leaves_keep only moment sub m.core)
   end_quiet key_of moment (OfStack m) event.Tick quiet = absurd quiet
 
   end_sends : (key_of : ℕ → ℕ → Option TripleKey) (moment : ℕ) (end : End) (octets : List ℕ)
@@ -258,8 +258,8 @@ module _ (only : StepsOnly) where
   end_ticks key_of moment (OfStation selective s stream) =
       expired_tells (finds moment (OfStation selective s stream)) (told_by (finishes (station_ticks moment s))) (call_tells (finishes (station_ticks moment s)))
   end_ticks key_of moment (OfStack m) =
-      expired_tells (finds moment (OfStack m)) (told_at (ticks model moment m.core))
-      (kept_tells m.core.upper.used [] (ticks model moment m.core) (ticks_keep only moment m.core))
+      expired_tells (finds moment (OfStack m)) (told_at (step_tick model moment m.core))
+      (kept_tells m.core.upper.used [] (step_tick model moment m.core) (ticks_keep only moment m.core))
 
   -- ---- steps of a link
 
@@ -270,17 +270,17 @@ module _ (only : StepsOnly) where
   give_quiet : (l : Link) (side : Side) (given : EndEvent) → IsQuiet given → effects_in (give l side given).1 ≡ []
   give_quiet l side given quiet = give_effects l side given ∙ ap (of_side side) (end_quiet (key_on l.opening) l.moment (end_of l side) given quiet)
 
-  pub opened_effects : (settings : Settings) (moment : ℕ) (opening : LinkOpening) → effects_in (opened settings moment opening).1 ≡ []
+  pub opened_effects : (settings : Settings) (moment : ℕ) (opening : LinkOpening) → effects_in (opened_link settings moment opening).1 ≡ []
   opened_effects settings moment (OfPair (OfFixed engine rbc ke kr)) = refl
   opened_effects settings moment (OfPair (OfKeys engine rbc ke kr ra rb)) = give_quiet (joined_pair (OfKeys engine rbc ke kr ra rb) moment) E event.Start tt
   opened_effects settings moment (OfStations selective) =
       give_quiet
-      (joined (OfStations selective) moment (OfStation selective (made true (settings.modulo == 128) settings.window settings.n2 settings.t1) [])
+      (link_of (OfStations selective) moment (OfStation selective (made true (settings.modulo == 128) settings.window settings.n2 settings.t1) [])
       (OfStation selective (made false (settings.modulo == 128) settings.window settings.n2 settings.t1) []))
       E event.Start tt
   opened_effects settings moment (OfStacks engine rbc ke kr ra rb) =
       give_quiet
-      (joined (OfStacks engine rbc ke kr ra rb) moment (OfStack (stacks.opened (stacks.Call settings engine rbc ke rb moment)))
+      (link_of (OfStacks engine rbc ke kr ra rb) moment (OfStack (stacks.opened (stacks.Call settings engine rbc ke rb moment)))
       (OfStack (stacks.opened (stacks.Answer settings rbc ra moment))))
       E event.Start tt
 
@@ -435,14 +435,14 @@ tick_effects only l moment =
 pub lose_effects : (l : Link) (side : Side) → effects_in (link_step l (Change side Lose)).1 ≡ of_first side (λ frame. Loses) (waiting_of l side)
 lose_effects l side = of_frames (waiting_of l side)
   where
-    of_frames : (frames : List (List ℕ)) → effects_in (map (at_end side) (waits.loses frames).1) ≡ of_first side (λ frame. Loses) frames
+    of_frames : (frames : List (List ℕ)) → effects_in (map (at_end side) (waits.lose_first frames).1) ≡ of_first side (λ frame. Loses) frames
     of_frames [] = refl
     of_frames (frame ∷ frames) = refl
 
 pub repeat_effects : (l : Link) (side : Side) → effects_in (link_step l (Change side Repeat)).1 ≡ of_first side (λ frame. Repeats) (waiting_of l side)
 repeat_effects l side = of_frames (waiting_of l side)
   where
-    of_frames : (frames : List (List ℕ)) → effects_in (map (at_end side) (waits.repeats frames).1) ≡ of_first side (λ frame. Repeats) frames
+    of_frames : (frames : List (List ℕ)) → effects_in (map (at_end side) (waits.repeat_first frames).1) ≡ of_first side (λ frame. Repeats) frames
     of_frames [] = refl
     of_frames (frame ∷ frames) = refl
 
@@ -456,7 +456,7 @@ alter_effects l side place mask = of_frames (waiting_of l side)
     tests true false x y z short same changed = changed
     tests false none x y z short same changed = short
 
-    of_frames : (frames : List (List ℕ)) → effects_in (map (at_end side) (waits.alters place mask frames).1) ≡ of_alter side place mask frames
+    of_frames : (frames : List (List ℕ)) → effects_in (map (at_end side) (waits.alter_first place mask frames).1) ≡ of_alter side place mask frames
     of_frames [] = refl
     of_frames (frame ∷ frames) =
         tests (nat_lt place (length frame)) (mask == 0) (frame ∷ frames, came.IsShort (length frame) ∷ []) (frame ∷ frames, [])

@@ -10,39 +10,39 @@ use Rattle.er_base.specs.declared.release.Release.{Release}
 use Rattle.er_base.specs.declared.side.Side.{Side}
 use Rattle.er_base.specs.declared.side.Side.TheVariants.{E, R}
 use Rattle.er_base.specs.Sides.{other}
-use Rattle.er_settings.specs.declared.settings.Settings.{Settings}
+use Rattle.er_settings.specs.Values.{Settings}
 use Rattle.er_scenario.specs.declared.step.Step.{Step}
 use Rattle.des_block.specs.declared.triple_key.TripleKey.{TripleKey}
 use Rattle.hdlc_frames.specs.Framing.{Verdict}
 use Rattle.safety_automaton.specs.Rules.{StepsOnly}
 use Rattle.safety_automaton.specs.Safety.{Safety, SafetyEvent, SafetyOutcome, SentAu1, SentAu2, SentAu3, SentAr, ReceivedAr, AcceptedDt, SentDt, Refused, ReleasedLocally, ReleasedByPeer, NothingDone}
 use Rattle.safety_automaton.specs.Safety as safety
-use Rattle.safe_pair.specs.Facts.{Fact, is_side, heard_in, facts_of}
-use Rattle.safe_pair.specs.Openings.{OfFixed, OfKeys}
-use Rattle.station_model.specs.Stations.{Station, made, settled, is_down}
-use Rattle.station_model.specs.Sending.{is_due}
-use Rattle.station_model.specs.Selective.{receives_as}
-use Rattle.station_model.specs.Calls.{finishes, starts as station_starts, hands as station_hands, ticks as station_ticks}
-use Rattle.station_model.specs.Events.{news, said_octets, news as station_news, quits}
-use Rattle.station_model.specs.Lines.{IsPrefix, altered}
-use Rattle.end_model.specs.Outcomes.{SendRefusal}
-use Rattle.end_model.specs.Layers.{Spoken, Core, model}
-use Rattle.end_model.specs.Steps.{Finds, begins_at, starts, comes, refusal_of, sends_unless, uses, leaves, ticks}
-use Rattle.end_model.specs.Ends.{End as Stack, Event, Start, Come, Send as SendEvent, Take as TakeEvent, Leave, Tick as TickEvent, hears_each, step, finds_expired}
-use Rattle.end_model.specs.Ends as stacks
+use Rattle.safety_pair_laws.specs.Facts.{Fact, is_side, heard_in, facts_of}
+use Rattle.safety_pair_laws.specs.Openings.{OfFixed, OfKeys}
+use Rattle.hdlc_station_model.specs.Stations.{Station, made, settled, is_down}
+use Rattle.hdlc_station_model.specs.Sending.{is_due}
+use Rattle.hdlc_station_model.specs.Selective.{receives_as}
+use Rattle.hdlc_station_model.specs.Calls.{finishes, starts as station_starts, hands as station_hands, ticks as station_ticks}
+use Rattle.hdlc_station_model.specs.Events.{news, said_octets, news as station_news, quits}
+use Rattle.hdlc_station_model.specs.Lines.{IsPrefix, altered}
+use Rattle.er_end_model.specs.Outcomes.{SendRefusal}
+use Rattle.er_end_model.specs.Layers.{Spoken, Core, model}
+use Rattle.er_end_model.specs.Steps.{Finds, new_event_at, step_start, step_frame, refusal_of, step_send_unless, step_take, step_release, step_tick}
+use Rattle.er_end_model.specs.Ends.{End as Stack, Event, Start, Come, Send as SendEvent, Take as TakeEvent, Leave, Tick as TickEvent, hears_each, step, finds_expired}
+use Rattle.er_end_model.specs.Ends as stacks
 use Rattle.drill_model.specs.Outcomes.{Outcome, OfSafety, Arrived, Frame, UserReleased, Passed, NothingWaits, IsShort, Altered, Occurrence, at_end}
 use Rattle.drill_model.specs.Outcomes as came
-use Rattle.drill_model.specs.StationEnds.{if_up, if_arrived, if_released, if_expired, told_by, called, frames_heard, handed_unless}
+use Rattle.drill_model.specs.StationEnds.{if_up, if_arrived, if_released, if_expired, told_by, station_and_told, frames_heard, handed_unless}
 use Rattle.drill_model.specs.StationEnds as station
-use Rattle.drill_model.specs.StackEnds.{facts_told, told_at, stack_told, told_unless, took}
+use Rattle.drill_model.specs.StackEnds.{facts_told, told_at, stack_told, told_unless, told_of_take}
 use Rattle.drill_model.specs.StackReports.{OpensOrderly, CallsReport, IsOrderly}
 use Rattle.drill_model.specs.Ends.{End, OfSafe, OfStation, OfStack, EndEvent, outcomes_by, end_step}
 use Rattle.drill_model.specs.Ends as event
-use Rattle.drill_model.specs.Waiting.{LineChange, Lose, Repeat, Alter, Put, changes}
-use Rattle.drill_model.specs.Links.{Link, LinkOpening, OfPair, OfStations, OfStacks, waiting_of, with_waiting, key_on, give, joined, joined_pair, opened, LinkStep, Send, Pass, Change, Take, Release as ReleaseStep, Tick, pass, link_step}
+use Rattle.drill_model.specs.Waiting.{LineChange, Lose, Repeat, Alter, Put, change_first}
+use Rattle.drill_model.specs.Links.{Link, LinkOpening, OfPair, OfStations, OfStacks, waiting_of, with_waiting, key_on, give, link_of, joined_pair, opened_link, LinkStep, Send, Pass, Change, Take, Release as ReleaseStep, Tick, pass, link_step}
 use Rattle.drill_model.specs.Worlds.{Plan, link_at, history_on, world_run}
 use Rattle.drill_model.specs.Kinds.{accepted_in, accepted_by, took_in, taken_by}
-use Rattle.drill_model.specs.Headline.{TakesInOrder}
+use Rattle.drill_model.specs.Claims.{TakesInOrder}
 use Rattle.drill_model.specs.Growth.{HistoryGrows, HistoryOfOwn, HistoryOfOther}
 use Rattle.drill_laws.proofs.StackKeeping.{starts_keep, comes_keep, leaves_keep, ticks_keep, uses_none, uses_one, sends_keep}
 use Rattle.drill_laws.proofs.StackGoing.{Does, stack_does}
@@ -96,7 +96,7 @@ if_takes : (b : Bool) (x y : Station × List Outcome) → told_taken x.1 ≡ [] 
 if_takes true x y hx hy = hx
 if_takes false x y hx hy = hy
 
-handed_takes : (refusal : Option came.SendRefusal) (moment : ℕ) (payload : List ℕ) (s : Station) → told_taken (handed_unless refusal moment payload s).1 ≡ []
+handed_takes : (refusal : Option SendRefusal) (moment : ℕ) (payload : List ℕ) (s : Station) → told_taken (handed_unless refusal moment payload s).1 ≡ []
 handed_takes (Some refusal) moment payload s = refl
 handed_takes None moment payload s = call_takes (finishes (station_hands moment payload s))
 
@@ -133,7 +133,7 @@ core_takes x =
 stack_heard_takes : (look : Finds) (moment : ℕ) (vs : List Verdict) (x : Core) → told_taken (stack_told look moment vs x) ≡ []
 stack_heard_takes look moment [] x = refl
 stack_heard_takes look moment (v ∷ vs) x =
-    let y : Core = comes model look moment v x in
+    let y : Core = step_frame model look moment v x in
     taken_append (told_at y) (stack_told look moment vs y)
     ∙ ap₂ (λ (xs ys : List (List ℕ)). xs ++ ys) (core_takes y) (stack_heard_takes look moment vs y)
 
@@ -205,37 +205,37 @@ module _ (only : StepsOnly) (reports : CallsReport) where
   heard_used : (look : Finds) (moment : ℕ) (vs : List Verdict) (x : Core) → (hears_each look moment vs x).upper.used ≡ x.upper.used
   heard_used look moment [] x = refl
   heard_used look moment (v ∷ vs) x =
-      heard_used look moment vs (comes model look moment v x) ∙ (comes_keep only look moment v x).0
+      heard_used look moment vs (step_frame model look moment v x) ∙ (comes_keep only look moment v x).0
 
   sent_used : (moment : ℕ) (user : List ℕ) (x : Core) (refusal : Option SendRefusal) → refusal_of model user x ≡ refusal
-      → (sends_unless model refusal moment user x).upper.used ≡ x.upper.used
+      → (step_send_unless model refusal moment user x).upper.used ≡ x.upper.used
   sent_used moment user x (Some refusal) is = refl
   sent_used moment user x None is = (sends_keep moment user x is).0
 
   -- the oldest one is taken, where one waits
   stack_uses : (moment : ℕ) (m : Stack) (taken accepted : List (List ℕ)) → StackTakes m taken accepted
-      → let os = took (model.oldest m.core.upper) ++ told_at (uses model moment m.core) in
+      → let os = told_of_take (model.oldest m.core.upper) ++ told_at (step_take model moment m.core) in
       Does moment TakeEvent m os false → StackTakes (step moment TakeEvent m).0 (taken ++ told_taken os) (accepted ++ told_accepted os)
   stack_uses moment m taken accepted h d =
       let u : ℕ = m.core.upper.used in
       let A : List (List ℕ) = m.core.upper.accepted in
-      let x : Core = uses model moment m.core in
+      let x : Core = step_take model moment m.core in
       let n : Stack = (step moment TakeEvent m).0 in
-      let os : List Outcome = took (slice_get A u) ++ told_at x in
+      let os : List Outcome = told_of_take (slice_get A u) ++ told_at x in
       elim (cases_lt u (length A)) [
         | inl waits ↦
             let message : List ℕ = get_or A u [] in
             let oldest : slice_get A u ≡ Some message = slice_get-get_or A u [] waits in
             let some : (length A - u == 0) ≡ false = ne_eqb (length A - u) 0 (λ e. some_left (length A) u waits e) in
             let tells : told_taken os ≡ message ∷ [] =
-            ap (λ (o : Option (List ℕ)). told_taken (took o ++ told_at x)) oldest ∙ ap (λ (xs : List (List ℕ)). message ∷ xs) (core_takes x) in
+            ap (λ (o : Option (List ℕ)). told_taken (told_of_take o ++ told_at x)) oldest ∙ ap (λ (xs : List (List ℕ)). message ∷ xs) (core_takes x) in
             subst (λ (xs : List (List ℕ)). StackTakes n (taken ++ xs) (accepted ++ told_accepted os)) (sym tells)
             (one_takes m n taken accepted (told_accepted os) message h waits refl (uses_one moment m.core some).0 d.says.accepted_is d.orderly)
         | inr past ↦
             let oldest : slice_get A u ≡ None = slice_get_past A u past in
             let none : (length A - u == 0) ≡ true = eq-eqb (length A - u) 0 (omega arith) in
             let tells : told_taken os ≡ [] =
-            ap (λ (o : Option (List ℕ)). told_taken (took o ++ told_at x)) oldest ∙ core_takes x in
+            ap (λ (o : Option (List ℕ)). told_taken (told_of_take o ++ told_at x)) oldest ∙ core_takes x in
             kept_takes m n taken accepted (told_taken os) (told_accepted os) h (uses_none moment m.core none).0 d.says.accepted_is tells d.orderly
       ]
     where
@@ -245,26 +245,26 @@ module _ (only : StepsOnly) (reports : CallsReport) where
   stack_takes : (key_of : ℕ → ℕ → Option TripleKey) (moment : ℕ) (m : Stack) (given : EndEvent) (taken accepted : List (List ℕ)) → StackTakes m taken accepted
       → let a = end_step key_of moment (OfStack m) given in TakesAt a.0 (taken ++ told_taken a.1) (accepted ++ told_accepted a.1)
   stack_takes key_of moment m event.Start taken accepted h =
-      stack_keeps key_of moment m event.Start Start (told_at (starts model moment m.core)) false taken accepted h
-      (stack_does only reports key_of moment m event.Start h.orderly) (starts_keep only moment m.core).0 (core_takes (starts model moment m.core))
+      stack_keeps key_of moment m event.Start Start (told_at (step_start model moment m.core)) false taken accepted h
+      (stack_does only reports key_of moment m event.Start h.orderly) (starts_keep only moment m.core).0 (core_takes (step_start model moment m.core))
   stack_takes key_of moment m (event.Receive octets) taken accepted h =
-      let x : Core = begins_at model moment m.core in
+      let x : Core = new_event_at model moment m.core in
       let vs : List Verdict = news m.stream octets in
       stack_keeps key_of moment m (event.Receive octets) (Come (λ now. key_of) octets) (stack_told (λ now. key_of) moment vs x) false taken accepted h
       (stack_does only reports key_of moment m (event.Receive octets) h.orderly) (heard_used (λ now. key_of) moment vs x) (stack_heard_takes (λ now. key_of) moment vs x)
   stack_takes key_of moment m (event.Send user) taken accepted h =
       let o : Option SendRefusal = refusal_of model user m.core in
-      stack_keeps key_of moment m (event.Send user) (SendEvent user) (told_unless o (sends_unless model o moment user m.core)) false taken accepted h
-      (stack_does only reports key_of moment m (event.Send user) h.orderly) (sent_used moment user m.core o refl) (unless_takes o (sends_unless model o moment user m.core))
+      stack_keeps key_of moment m (event.Send user) (SendEvent user) (told_unless o (step_send_unless model o moment user m.core)) false taken accepted h
+      (stack_does only reports key_of moment m (event.Send user) h.orderly) (sent_used moment user m.core o refl) (unless_takes o (step_send_unless model o moment user m.core))
   stack_takes key_of moment m event.Take taken accepted h = stack_uses moment m taken accepted h (stack_does only reports key_of moment m event.Take h.orderly)
   stack_takes key_of moment m (event.Release sub) taken accepted h =
-      stack_keeps key_of moment m (event.Release sub) (Leave sub) (told_at (leaves model moment sub m.core)) false taken accepted h
-      (stack_does only reports key_of moment m (event.Release sub) h.orderly) (leaves_keep only moment sub m.core).0 (core_takes (leaves model moment sub m.core))
+      stack_keeps key_of moment m (event.Release sub) (Leave sub) (told_at (step_release model moment sub m.core)) false taken accepted h
+      (stack_does only reports key_of moment m (event.Release sub) h.orderly) (leaves_keep only moment sub m.core).0 (core_takes (step_release model moment sub m.core))
   stack_takes key_of moment m event.Tick taken accepted h =
-      let late : Bool = finds_expired (begins_at model moment m.core) in
-      stack_keeps key_of moment m event.Tick TickEvent (if_expired late ++ told_at (ticks model moment m.core)) late taken accepted h
+      let late : Bool = finds_expired (new_event_at model moment m.core) in
+      stack_keeps key_of moment m event.Tick TickEvent (if_expired late ++ told_at (step_tick model moment m.core)) late taken accepted h
       (stack_does only reports key_of moment m event.Tick h.orderly) (ticks_keep only moment m.core).0
-      (expired_takes late (told_at (ticks model moment m.core)) ∙ core_takes (ticks model moment m.core))
+      (expired_takes late (told_at (step_tick model moment m.core)) ∙ core_takes (step_tick model moment m.core))
 
   safe_takes : (key_of : ℕ → ℕ → Option TripleKey) (s : Safety) (given : SafetyEvent) → told_taken (outcomes_by (heard_in given) (safety.step key_of s given).1) ≡ []
   safe_takes key_of s given = outcome_takes (heard_in given) (safety.step key_of s given).1
@@ -284,7 +284,7 @@ module _ (only : StepsOnly) (reports : CallsReport) where
       none_more taken _ h (handed_takes (station.refusal_of s octets s.released) moment octets s)
   end_takes key_of moment (OfStation selective s stream) event.Take taken accepted h = none_more taken [] h refl
   end_takes key_of moment (OfStation selective s stream) (event.Release sub) taken accepted h =
-      none_more taken _ h (if_takes (is_down s.phase) (s, []) (called (quits sub s)) refl (call_takes (quits sub s)))
+      none_more taken _ h (if_takes (is_down s.phase) (s, []) (station_and_told (quits sub s)) refl (call_takes (quits sub s)))
   end_takes key_of moment (OfStation selective s stream) event.Tick taken accepted h =
       let u : Station = finishes (station_ticks moment s) in
       none_more taken _ h (expired_takes (is_due s.timer (max s.moment moment)) (told_by u) ∙ call_takes u)
@@ -385,7 +385,7 @@ module _ (only : StepsOnly) (reports : CallsReport) where
   none_if true x y hx hy = hx
   none_if false x y hx hy = hy
 
-  changes_say : (change : LineChange) (frames : List (List ℕ)) → SaysNone (changes change frames).1
+  changes_say : (change : LineChange) (frames : List (List ℕ)) → SaysNone (change_first change frames).1
   changes_say Lose [] = (refl, refl)
   changes_say Lose (frame ∷ frames) = (refl, refl)
   changes_say Repeat [] = (refl, refl)
@@ -401,7 +401,7 @@ module _ (only : StepsOnly) (reports : CallsReport) where
   step_takes l history (Send side octets) h = give_takes l history side (event.Send octets) h
   step_takes l history (Pass side) h = pass_takes l history side (waiting_of l side) h
   step_takes l history (Change side change) h =
-      let a : List (List ℕ) × List Outcome = changes change (waiting_of l side) in
+      let a : List (List ℕ) × List Outcome = change_first change (waiting_of l side) in
       silent_takes (with_waiting l side a.0) history side a.1 (changes_say change (waiting_of l side)) (waiting_takes l history side a.0 h)
   step_takes l history (Take side) h = give_takes l history side event.Take h
   step_takes l history (ReleaseStep side sub) h = onto_takes l history side (UserReleased sub ∷ []) side (event.Release sub) (refl, refl) h
@@ -419,18 +419,18 @@ module _ (only : StepsOnly) (reports : CallsReport) where
     stack_made (stacks.Answer settings me ra now) =
         record { orderly = opens (stacks.Answer settings me ra now); accepted_is = refl; taken_is = refl; within = omega arith }
 
-    opened_takes : (settings : Settings) (moment : ℕ) (opening : LinkOpening) → TakesIn (opened settings moment opening).0 (opened settings moment opening).1
+    opened_takes : (settings : Settings) (moment : ℕ) (opening : LinkOpening) → TakesIn (opened_link settings moment opening).0 (opened_link settings moment opening).1
     opened_takes settings moment (OfPair (OfFixed engine rbc ke kr)) = (refl, refl)
     opened_takes settings moment (OfPair (OfKeys engine rbc ke kr ra rb)) =
         give_takes (joined_pair (OfKeys engine rbc ke kr ra rb) moment) [] E event.Start (refl, refl)
     opened_takes settings moment (OfStations selective) =
         give_takes
-        (joined (OfStations selective) moment (OfStation selective (made true (settings.modulo == 128) settings.window settings.n2 settings.t1) [])
+        (link_of (OfStations selective) moment (OfStation selective (made true (settings.modulo == 128) settings.window settings.n2 settings.t1) [])
         (OfStation selective (made false (settings.modulo == 128) settings.window settings.n2 settings.t1) []))
         [] E event.Start (refl, refl)
     opened_takes settings moment (OfStacks engine rbc ke kr ra rb) =
         give_takes
-        (joined (OfStacks engine rbc ke kr ra rb) moment (OfStack (stacks.opened (stacks.Call settings engine rbc ke rb moment)))
+        (link_of (OfStacks engine rbc ke kr ra rb) moment (OfStack (stacks.opened (stacks.Call settings engine rbc ke rb moment)))
         (OfStack (stacks.opened (stacks.Answer settings rbc ra moment))))
         [] E event.Start (stack_made (stacks.Call settings engine rbc ke rb moment), stack_made (stacks.Answer settings rbc ra moment))
 

@@ -5,22 +5,23 @@ use Rattle.std.specs.List.{AllByRecursion}
 use Rattle.er_base.specs.declared.side.Side.{Side}
 use Rattle.er_base.specs.declared.side.Side.TheVariants.{E, R}
 use Rattle.er_base.specs.Sides.{other}
-use Rattle.er_settings.specs.declared.settings.Settings.{Settings}
+use Rattle.er_settings.specs.Values.{Settings}
 use Rattle.er_scenario.specs.declared.step.Step.{Step}
 use Rattle.er_scenario.specs.declared.step.Step.TheVariants as does
 use Rattle.safety_automaton.specs.Safety.{Safety, SafetyEvent, SafetyOutcome, SentAu1, SentAu2, SentAu3, SentAr, ReceivedAr, AcceptedDt, SentDt, Refused, ReleasedLocally, ReleasedByPeer, NothingDone}
-use Rattle.safe_pair.specs.Facts.{SideFact, at_side, heard_in, facts_by, facts_of}
-use Rattle.safe_pair.specs.Openings.{PairOpening, OfFixed, OfKeys, Pair, key_for, safety_of, with_safety, begun}
-use Rattle.safe_pair.specs.Talks.{answer, Talks, Begins, Goes}
-use Rattle.safe_pair.specs.Authentic.{TalksAreAuthentic}
+use Rattle.safety_pair_laws.specs.Facts.{SideFact, at_side, heard_in, facts_by, facts_of}
+use Rattle.safety_pair_laws.specs.Openings.{PairOpening, OfFixed, OfKeys, Pair, key_for, safety_of, with_safety, begun}
+use Rattle.safety_pair_laws.specs.Talks.{answer, Talks, Begins, Goes}
+use Rattle.safety_pair_laws.specs.Authentic.{TalksAreAuthentic}
 use Rattle.drill_model.specs.Outcomes.{Outcome, NothingWaits, IsShort, Altered, UserReleased, Passed, Occurrence, at_end, facts_in}
 use Rattle.drill_model.specs.Ends.{End, OfSafe, EndEvent, Start, safety_event, outcomes_by, safe_end_step, end_step}
 use Rattle.drill_model.specs.Ends as event
-use Rattle.station_model.specs.Lines.{altered}
-use Rattle.drill_model.specs.Waiting.{LineChange, Lose, Repeat, Alter, Put, changes}
-use Rattle.drill_model.specs.Links.{Link, LinkOpening, OfPair, OfStations, OfStacks, waiting_of, with_waiting, answered, give, joined_pair, opened_pair, opened, LinkStep, Send, Pass, Change, Take, Release, Tick, pass, link_step}
+use Rattle.hdlc_station_model.specs.Lines.{altered}
+use Rattle.drill_model.specs.Waiting.{LineChange, Lose, Repeat, Alter, Put, change_first}
+use Rattle.drill_model.specs.Links.{Link, LinkOpening, OfPair, OfStations, OfStacks, waiting_of, with_waiting, with_answer, give, joined_pair, opened_pair, opened_link, LinkStep, Send, Pass, Change, Take, Release, Tick, pass, link_step}
 use Rattle.drill_model.specs.Worlds.{Plan, fixed_opening, link_opening, wire_opening, link_at, history_on, world_run}
-use Rattle.drill_model.specs.Headline.{LawfulAt, LawfulAlways}
+use Rattle.drill_model.specs.Claims.{LawfulAt}
+use Rattle.drill_laws.specs.Laws.{LawfulAlways}
 use Rattle.drill_model.specs.Growth.{HistoryGrows, HistoryOfOwn, HistoryOfOther, FactsGrow}
 use Rattle.drill_laws.proofs.Tellings.{StationLaws}
 use Rattle.drill_laws.proofs.StackTalking.{IsStackTalk, stack_step, opened_stack_talks}
@@ -53,8 +54,8 @@ facts_among side heard NothingDone = refl
 module _ (grow : FactsGrow) where
   -- a link that an end changed, and nothing else of it
   safe_answered : (l : Link) (history : List Occurrence) (t : IsTalk l history) (side : Side) (event : Option SafetyEvent)
-      → IsTalk (answered l side (safe_end_step (key_for t.opening) (safety_of t.pair side) event)).0
-      (history ++ (answered l side (safe_end_step (key_for t.opening) (safety_of t.pair side) event)).1)
+      → IsTalk (with_answer l side (safe_end_step (key_for t.opening) (safety_of t.pair side) event)).0
+      (history ++ (with_answer l side (safe_end_step (key_for t.opening) (safety_of t.pair side) event)).1)
   safe_answered l history t E None =
       record {
         opening = t.opening;
@@ -102,7 +103,7 @@ module _ (grow : FactsGrow) where
 
   -- what an end of such a link answers
   answers_safely : (l : Link) (history : List Occurrence) (t : IsTalk l history) (side : Side) (event : EndEvent)
-      → give l side event ≡ answered l side (safe_end_step (key_for t.opening) (safety_of t.pair side) (safety_event event))
+      → give l side event ≡ with_answer l side (safe_end_step (key_for t.opening) (safety_of t.pair side) (safety_event event))
   answers_safely l history t E event = rw (t.opening_is, t.e_is) refl
   answers_safely l history t R event = rw (t.opening_is, t.r_is) refl
 
@@ -154,7 +155,7 @@ module _ (grow : FactsGrow) where
   silent_if side true x y hx hy = hx
   silent_if side false x y hx hy = hy
 
-  pub silent_changes : (side : Side) (change : LineChange) (frames : List (List ℕ)) → facts_in (map (at_end side) (changes change frames).1) ≡ []
+  pub silent_changes : (side : Side) (change : LineChange) (frames : List (List ℕ)) → facts_in (map (at_end side) (change_first change frames).1) ≡ []
   silent_changes side Lose [] = refl
   silent_changes side Lose (frame ∷ frames) = refl
   silent_changes side Repeat [] = refl
@@ -170,8 +171,8 @@ module _ (grow : FactsGrow) where
   step_talks l history (Send side octets) t = give_talks l history side (event.Send octets) t
   step_talks l history (Pass side) t = pass_talks l history side (waiting_of l side) t
   step_talks l history (Change side change) t =
-      silent_talks (with_waiting l side (changes change (waiting_of l side)).0) history _ (silent_changes side change (waiting_of l side))
-      (waiting_talks l history side (changes change (waiting_of l side)).0 t)
+      silent_talks (with_waiting l side (change_first change (waiting_of l side)).0) history _ (silent_changes side change (waiting_of l side))
+      (waiting_talks l history side (change_first change (waiting_of l side)).0 t)
   step_talks l history (Take side) t = give_talks l history side event.Take t
   step_talks l history (Release side sub) t = onto_talks l history (at_end side (UserReleased sub) ∷ []) side (event.Release sub) refl t
   step_talks l history (Tick moment) t =
@@ -199,7 +200,7 @@ module _ (grow : FactsGrow) where
   speaks_on l history s (inr t) = inr (stack_step grow silent_changes l history s t)
 
   module _ (laws : StationLaws) (settings : Settings) where
-    opens_lawfully : (moment : ℕ) (opening : LinkOpening) → Either settings Speaks (opened settings moment opening).0 (opened settings moment opening).1
+    opens_lawfully : (moment : ℕ) (opening : LinkOpening) → Either settings Speaks (opened_link settings moment opening).0 (opened_link settings moment opening).1
     opens_lawfully moment (OfPair opening) = inl (inl (opened_talks opening moment))
     opens_lawfully moment (OfStations selective) = inr (selective, wired_opens laws settings moment selective)
     opens_lawfully moment (OfStacks engine rbc ke kr ra rb) = inl (inr (opened_stack_talks grow settings moment engine rbc ke kr ra rb))

@@ -10,20 +10,21 @@ use Rattle.er_base.specs.declared.side.Side.{Side}
 use Rattle.er_base.specs.declared.cause.Cause.TheVariants.{User, SetUpUnanswered, NoProgress}
 use Rattle.er_base.specs.Causes.{release_of}
 use Rattle.hdlc_frames.specs.Framing.{Verdict}
-use Rattle.station_model.specs.declared.phase.Phase.{Phase}
-use Rattle.station_model.specs.declared.phase.Phase.TheVariants.{Idle, Setting, Up as PhaseUp, Down}
-use Rattle.station_model.specs.Frames.{SetUp}
-use Rattle.station_model.specs.Sending.{starts_timer, can_send, sends_up_to, sends_next, waiting, sends_waiting, is_due, gives_up, expires_at, expires, expires_if_due, sends_again, counts_expiry}
-use Rattle.station_model.specs.Stations.{sees, puts, Station, Deed, made, no_deed, settled, is_down}
-use Rattle.station_model.specs.Calls.{starts_at, starts, hands, finishes, ticks, closes}
-use Rattle.station_model.specs.Selective.{receives_as}
-use Rattle.station_model.specs.Laws.{LeavesPayloads, Ticked, TicksGive, HandsKeep, OthersKeep, ReleasedAreInert}
-use Rattle.station_model.specs.Reports.{TellsRelease, ReleasesAreTold, FinishKeepsRelease, newer, is_release}
-use Rattle.station_model.specs.Events.{said_octets, quits, is_late}
-use Rattle.station_pair.specs.Keeping.{Gives, FramesGive}
-use Rattle.safe_pair.specs.Facts.{SideFact}
-use Rattle.drill_model.specs.Outcomes.{Outcome, SendRefusal, Handed, Arrived, Up, Refused, Released, Frame, Expired, at_end, facts_at, facts_in, frames_of, frames_in}
-use Rattle.drill_model.specs.StationEnds.{if_up, if_arrived, if_released, told_by, called, frames_heard, refusal_of, handed_unless, user_sends, user_releases, if_expired, time_goes_on, begins}
+use Rattle.hdlc_station_model.specs.declared.phase.Phase.{Phase}
+use Rattle.hdlc_station_model.specs.declared.phase.Phase.TheVariants.{Idle, Setting, Up as PhaseUp, Down}
+use Rattle.hdlc_station_model.specs.Frames.{SetUp}
+use Rattle.hdlc_station_model.specs.Sending.{starts_timer, can_send, sends_up_to, sends_next, waiting, sends_waiting, is_due, gives_up, expires_at, expires, expires_if_due, sends_again, counts_expiry}
+use Rattle.hdlc_station_model.specs.Stations.{sees, puts, Station, Deed, made, no_deed, settled, is_down}
+use Rattle.hdlc_station_model.specs.Calls.{starts_at, starts, hands, finishes, ticks, closes}
+use Rattle.hdlc_station_model.specs.Selective.{receives_as}
+use Rattle.hdlc_station_model.specs.Laws.{LeavesPayloads, Ticked, TicksGive, HandsKeep, OthersKeep, ReleasedAreInert}
+use Rattle.hdlc_station_model.specs.Reports.{TellsRelease, ReleasesAreTold, FinishKeepsRelease, newer, is_release}
+use Rattle.hdlc_station_model.specs.Events.{said_octets, quits, is_late}
+use Rattle.hdlc_pair_laws.specs.Keeping.{Gives, FramesGive}
+use Rattle.safety_pair_laws.specs.Facts.{SideFact}
+use Rattle.er_end_model.specs.Outcomes.{SendRefusal}
+use Rattle.drill_model.specs.Outcomes.{Outcome, Handed, Arrived, Up, Refused, Released, Frame, Expired, at_end, facts_at, facts_in, frames_of, frames_in}
+use Rattle.drill_model.specs.StationEnds.{if_up, if_arrived, if_released, told_by, station_and_told, frames_heard, refusal_of, handed_unless, station_send, station_release, if_expired, station_tick, station_start}
 use Rattle.drill_model.specs.Kinds.{sent_in, accepted_in, released_in, passed_in, is_disorder, is_disturbance}
 
 -- ---- what outcomes say
@@ -309,7 +310,7 @@ module _ (laws : StationLaws) where
       (keeps.1 ∙ taken ∙ ap (λ (xs : List (List ℕ)). s.taken ++ xs) (sym (finished_taken u))) (finished s u releases)
       (λ down. (laws.finish u).released ∙ ap (λ (t : Station). t.released) (inert down))
 
-  pub heard_went : (selective : Bool) (moment : ℕ) (v : Verdict) (s : Station) → Ready s → Went s (called (finishes (receives_as selective moment v s))) false
+  pub heard_went : (selective : Bool) (moment : ℕ) (v : Verdict) (s : Station) → Ready s → Went s (station_and_told (finishes (receives_as selective moment v s))) false
   heard_went selective moment v s ready =
       let u : Station = receives_as selective moment v s in
       let got : Gives s u = laws.frames_give selective moment v s ready.quiet in
@@ -318,7 +319,7 @@ module _ (laws : StationLaws) where
   pub frames_went : (selective : Bool) (moment : ℕ) (vs : List Verdict) (s : Station) → Ready s → Went s (frames_heard selective moment vs s) false
   frames_went selective moment [] s ready = stays s ready
   frames_went selective moment (v ∷ vs) s ready =
-      let a : Station × List Outcome = called (finishes (receives_as selective moment v s)) in
+      let a : Station × List Outcome = station_and_told (finishes (receives_as selective moment v s)) in
       let first : Went s a false = heard_went selective moment v s ready in
       then_went s a (frames_heard selective moment vs a.0) false false first (frames_went selective moment vs a.0 first.ready)
 
@@ -363,10 +364,10 @@ module _ (laws : StationLaws) where
   handing_went moment payload s ready None is None refused = handed_went moment payload s ready is
   handing_went moment payload s ready (Some release) is None refused = absurd (cc)
 
-  pub sends_went : (moment : ℕ) (payload : List ℕ) (s : Station) → Ready s → Went s (user_sends moment payload s) false
+  pub sends_went : (moment : ℕ) (payload : List ℕ) (s : Station) → Ready s → Went s (station_send moment payload s) false
   sends_went moment payload s ready = handing_went moment payload s ready s.released refl (refusal_of s payload s.released) refl
 
-  quits_went : (sub : ℕ) (s : Station) → Ready s → is_down s.phase ≡ false → Went s (called (quits sub s)) false
+  quits_went : (sub : ℕ) (s : Station) → Ready s → is_down s.phase ≡ false → Went s (station_and_told (quits sub s)) false
   quits_went sub s ready live =
       let keeps : LeavesPayloads s (closes s) = (laws.others_keep 0 s).2 in
       let down : is_down (closes s).phase ≡ true = rw live refl in
@@ -376,9 +377,9 @@ module _ (laws : StationLaws) where
       both_ways : (b : Bool) → b ≡ true → b ≡ false → ⊥
       both_ways b t f = let e : true ≡ false = sym t ∙ f in cc
 
-  pub releases_went : (sub : ℕ) (s : Station) → Ready s → Went s (user_releases sub s) false
+  pub releases_went : (sub : ℕ) (s : Station) → Ready s → Went s (station_release sub s) false
   releases_went sub s ready =
-      cond_both (is_down s.phase) (s, []) (called (quits sub s)) (λ (a : Station × List Outcome). Went s a false) (λ down. stays s ready) (λ live. quits_went sub s ready live)
+      cond_both (is_down s.phase) (s, []) (station_and_told (quits sub s)) (λ (a : Station × List Outcome). Went s a false) (λ down. stays s ready) (λ live. quits_went sub s ready live)
 
   says_expired : (b : Bool) → Says (if_expired b) [] [] [] false b 0
   says_expired true = says_more Expired [] [] [] [] false false 0 (λ side. refl) says_nothing
@@ -408,7 +409,7 @@ module _ (laws : StationLaws) where
       cond_both (is_down s.phase) s (sends_waiting t) (λ (u : Station). all_taken u.deed ≡ []) (λ e. no_payload s ready)
       (λ e. ap all_taken (sent_deed (waiting t) t) ∙ expired_taken (sees moment s) (no_payload s ready))
 
-  pub ticks_went : (moment : ℕ) (s : Station) → Ready s → Went s (time_goes_on moment s) (is_late moment s)
+  pub ticks_went : (moment : ℕ) (s : Station) → Ready s → Went s (station_tick moment s) (is_late moment s)
   ticks_went moment s ready =
       let got : Ticked s (ticks moment s) = laws.ticks_give moment s ready.quiet in
       finish_went s (ticks moment s) (if_expired (is_late moment s)) [] (is_late moment s) (says_expired (is_late moment s)) ready
@@ -424,7 +425,7 @@ module _ (laws : StationLaws) where
   started_deed : (moment : ℕ) (s : Station) → (starts moment s).deed ≡ s.deed
   started_deed moment s = cond_both (is_down s.phase) s (starts_at s.phase (sees moment s)) (λ (t : Station). t.deed ≡ s.deed) (λ e. refl) (λ e. begun_at s.phase (sees moment s))
 
-  pub begins_went : (moment : ℕ) (s : Station) → Ready s → Went s (begins moment s) false
+  pub begins_went : (moment : ℕ) (s : Station) → Ready s → Went s (station_start moment s) false
   begins_went moment s ready =
       let keeps : LeavesPayloads s (starts moment s) = (laws.others_keep moment s).0 in
       finish_went s (starts moment s) [] [] false says_nothing ready (keeps.0 ∙ sym (append-nil s.handed))

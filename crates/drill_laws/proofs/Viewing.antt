@@ -8,21 +8,21 @@ use Rattle.std.proofs.lemmas.List.Folds.{list_any-append}
 use Rattle.er_base.specs.declared.side.Side.{Side}
 use Rattle.er_base.specs.declared.side.Side.TheVariants.{E, R}
 use Rattle.er_base.specs.Sides.{other}
-use Rattle.er_settings.specs.declared.settings.Settings.{Settings}
+use Rattle.er_settings.specs.Values.{Settings}
 use Rattle.er_base.specs.Octets.{AreOctets}
 use Rattle.des_block.specs.declared.triple_key.TripleKey.{TripleKey}
 use Rattle.safety_automaton.specs.Safety.{Safety, SafetyEvent, ConnectRequest, Received, DataRequest, SafetyOutcome, SentAu1, SentAu2, SentAu3, SentAr, ReceivedAr, AcceptedDt, SentDt, Refused, ReleasedLocally, ReleasedByPeer, NothingDone}
-use Rattle.safe_pair.specs.Facts.{SideFact, is_side, heard_in}
-use Rattle.safe_pair.specs.Openings.{PairOpening, OfFixed, OfKeys, key_for, safety_of}
-use Rattle.safe_pair.specs.Talks.{answer}
-use Rattle.safe_pair.specs.Deliveries.{sent_of, accepted_of, sapdus_of, Flow, under_way, with_under_way, after, happens, delivered, untouched, begun_flow, Flows, Begins, Sends, Delivers, FitsOpening}
-use Rattle.safe_pair.specs.Deliveries as pair
+use Rattle.safety_pair_laws.specs.Facts.{SideFact, is_side, heard_in}
+use Rattle.safety_pair_laws.specs.Openings.{PairOpening, OfFixed, OfKeys, key_for, safety_of}
+use Rattle.safety_pair_laws.specs.Talks.{answer}
+use Rattle.safety_pair_laws.specs.Deliveries.{sent_of, accepted_of, sapdus_of, Flow, under_way, with_under_way, after, happens, delivered, untouched, begun_flow, Flows, Begins, Sends, Delivers, FitsOpening}
+use Rattle.safety_pair_laws.specs.Deliveries as pair
 use Rattle.drill_model.specs.Outcomes.{Outcome, OfSafety, Handed, Arrived, Passed, Altered, NothingWaits, IsShort, Occurrence, at_end, facts_at, facts_in, frames_in}
 use Rattle.drill_model.specs.Ends.{End, OfSafe, EndEvent, Start, safety_event, outcomes_by, safe_end_step, end_step}
 use Rattle.drill_model.specs.Ends as event
-use Rattle.station_model.specs.Lines.{altered}
-use Rattle.drill_model.specs.Waiting.{LineChange, Lose, Repeat, Alter, Put, changes}
-use Rattle.drill_model.specs.Links.{Link, LinkOpening, OfPair, OfStations, OfStacks, waiting_of, with_waiting, answered, give, joined_pair, opened_pair, opened, LinkStep, Send, Pass, Change, Take, Release, Tick, pass, change_waiting, link_step}
+use Rattle.hdlc_station_model.specs.Lines.{altered}
+use Rattle.drill_model.specs.Waiting.{LineChange, Lose, Repeat, Alter, Put, change_first}
+use Rattle.drill_model.specs.Links.{Link, LinkOpening, OfPair, OfStations, OfStacks, waiting_of, with_waiting, with_answer, give, joined_pair, opened_pair, opened_link, LinkStep, Send, Pass, Change, Take, Release, Tick, pass, change_waiting, link_step}
 use Rattle.drill_model.specs.Kinds.{sent_in, accepted_in, sent_by, accepted_by, deliveries, is_disturbance, is_disturbed}
 use Rattle.drill_model.specs.Growth.{FactsGrow}
 use Rattle.drill_laws.proofs.Tellings.{StationLaws}
@@ -168,8 +168,8 @@ module _ (grow : FactsGrow) where
 
   -- an end does nothing with an event that its safety layer doesn't have
   none_view : (opening : PairOpening) (f : Flow) (l : Link) (history : List Occurrence) (side : Side) → IsView opening f l history
-      → IsView opening f (answered l side (safe_end_step (key_for opening) (safety_of f.pair side) None)).0
-      (history ++ (answered l side (safe_end_step (key_for opening) (safety_of f.pair side) None)).1)
+      → IsView opening f (with_answer l side (safe_end_step (key_for opening) (safety_of f.pair side) None)).0
+      (history ++ (with_answer l side (safe_end_step (key_for opening) (safety_of f.pair side) None)).1)
   none_view opening f l history E v =
       let u : IsView opening f l (history ++ []) = silent_view opening f l history [] (record { facts = refl; plain = tt; count = refl }) v in
       record {
@@ -197,8 +197,8 @@ module _ (grow : FactsGrow) where
 
   -- an end does what its side does
   some_view : (opening : PairOpening) (f : Flow) (l : Link) (history : List Occurrence) (side : Side) (event : SafetyEvent) → IsView opening f l history
-      → IsView opening (happens opening f side event) (answered l side (safe_end_step (key_for opening) (safety_of f.pair side) (Some event))).0
-      (history ++ (answered l side (safe_end_step (key_for opening) (safety_of f.pair side) (Some event))).1)
+      → IsView opening (happens opening f side event) (with_answer l side (safe_end_step (key_for opening) (safety_of f.pair side) (Some event))).0
+      (history ++ (with_answer l side (safe_end_step (key_for opening) (safety_of f.pair side) (Some event))).1)
   some_view opening f l history E event v =
       let a : Safety × SafetyOutcome = answer opening f.pair E event in
       let more : List Occurrence = map (at_end E) (outcomes_by (heard_in event) a.1) in
@@ -232,7 +232,7 @@ module _ (grow : FactsGrow) where
 
   -- what an end of such a link answers
   gives_safely : (opening : PairOpening) (f : Flow) (l : Link) (history : List Occurrence) (side : Side) (event : EndEvent) → IsView opening f l history
-      → give l side event ≡ answered l side (safe_end_step (key_for opening) (safety_of f.pair side) (safety_event event))
+      → give l side event ≡ with_answer l side (safe_end_step (key_for opening) (safety_of f.pair side) (safety_event event))
   gives_safely opening f l history E event v = rw (v.opening_is, v.e_is) refl
   gives_safely opening f l history R event v = rw (v.opening_is, v.r_is) refl
 
@@ -243,7 +243,7 @@ module _ (grow : FactsGrow) where
       → IsView opening f l history → ViewAt opening f history (give l side event)
   give_none opening f l history side event is v =
       subst (ViewAt opening f history) (sym (gives_safely opening f l history side event v))
-      (subst (λ (e : Option SafetyEvent). ViewAt opening f history (answered l side (safe_end_step (key_for opening) (safety_of f.pair side) e))) (sym is)
+      (subst (λ (e : Option SafetyEvent). ViewAt opening f history (with_answer l side (safe_end_step (key_for opening) (safety_of f.pair side) e))) (sym is)
       (none_view opening f l history side v))
 
   pub give_some : (opening : PairOpening) (f : Flow) (l : Link) (history : List Occurrence) (side : Side) (event : EndEvent) (given : SafetyEvent)
@@ -251,7 +251,7 @@ module _ (grow : FactsGrow) where
   give_some opening f l history side event given is v =
       subst (ViewAt opening (happens opening f side given) history) (sym (gives_safely opening f l history side event v))
       (subst (λ (e : Option SafetyEvent).
-      ViewAt opening (happens opening f side given) history (answered l side (safe_end_step (key_for opening) (safety_of f.pair side) e))) (sym is)
+      ViewAt opening (happens opening f side given) history (with_answer l side (safe_end_step (key_for opening) (safety_of f.pair side) e))) (sym is)
       (some_view opening f l history side given v))
 
   -- the first frame of a side is taken from those that wait
@@ -347,7 +347,7 @@ module _ (grow : FactsGrow) where
   still_if side frames true x y hx hy u = hx u
   still_if side frames false x y hx hy u = hy u
 
-  still_changes : (side : Side) (change : LineChange) (frames : List (List ℕ)) → Undisturbed side (changes change frames) → IsStill side frames (changes change frames)
+  still_changes : (side : Side) (change : LineChange) (frames : List (List ℕ)) → Undisturbed side (change_first change frames) → IsStill side frames (change_first change frames)
   still_changes side Lose [] u = record { same = refl; silent = record { facts = refl; plain = (tt, tt); count = refl } }
   still_changes side Lose (frame ∷ frames) u = cc
   still_changes side Repeat [] u = record { same = refl; silent = record { facts = refl; plain = (tt, tt); count = refl } }
@@ -414,7 +414,7 @@ module _ (grow : FactsGrow) where
       }
   step_flow l history (Pass side) fit u t = pass_flow l history side (waiting_of l side) refl t
   step_flow l history (Change side change) fit u t =
-      change_flow l history side (changes change (waiting_of l side)) (still_changes side change (waiting_of l side) u) t
+      change_flow l history side (change_first change (waiting_of l side)) (still_changes side change (waiting_of l side) u) t
   step_flow l history (Take side) fit u t = none_flow l history side event.Take refl t
   step_flow l history (Release side sub) fit u t = cc
   step_flow l history (Tick moment) fit u t =
@@ -479,7 +479,7 @@ module _ (grow : FactsGrow) where
   pub step_opening : (l : Link) (s : LinkStep) → (link_step l s).0.opening ≡ l.opening
   step_opening l (Send side octets) = give_opening l side (event.Send octets)
   step_opening l (Pass side) = pass_opening l side (waiting_of l side)
-  step_opening l (Change side change) = waiting_opening l side (changes change (waiting_of l side)).0
+  step_opening l (Change side change) = waiting_opening l side (change_first change (waiting_of l side)).0
   step_opening l (Take side) = give_opening l side event.Take
   step_opening l (Release side sub) = give_opening l side (event.Release sub)
   step_opening l (Tick moment) =
@@ -519,7 +519,7 @@ module _ (grow : FactsGrow) where
 
   module _ (laws : StationLaws) (settings : Settings) where
     opens_flowing : (moment : ℕ) (opening : LinkOpening) → FitsLinkOpening opening
-        → Either settings Flowing (opened settings moment opening).0 (opened settings moment opening).1
+        → Either settings Flowing (opened_link settings moment opening).0 (opened_link settings moment opening).1
     opens_flowing moment (OfPair opening) fit =
         inl (inl (record { fit = subst FitsLinkOpening (sym (opened_opening opening moment)) fit; flow = λ u. opened_flow opening moment }))
     opens_flowing moment (OfStations selective) fit = inr (selective, wired_opens laws settings moment selective)

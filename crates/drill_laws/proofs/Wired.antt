@@ -5,24 +5,24 @@ use Rattle.std.proofs.lemmas.Bool.{cond_both}
 use Rattle.er_base.specs.declared.side.Side.{Side}
 use Rattle.er_base.specs.declared.side.Side.TheVariants.{E, R}
 use Rattle.er_base.specs.Sides.{other}
-use Rattle.er_settings.specs.declared.settings.Settings.{Settings}
-use Rattle.station_model.specs.Stations.{Station, made, settled, is_down}
+use Rattle.er_settings.specs.Values.{Settings}
+use Rattle.hdlc_station_model.specs.Stations.{Station, made, settled, is_down}
 use Rattle.hdlc_frames.specs.Framing.{Verdict}
-use Rattle.station_model.specs.Calls.{starts, hands, finishes, ticks}
-use Rattle.station_model.specs.Selective.{receives_as}
-use Rattle.station_model.specs.Events.{said_octets, news, quits, is_late}
-use Rattle.station_pair.specs.Links.{Came, Link as Pair, station_of, line_of, with_line, read_of, tells, did, hears_each, reads}
-use Rattle.station_pair.specs.Links as pair
-use Rattle.station_pair.specs.Steps.{refusal_at, send_unless, counted, tick_at, happens, run}
-use Rattle.station_pair.specs.Steps as on_pair
-use Rattle.station_pair.specs.Laws as laws_of_pair
+use Rattle.hdlc_station_model.specs.Calls.{starts, hands, finishes, ticks}
+use Rattle.hdlc_station_model.specs.Selective.{receives_as}
+use Rattle.hdlc_station_model.specs.Events.{said_octets, news, quits, is_late}
+use Rattle.hdlc_pair_laws.specs.Links.{Came, Link as Pair, station_of, line_of, with_line, read_of, tells, did, hears_each, reads}
+use Rattle.hdlc_pair_laws.specs.Links as pair
+use Rattle.hdlc_pair_laws.specs.Steps.{refusal_at, send_unless, counted, tick_at, happens, run}
+use Rattle.hdlc_pair_laws.specs.Steps as on_pair
+use Rattle.hdlc_pair_laws.specs.Laws as laws_of_pair
 use Rattle.drill_model.specs.Outcomes.{Outcome, UserReleased, Passed, Lost, Repeated, Altered, Inserted, NothingWaits, IsShort, Occurrence, at_end, frames_in}
-use Rattle.drill_model.specs.StationEnds.{told_by, called, frames_heard, user_sends, user_releases, time_goes_on, begins, if_expired}
+use Rattle.drill_model.specs.StationEnds.{told_by, station_and_told, frames_heard, station_send, station_release, station_tick, station_start, if_expired}
 use Rattle.drill_model.specs.Ends.{End, OfStation, EndEvent, Start, station_end, station_end_step}
 use Rattle.drill_model.specs.Ends as event
-use Rattle.station_model.specs.Lines.{altered, next_of}
-use Rattle.drill_model.specs.Waiting.{LineChange, Lose, Repeat, Alter, Put, changes}
-use Rattle.drill_model.specs.Links.{Link, OfStations, waiting_of, with_waiting, answered, give, joined, opened_stations, LinkStep, Send, Pass, Change, Take, Release as ReleaseStep, Tick, pass, link_step}
+use Rattle.hdlc_station_model.specs.Lines.{altered, next_of}
+use Rattle.drill_model.specs.Waiting.{LineChange, Lose, Repeat, Alter, Put, change_first}
+use Rattle.drill_model.specs.Links.{Link, OfStations, waiting_of, with_waiting, with_answer, give, link_of, opened_stations, LinkStep, Send, Pass, Change, Take, Release as ReleaseStep, Tick, pass, link_step}
 use Rattle.drill_model.specs.Kinds.{deliveries}
 use Rattle.drill_laws.proofs.Tellings.{Says, says_nothing, says_more, Ready, Went, stays, frames_told, StationLaws, frames_went, sends_went, releases_went, ticks_went, begins_went, ready_made}
 use Rattle.drill_laws.proofs.Wiring.{Sees, came_sees, Like, like_sees, not_or, passes_of, deliveries_grow, acted, SeesAt, acted_sees, lined, lined_sees, gives_stationed, read_stays, did_like, reads_like, send_like}
@@ -78,8 +78,8 @@ acts : (l : Link) (history : List Occurrence) (q : Pair) (side : Side) (event : 
     → Sees l history q → station_end_step q.selective q.moment (station_of q side) (read_of q side) event ≡ station_end q.selective stream a → Went (station_of q side) a late
     → free ≡ (q.loss_free && not late) → Like q' (acted side stream a free q) → Acts history q' (give l side event)
 acts l history q side event stream a late free q' v is w free_is like =
-    let x : Link × List Occurrence = answered l side (station_end q.selective stream a) in
-    let given : give l side event ≡ x = gives_stationed l history q side event v ∙ ap (answered l side) is in
+    let x : Link × List Occurrence = with_answer l side (station_end q.selective stream a) in
+    let given : give l side event ≡ x = gives_stationed l history q side event v ∙ ap (with_answer l side) is in
     let there : SeesAt history q' x = like_sees x.0 (history ++ x.1) q' (acted side stream a free q) like (acted_sees l history q side stream a late free v w free_is) in
     let none : deliveries x.1 ≡ 0 = passes_of side a.1 w.handed w.taken w.releases false late 0 w.says in
     record { sees = subst (SeesAt history q') (sym given) there; none = ap (λ (b : Link × List Occurrence). deliveries b.1) given ∙ none }
@@ -219,7 +219,7 @@ module _ (laws : StationLaws) where
       let q : Pair = cleared p in
       let u : Sees l history q = came_sees l history p [] v in
       let s : Station = station_of q side in
-      let a : Station × List Outcome = user_sends q.moment payload s in
+      let a : Station × List Outcome = station_send q.moment payload s in
       let done : Acts history (on_pair.send side payload q) (give l side (event.Send payload)) =
       acts l history q side (event.Send payload) (read_of q side) a false q.loss_free (on_pair.send side payload q) u refl
       (sends_went laws q.moment payload s (ready_at l history q side u)) (and_true q.loss_free) (send_like side payload q s.released) in
@@ -242,7 +242,7 @@ module _ (laws : StationLaws) where
       record { steps = []; sees = done.sees; count = sym done.none }
 
   quit_like : (side : Side) (p : Pair) (down : Bool) (t : Station)
-      → Like (if down then p else did side t p) (acted side (read_of p side) (if down then (station_of p side, []) else called t) p.loss_free p)
+      → Like (if down then p else did side t p) (acted side (read_of p side) (if down then (station_of p side, []) else station_and_told t) p.loss_free p)
   quit_like side p true t = (p.came, sym (ap (λ (q : Pair). record q { came = p.came }) (read_stays p side)))
   quit_like side p false t = did_like side t p
 
@@ -259,7 +259,7 @@ module _ (laws : StationLaws) where
       (says_more (UserReleased sub) [] [] [] [] false false 0 (λ side. refl) says_nothing) (and_false p.loss_free) in
       let s : Station = station_of q side in
       let q' : Pair = if is_down s.phase then q else did side (quits sub s) q in
-      let a : Station × List Outcome = user_releases sub s in
+      let a : Station × List Outcome = station_release sub s in
       let x : Link × List Occurrence = give l side (event.Release sub) in
       let done : Acts (history ++ first) q' x =
       acts l (history ++ first) q side (event.Release sub) (read_of q side) a false false q' u refl (releases_went laws sub s (ready_at l (history ++ first) q side u)) refl
@@ -385,7 +385,7 @@ module _ (laws : StationLaws) where
       (rw w (stays_like q side (frame ∷ frames) (pair.IsShort side (length frame) ∷ []) line))) refl
 
   changes_goes : (l : Link) (history : List Occurrence) (p : Pair) (side : Side) (change : LineChange) (frames : List (List ℕ)) → Sees l history p
-      → line_of (cleared p) side ≡ frames → ChangeGoes l history p side (changes change frames)
+      → line_of (cleared p) side ≡ frames → ChangeGoes l history p side (change_first change frames)
   changes_goes l history p side Lose [] v line =
       let q : Pair = cleared p in
       change_goes l history p side (on_pair.Lose side) (NothingWaits ∷ []) [] false false p.order_kept p.loss_free v waits_nothing (and_true p.order_kept) (and_true p.loss_free)
@@ -458,8 +458,8 @@ module _ (laws : StationLaws) where
       let late_r : Bool = is_late now q.r in
       let te : Station = finishes (ticks now q.e) in
       let tr : Station = finishes (ticks now q.r) in
-      let a : Station × List Outcome = time_goes_on now q.e in
-      let b : Station × List Outcome = time_goes_on now q.r in
+      let a : Station × List Outcome = station_tick now q.e in
+      let b : Station × List Outcome = station_tick now q.r in
       let q2 : Pair = acted E q.read_e a (q.loss_free && not late_e) q in
       let q3 : Pair = acted R q.read_r b ((q.loss_free && not late_e) && not late_r) q2 in
       let x : Link × List Occurrence = give m E event.Tick in
@@ -536,7 +536,7 @@ module _ (laws : StationLaws) where
         loss_free = true;
         came = [];
       } in
-      let l : Link = joined (OfStations selective) moment (OfStation selective e []) (OfStation selective r []) in
+      let l : Link = link_of (OfStations selective) moment (OfStation selective e []) (OfStation selective r []) in
       let v : Sees l [] p = record {
         opening_is = refl;
         e_is = refl;
@@ -557,5 +557,5 @@ module _ (laws : StationLaws) where
       } in
       let t : Station = finishes (starts moment e) in
       let done : Acts [] (did E t p) (give l E Start) =
-      acts l [] p E Start [] (begins moment e) false true (did E t p) v refl (begins_went laws moment e v.ready_e) refl (did_like E t p) in
+      acts l [] p E Start [] (station_start moment e) false true (did E t p) v refl (begins_went laws moment e v.ready_e) refl (did_like E t p) in
       record { moment = moment; steps = []; sees = done.sees; count = sym done.none }

@@ -9,19 +9,20 @@ use Rattle.er_base.specs.declared.side.Side.{Side}
 use Rattle.er_base.specs.declared.side.Side.TheVariants.{E, R}
 use Rattle.er_base.specs.Sides.{other}
 use Rattle.hdlc_frames.specs.Framing.{Verdict}
-use Rattle.station_model.specs.Stations.{Station, settled}
-use Rattle.station_model.specs.Sending.{waiting}
-use Rattle.station_model.specs.Calls.{hands, finishes}
-use Rattle.station_model.specs.Selective.{receives_as}
-use Rattle.station_model.specs.Events.{said_octets, news}
-use Rattle.station_pair.specs.Links.{Came, Link as Pair, station_of, line_of, with_line, read_of, tells, did, hears_each, reads}
-use Rattle.station_pair.specs.Links as pair
-use Rattle.station_pair.specs.Steps.{refusal_at, send_unless}
-use Rattle.safe_pair.specs.Facts.{SideFact, is_side}
-use Rattle.drill_model.specs.Outcomes.{Outcome, SendRefusal, RefusedReleased, Refused, Occurrence, at_end, facts_at, facts_in, frames_in}
-use Rattle.drill_model.specs.StationEnds.{told_by, called, frames_heard, refusal_of, handed_unless}
+use Rattle.hdlc_station_model.specs.Stations.{Station, settled}
+use Rattle.hdlc_station_model.specs.Sending.{waiting}
+use Rattle.hdlc_station_model.specs.Calls.{hands, finishes}
+use Rattle.hdlc_station_model.specs.Selective.{receives_as}
+use Rattle.hdlc_station_model.specs.Events.{said_octets, news}
+use Rattle.hdlc_pair_laws.specs.Links.{Came, Link as Pair, station_of, line_of, with_line, read_of, tells, did, hears_each, reads}
+use Rattle.hdlc_pair_laws.specs.Links as pair
+use Rattle.hdlc_pair_laws.specs.Steps.{refusal_at, send_unless}
+use Rattle.safety_pair_laws.specs.Facts.{SideFact, is_side}
+use Rattle.er_end_model.specs.Outcomes.{SendRefusal, RefusedReleased}
+use Rattle.drill_model.specs.Outcomes.{Outcome, Refused, Occurrence, at_end, facts_at, facts_in, frames_in}
+use Rattle.drill_model.specs.StationEnds.{told_by, station_and_told, frames_heard, refusal_of, handed_unless}
 use Rattle.drill_model.specs.Ends.{OfStation, EndEvent, station_end, station_end_step}
-use Rattle.drill_model.specs.Links.{Link, OfStations, with_waiting, answered, give}
+use Rattle.drill_model.specs.Links.{Link, OfStations, with_waiting, with_answer, give}
 use Rattle.drill_model.specs.Kinds.{sent_in, accepted_in, released_in, passed_in, is_disorder, is_disturbance, sent_by, accepted_by, releases_in, deliveries, is_disordered, is_disturbed}
 use Rattle.drill_laws.proofs.Tellings.{Says, Ready, Went, frames_told, frames_append}
 
@@ -241,7 +242,7 @@ abbrev pub SeesAt : List Occurrence → Pair → Link × List Occurrence → Typ
 SeesAt history p a = Sees a.0 (history ++ a.1) p
 
 pub acted_sees : (l : Link) (history : List Occurrence) (p : Pair) (side : Side) (stream : List ℕ) (a : Station × List Outcome) (late free : Bool) → Sees l history p
-    → Went (station_of p side) a late → free ≡ (p.loss_free && not late) → SeesAt history (acted side stream a free p) (answered l side (station_end p.selective stream a))
+    → Went (station_of p side) a late → free ≡ (p.loss_free && not late) → SeesAt history (acted side stream a free p) (with_answer l side (station_end p.selective stream a))
 acted_sees l history p E stream a late free v w is =
     let g = grows_of E history a.1 w.handed w.taken w.releases false late 0 w.says in
     let q : Pair = acted E stream a free p in
@@ -340,7 +341,7 @@ lined_sees l history p R os frames disorder disturbed order free n passes v says
 
 -- what an end of such a link answers
 pub gives_stationed : (l : Link) (history : List Occurrence) (p : Pair) (side : Side) (event : EndEvent) → Sees l history p
-    → give l side event ≡ answered l side (station_end_step p.selective p.moment (station_of p side) (read_of p side) event)
+    → give l side event ≡ with_answer l side (station_end_step p.selective p.moment (station_of p side) (read_of p side) event)
 gives_stationed l history p E event v = rw (v.opening_is, v.e_is, v.moment_is) refl
 gives_stationed l history p R event v = rw (v.opening_is, v.r_is, v.moment_is) refl
 
@@ -350,7 +351,7 @@ pub read_stays : (p : Pair) (side : Side) → acted side (read_of p side) (stati
 read_stays p E = ap (λ (fs : List (List ℕ)). record p { from_e = fs }) (append-nil p.from_e)
 read_stays p R = ap (λ (fs : List (List ℕ)). record p { from_r = fs }) (append-nil p.from_r)
 
-pub did_like : (side : Side) (t : Station) (p : Pair) → Like (did side t p) (acted side (read_of p side) (called t) p.loss_free p)
+pub did_like : (side : Side) (t : Station) (p : Pair) → Like (did side t p) (acted side (read_of p side) (station_and_told t) p.loss_free p)
 did_like E t p =
     let came : List Came = (did E t p).came in
     (came, ap (λ (fs : List (List ℕ)). record p { e = settled t; from_e = p.from_e ++ fs; came = came }) (sym (frames_told t)))

@@ -8,8 +8,8 @@ use Rattle.er_scenario.specs.declared.step.Step.TheVariants as does
 use Rattle.safety_automaton.specs.Rules.{StepsOnly}
 use Rattle.drill_model.specs.Outcomes.{NothingWaits, Occurrence, at_end}
 use Rattle.drill_model.specs.Waiting.{Lose, Repeat, Alter, Put}
-use Rattle.drill_model.specs.Links.{Link, LinkOpening, opened, waiting_of, LinkStep, Send, Pass, Change, Take, Release, Tick, link_step}
-use Rattle.drill_model.specs.Worlds.{Plan, World, Came, On, Drained, is_link, link_at, history_on, went_on, fixed_opening, link_opening, wire_opening, open_link, at_link, next_side, overfull_side, Drain, drain, drain_on, drain_link, copy_frame, copy_between, ticks, ticked, world_step}
+use Rattle.drill_model.specs.Links.{Link, LinkOpening, opened_link, waiting_of, LinkStep, Send, Pass, Change, Take, Release, Tick, link_step}
+use Rattle.drill_model.specs.Worlds.{Plan, World, Came, On, Drained, is_link, link_at, history_on, went_on, fixed_opening, link_opening, wire_opening, open_link, at_link, next_side, overfull_side, Drain, drain, drain_on, drain_link, copy_frame, copy_between, tick_each_link, tick_world, world_step}
 use Rattle.drill_model.specs.Growth.{HistoryGrows, HistoryOfOwn, HistoryOfOther}
 use Rattle.drill_model.specs.Effects.{Sends, IsRefused, Passes, Loses, Repeats, Inserts, Releases, Effects, effects_in, At, of_first, of_alter, of_copy, OfTick, TickEffects, DrainEffects, HasEffects}
 use Rattle.drill_laws.proofs.OneLink.{drain_leads, other_rests, ticks_lead}
@@ -23,7 +23,7 @@ module _ (only : StepsOnly) (grow : HistoryGrows) (own : HistoryOfOwn) (other : 
   open_effects plan w n m (Some l) opening = refl
   open_effects plan w n m None None = refl
   open_effects plan w n m None (Some opening) =
-      let a : Link × List Occurrence = opened plan.settings w.moment opening in
+      let a : Link × List Occurrence = opened_link plan.settings w.moment opening in
       let here : effects_in (history_on n (went_on w m a).1) ≡ [] =
       elim (cases_eq n m) [
         | inl e ↦ ap effects_in (ap (λ (i : ℕ). history_on n (map (On i) a.1)) (sym e) ∙ own n a.1) ∙ opened_effects only plan.settings w.moment opening
@@ -174,25 +174,25 @@ module _ (only : StepsOnly) (grow : HistoryGrows) (own : HistoryOfOwn) (other : 
 
   -- ---- ticks
 
-  tick_open : (w : World) (n moment : ℕ) (l : Link) → link_at w n ≡ Some l → is_link n ≡ true → OfTick (nat_lt moment w.moment) moment l (effects_in (history_on n (ticked w moment).1))
+  tick_open : (w : World) (n moment : ℕ) (l : Link) → link_at w n ≡ Some l → is_link n ≡ true → OfTick (nat_lt moment w.moment) moment l (effects_in (history_on n (tick_world w moment).1))
   tick_open w n moment l is link =
       let parts : (nat_lt 0 n ≡ true) × (nat_lt n 65 ≡ true) = and_parts (nat_lt 0 n) (nat_lt n 65) link in
       let least : 0 < n = ltb-true 0 n parts.0 in
       let most : n < 65 = ltb-true n 65 parts.1 in
       let v : World = record w { moment = moment } in
-      let came : history_on n (ticks moment v 1 64).1 ≡ (link_step l (Tick moment)).1 =
+      let came : history_on n (tick_each_link moment v 1 64).1 ≡ (link_step l (Tick moment)).1 =
       (ticks_lead grow own other moment v n 1 64 l is (omega arith) (omega arith)).came in
       elim (cases_Bool (nat_lt moment w.moment)) [
         | inl back ↦ rw back refl
         | inr on ↦ rw on (subst (λ (effects : Effects). TickEffects (max l.moment moment) l effects) (sym (ap effects_in came)) (tick_effects only l moment))
       ]
 
-  unticked_closed : (moment : ℕ) (w : World) (n i count : ℕ) → link_at w n ≡ None → history_on n (ticks moment w i count).1 ≡ []
-  unfolding ticks
+  unticked_closed : (moment : ℕ) (w : World) (n i count : ℕ) → link_at w n ≡ None → history_on n (tick_each_link moment w i count).1 ≡ []
+  unfolding tick_each_link
   unticked_closed moment w n i zero none = refl
   unticked_closed moment w n i (suc count) none =
       let a : World × List Came = at_link w i (link_at w i) (Tick moment) in
-      let b : World × List Came = ticks moment a.0 (i + 1) count in
+      let b : World × List Came = tick_each_link moment a.0 (i + 1) count in
       let first : (history_on n a.1 ≡ []) × (link_at a.0 n ≡ None) =
       elim (cases_eq n i) [
         | inl e ↦
@@ -206,7 +206,7 @@ module _ (only : StepsOnly) (grow : HistoryGrows) (own : HistoryOfOwn) (other : 
       ] in
       grow n a.1 b.1 ∙ ap₂ (λ (xs ys : List Occurrence). xs ++ ys) first.0 (unticked_closed moment a.0 n (i + 1) count first.1)
 
-  tick_closed : (w : World) (n moment : ℕ) → link_at w n ≡ None → effects_in (history_on n (ticked w moment).1) ≡ []
+  tick_closed : (w : World) (n moment : ℕ) → link_at w n ≡ None → effects_in (history_on n (tick_world w moment).1) ≡ []
   tick_closed w n moment none =
       elim (cases_Bool (nat_lt moment w.moment)) [
         | inl back ↦ rw back refl

@@ -4,13 +4,13 @@ use Rattle.std.specs.Prelude.{Option, Some, None}
 use Rattle.std.specs.List.{AllByRecursion}
 use Rattle.std.proofs.lemmas.Bool.{cases_eq, cases_Bool, eq-eqb, ne_eqb}
 use Rattle.er_base.specs.declared.side.Side.{Side}
-use Rattle.er_settings.specs.declared.settings.Settings.{Settings}
+use Rattle.er_settings.specs.Values.{Settings}
 use Rattle.er_scenario.specs.declared.step.Step.{Step}
 use Rattle.er_scenario.specs.declared.step.Step.TheVariants as does
 use Rattle.drill_model.specs.Outcomes.{Occurrence, NothingWaits, at_end}
 use Rattle.drill_model.specs.Waiting.{Lose, Repeat, Alter, Put}
-use Rattle.drill_model.specs.Links.{Link, LinkOpening, opened, waiting_of, LinkStep, Send, Pass, Change, Take, Release, Tick, pass, link_step}
-use Rattle.drill_model.specs.Worlds.{Plan, World, Came, On, Drained, new_world, is_link, link_at, with_link, history_on, went_on, fixed_opening, link_opening, wire_opening, open_link, at_link, next_side, overfull_side, Drain, drain, drain_on, drain_link, copy_frame, copy_between, ticks, ticked, world_step, world_run_from, world_run}
+use Rattle.drill_model.specs.Links.{Link, LinkOpening, opened_link, waiting_of, LinkStep, Send, Pass, Change, Take, Release, Tick, pass, link_step}
+use Rattle.drill_model.specs.Worlds.{Plan, World, Came, On, Drained, new_world, is_link, link_at, with_link, history_on, went_on, fixed_opening, link_opening, wire_opening, open_link, at_link, next_side, overfull_side, Drain, drain, drain_on, drain_link, copy_frame, copy_between, tick_each_link, tick_world, world_step, world_run_from, world_run}
 use Rattle.drill_model.specs.Growth.{HistoryGrows, HistoryOfOwn, HistoryOfOther}
 
 -- what a step of a world asks of the opening or the link step that it makes
@@ -51,7 +51,7 @@ AtPlace P (Some l) history = P l history
 
 -- a link as it is opened, and each step of it
 pub record Keeps (settings : Settings) (O : LinkOpening → Type 0) (S : LinkStep → Type 0) (P : Link → List Occurrence → Type 0) : Type 0 where
-  pub opens : (moment : ℕ) (opening : LinkOpening) → O opening → P (opened settings moment opening).0 (opened settings moment opening).1
+  pub opens : (moment : ℕ) (opening : LinkOpening) → O opening → P (opened_link settings moment opening).0 (opened_link settings moment opening).1
   pub steps : (l : Link) (history : List Occurrence) (s : LinkStep) → S s → P l history → P (link_step l s).0 (history ++ (link_step l s).1)
   pub others : (s : LinkStep) → IsNoSend s → S s
 
@@ -103,7 +103,7 @@ module _ (grow : HistoryGrows) (own : HistoryOfOwn) (other : HistoryOfOther) (pl
   opens_lives w came m (Some l) opening is fit lives = still w came lives
   opens_lives w came m None None is fit lives = still w came lives
   opens_lives w came m None (Some opening) is fit lives =
-      let a : Link × List Occurrence = opened plan.settings w.moment opening in
+      let a : Link × List Occurrence = opened_link plan.settings w.moment opening in
       let none : history_on m came ≡ [] = subst (λ (p : Option Link). AtPlace P p (history_on m came)) is (lives m) in
       let now : P a.0 (history_on m came ++ a.1) =
       subst (λ (h : List Occurrence). P a.0 (h ++ a.1)) (sym none) (keeps.opens w.moment opening fit) in
@@ -186,16 +186,16 @@ module _ (grow : HistoryGrows) (own : HistoryOfOwn) (other : HistoryOfOther) (pl
   moment_lives : (w : World) (came : List Came) (moment : ℕ) → Lives w came → Lives (record w { moment = moment }) came
   moment_lives w came moment lives n = lives n
 
-  ticks_live : (moment : ℕ) (w : World) (came : List Came) (n count : ℕ) → Lives w came → Lives (ticks moment w n count).0 (came ++ (ticks moment w n count).1)
-  unfolding ticks
+  ticks_live : (moment : ℕ) (w : World) (came : List Came) (n count : ℕ) → Lives w came → Lives (tick_each_link moment w n count).0 (came ++ (tick_each_link moment w n count).1)
+  unfolding tick_each_link
   ticks_live moment w came n zero lives = still w came lives
   ticks_live moment w came n (suc count) lives =
       let a : World × List Came = at_link w n (link_at w n) (Tick moment) in
       let now : Lives a.0 (came ++ a.1) = at_lives w came n (link_at w n) (Tick moment) refl (keeps.others (Tick moment) tt) lives in
-      let b : World × List Came = ticks moment a.0 (n + 1) count in
+      let b : World × List Came = tick_each_link moment a.0 (n + 1) count in
       subst (λ (c : List Came). Lives b.0 c) (append_assoc came a.1 b.1) (ticks_live moment a.0 (came ++ a.1) (n + 1) count now)
 
-  ticked_lives : (w : World) (came : List Came) (moment : ℕ) → Lives w came → Lives (ticked w moment).0 (came ++ (ticked w moment).1)
+  ticked_lives : (w : World) (came : List Came) (moment : ℕ) → Lives w came → Lives (tick_world w moment).0 (came ++ (tick_world w moment).1)
   ticked_lives w came moment lives =
       elim (cases_Bool (nat_lt moment w.moment)) [
         | inl back ↦ rw back (still w came lives)

@@ -3,14 +3,14 @@
 use Rattle.std.specs.Prelude.{ℕ, ◌≡◌, not, List, Option, Some}
 use Rattle.er_base.specs.declared.side.Side.TheVariants.{E, R}
 use Rattle.des_block.specs.declared.triple_key.TripleKey.{TripleKey}
-use Rattle.er_settings.specs.declared.settings.Settings.{Settings}
+use Rattle.er_settings.specs.Values.{Settings}
 use Rattle.er_settings.specs.Ranges.{AllAllowed}
 use Rattle.er_scenario.specs.declared.step.Step.{Step}
-use Rattle.safe_pair.specs.Openings.{OfKeys, key_for}
-use Rattle.end_pair.specs.Openings.{Opening}
-use Rattle.end_pair.specs.Steps.{LinkStep}
-use Rattle.end_pair.specs.Steps as pair
-use Rattle.end_pair.specs.Laws.{after}
+use Rattle.safety_pair_laws.specs.Openings.{OfKeys, key_for}
+use Rattle.er_end_pair_laws.specs.Openings.{Opening}
+use Rattle.er_end_pair_laws.specs.Steps.{LinkStep}
+use Rattle.er_end_pair_laws.specs.Steps as pair
+use Rattle.er_end_pair_laws.specs.Laws.{after}
 use Rattle.drill_model.specs.Outcomes.{Occurrence}
 use Rattle.drill_model.specs.Ends.{OfStack}
 use Rattle.drill_model.specs.Links.{Link, OfStacks}

@@ -1,12 +1,12 @@
 //! The laws of every list of steps.
 
 ghost use Rattle.std.specs.Prelude.{List};
-ghost use Rattle.station_model.specs.Laws.{TicksGive, HandsKeep, OthersKeep, ReleasedAreInert};
-ghost use Rattle.station_model.specs.Reports.{ReleasesAreTold, FinishKeepsRelease};
-ghost use Rattle.station_pair.specs.Keeping.{FramesGive};
+ghost use Rattle.hdlc_station_model.specs.Laws.{TicksGive, HandsKeep, OthersKeep, ReleasedAreInert};
+ghost use Rattle.hdlc_station_model.specs.Reports.{ReleasesAreTold, FinishKeepsRelease};
+ghost use Rattle.hdlc_pair_laws.specs.Keeping.{FramesGive};
 ghost use Rattle.safety_automaton.specs.Rules.{StepsOnly};
-ghost use Rattle.safe_pair.specs.Marks.{MarksGrow};
-ghost use Rattle.end_pair.specs.Laws.{Prefix, OneFrame, LosingLineReasons, InStep, Delivery, DeliveryBound, DrainEmpties};
+ghost use Rattle.safety_pair_laws.specs.Marks.{MarksGrow};
+ghost use Rattle.er_end_pair_laws.specs.Laws.{Prefix, OneFrame, LosingLineReasons, InStep, Delivery, DeliveryBound, DrainEmpties};
 ghost use Rattle.er_settings.specs.Ranges.{AllAllowed};
 ghost use Rattle.er_scenario.specs.declared.step.Step.{Step};
 ghost use Rattle.drill_model.specs.Steps.{AllFit};
@@ -14,7 +14,9 @@ ghost use Rattle.drill_model.specs.Worlds.{Plan};
 ghost use Rattle.drill_model.specs.Hearing.{HeardIsBrought};
 ghost use Rattle.drill_model.specs.StackReports.{OpensOrderly, CallsReport};
 ghost use Rattle.drill_model.specs.Effects.{Steps};
-ghost use Rattle.drill_model.specs.Headline.{LawfulAlways, OpensAlways, RoomAlways, InOrderAlways, LosingLineReasonsAlways, OrderIsUnforged, DeliversAlways, TakesInOrder, RepairsAlways, DrainsAlways};
+ghost use Rattle.drill_laws.specs.Laws.{LawfulAlways, OpensAlways, RoomAlways, InOrderAlways, LosingLineReasonsAlways, DeliversAlways, RepairsAlways, DrainsAlways};
+ghost use Rattle.drill_model.specs.Claims.{OrderIsUnforged, TakesInOrder};
+ghost use Rattle.drill_model.specs.Headline.{HoldsAlways};
 ghost use Rattle.drill_model.specs.Printing.{PrintedAsMarked, LinesInOrder};
 ghost use Rattle.drill_laws.specs.Stacks.{StacksRun};
 
@@ -28,11 +30,11 @@ fn station_laws()
     ensures finish { FinishKeepsRelease }
     ensures inert { ReleasedAreInert }
 {
-    station_pair::laws::frames_give();
-    station_model::laws::ticks_give();
-    station_model::laws::others_keep();
-    station_model::laws::releases_are_told();
-    station_model::laws::released_are_inert();
+    hdlc_pair_laws::laws::frames_give();
+    hdlc_station_model::laws::ticks_give();
+    hdlc_station_model::laws::others_keep();
+    hdlc_station_model::laws::releases_are_told();
+    hdlc_station_model::laws::released_are_inert();
 }
 
 // What holds of two ends of the whole stack, and what each call of a stack reports.
@@ -49,15 +51,32 @@ fn stack_laws()
     ensures calls { CallsReport }
     ensures marks { MarksGrow }
 {
-    end_pair::laws::prefix();
-    end_pair::laws::one_frame();
-    end_pair::laws::losing_line_reasons();
-    end_pair::laws::in_step();
-    end_pair::laws::delivery();
-    end_pair::laws::delivery_bound();
+    er_end_pair_laws::laws::prefix();
+    er_end_pair_laws::laws::one_frame();
+    er_end_pair_laws::laws::losing_line_reasons();
+    er_end_pair_laws::laws::in_step();
+    er_end_pair_laws::laws::delivery();
+    er_end_pair_laws::laws::delivery_bound();
     safety_automaton::laws::steps();
     drill_model::laws::stacks_report();
-    safe_pair::laws::marks_grow();
+    safety_pair_laws::laws::marks_grow();
+}
+
+/// The headline: what is claimed of the world that a list of steps leads to holds of every list, at every moment of the steps that are done.
+/// The laws below say the same point by point, each with no more premises than it needs.
+pub fn holds()
+    ensures { HoldsAlways }
+{
+    worlds();
+    steps();
+    lawful();
+    heard();
+    takes();
+    in_order();
+    losing_line_reasons();
+    order_is_unforged();
+    delivery();
+    recovery();
 }
 
 /// What came at each link is lawful, whatever the steps: at levels safe and full, messages and peers are authentic; at levels link and link-sr
@@ -65,7 +84,7 @@ fn stack_laws()
 pub fn lawful()
     ensures { LawfulAlways }
 {
-    safe_pair::laws::talks_are_authentic();
+    safety_pair_laws::laws::talks_are_authentic();
     station_laws();
     drill_model::laws::histories();
 }
@@ -76,7 +95,7 @@ pub fn printed()
     ensures marks { PrintedAsMarked }
     ensures order { LinesInOrder }
 {
-    safe_pair::laws::marks_grow();
+    safety_pair_laws::laws::marks_grow();
     drill_model::laws::histories();
 }
 
@@ -85,7 +104,7 @@ pub fn printed()
 pub fn in_order()
     ensures { InOrderAlways }
 {
-    station_pair::laws::prefix();
+    hdlc_pair_laws::laws::prefix();
     stack_laws();
     er_settings::laws::allowed_are_bounded();
     station_laws();
@@ -97,7 +116,7 @@ pub fn in_order()
 pub fn losing_line_reasons()
     ensures { LosingLineReasonsAlways }
 {
-    station_pair::laws::losing_line_reasons();
+    hdlc_pair_laws::laws::losing_line_reasons();
     stack_laws();
     er_settings::laws::allowed_are_bounded();
     station_laws();
@@ -111,9 +130,9 @@ pub fn delivery()
     ensures { DeliversAlways }
 {
     safety_automaton::laws::steps();
-    safe_pair::laws::flows_deliver();
-    station_pair::laws::delivery();
-    station_pair::laws::few_wait();
+    safety_pair_laws::laws::flows_deliver();
+    hdlc_pair_laws::laws::delivery();
+    hdlc_pair_laws::laws::few_wait();
     stack_laws();
     er_settings::laws::allowed_are_bounded();
     station_laws();
@@ -146,7 +165,7 @@ pub fn heard()
     ensures { (plan : Plan) (steps : List Step) → HeardIsBrought plan steps }
 {
     safety_automaton::laws::steps();
-    end_model::laws::events_give();
+    er_end_model::laws::events_give();
     drill_model::laws::histories();
 }
 
@@ -164,7 +183,7 @@ pub fn takes()
 pub fn order_is_unforged()
     ensures { (plan : Plan) (steps : List Step) → AllFit steps → AllAllowed plan.settings → OrderIsUnforged plan steps }
 {
-    end_pair::laws::in_step_while_ordered();
+    er_end_pair_laws::laws::in_step_while_ordered();
     stack_laws();
     station_laws();
     drill_model::laws::histories();
@@ -177,9 +196,9 @@ pub fn recovery()
     ensures repairs { RepairsAlways }
     ensures drains { DrainsAlways }
 {
-    station_pair::laws::recovery();
-    station_pair::laws::passes_are_bounded();
-    end_pair::laws::recovery();
+    hdlc_pair_laws::laws::recovery();
+    hdlc_pair_laws::laws::passes_are_bounded();
+    er_end_pair_laws::laws::recovery();
     stack_laws();
     er_settings::laws::allowed_are_bounded();
     station_laws();
@@ -192,6 +211,6 @@ pub fn stacks_run()
     ensures { StacksRun }
 {
     stack_laws();
-    end_model::laws::events_give();
+    er_end_model::laws::events_give();
     drill_model::laws::histories();
 }

@@ -3,8 +3,8 @@ use Rattle.std.proofs.Common.{◌≡◌, ℕ, Bool, true, false, ◌==◌, List,
 use Rattle.std.proofs.lemmas.Bool.{eq-eqb, ne_eqb}
 use Rattle.std.proofs.lemmas.List.Concat.{flat_map-append}
 use Rattle.er_scenario.specs.declared.step.Step.{Step}
-use Rattle.safe_pair.specs.Facts.{SideFact, MarkedFact, marked, marked_from}
-use Rattle.safe_pair.specs.Marks.{MarksGrow}
+use Rattle.safety_pair_laws.specs.Facts.{SideFact, MarkedFact, marked, marked_from}
+use Rattle.safety_pair_laws.specs.Marks.{MarksGrow}
 use Rattle.drill_model.specs.Outcomes.{Occurrence, facts_at, facts_in}
 use Rattle.drill_model.specs.Worlds.{Plan, World, Came, On, history_at, history_on, facts_on, then_world, world_step, new_world, world_run_from, world_run}
 use Rattle.drill_model.specs.Marks.{MarkedOccurrence, MarkedCame, mark_of, marks_behind, mark_came, marks_from}

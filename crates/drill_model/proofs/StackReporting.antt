@@ -7,7 +7,7 @@ use Rattle.er_base.specs.declared.cause.Cause.TheVariants.{User, BlockRefused, S
 use Rattle.er_base.specs.Causes.{release_of, by_this_end}
 use Rattle.des_block.specs.declared.triple_key.TripleKey.{TripleKey}
 use Rattle.hdlc_frames.specs.Framing.{Verdict}
-use Rattle.station_model.specs.Stations.{Deed as LinkDeed}
+use Rattle.hdlc_station_model.specs.Stations.{Deed as LinkDeed}
 use Rattle.t70_header.specs.Joining as joining
 use Rattle.x224_tpdu.specs.declared.fault.TpFault.{TpFault}
 use Rattle.x224_tpdu.specs.Spelling.{Pdu, connection_request, connection_confirm, disconnect_request, disconnect_confirm, data_tpdu, acknowledgement, tpdu_error}
@@ -29,9 +29,9 @@ use Rattle.safety_automaton.specs.Safety.{Safety, Phase, Ready, WaitAu1, WaitAu2
 use Rattle.safety_automaton.specs.Safety.{connects as begins_side, sends as sends_side, disconnects as disconnects_side}
 use Rattle.safety_automaton.specs.Safety as refused
 use Rattle.sapdu.specs.Messages.{is_message}
-use Rattle.end_model.specs.Layers.{Spoken, Core, model}
-use Rattle.end_model.specs.Steps.{Finds, begins_at, ends, gives, shuts, finishes, departs, cut_off, deserted, parts, why_of, spoken, is_some_octets, says, skips, Carrier, InCr, InCc, InDt, answers, keeps, acts, text_comes, does, block_at, is_ready, connects, comes_up, link_at, link_comes, gives_next, goes_on, offers, most_offers, concludes, starts, comes, sends_unless, uses, leaves, is_spent, di_of, time_at, ticks, normal_disconnect}
-use Rattle.end_model.specs.Ends as ends_of
+use Rattle.er_end_model.specs.Layers.{Spoken, Core, model}
+use Rattle.er_end_model.specs.Steps.{Finds, new_event_at, with_release, hand_tpdu, close_link, send_owed_answer, send_dr, answer_dr, end_after_di, on_safety_release, why_of, with_safety_step, is_some_octets, hand_text, skip_message, Carrier, InCr, InCc, InDt, hand_answer, keep_message, on_safety_report, on_text, on_transport_deed, on_joined_block, is_ready, connect_with_text, on_link_up, on_link_told, on_link_deed, hand_next_tpdu, has_next_tpdu, hand_waiting_tpdus, most_offers, conclude_event, step_start, step_frame, step_send_unless, step_take, step_release, is_spent, di_of, on_expiry, step_tick, normal_disconnect}
+use Rattle.er_end_model.specs.Ends as ends_of
 use Rattle.drill_model.specs.StackReports.{peer_by, user_by, Reports, ReportsAt, IsUnmet, AwaitsAu2, IsEarly, IsOrderly, OpensOrderly, CallsReport}
 
 abbrev Good : Core → Type 0
@@ -54,17 +54,17 @@ unless_released P (Some why) x y hx hy = hx
 vacuous : (x : Core) (why : Release) → x.released ≡ Some why → IsOrderly x
 vacuous x why is none = absurd (cc)
 
-departs_good : (why : Release) (reason : ℕ) (user : List ℕ) (x : Core) → ReportsAt x → Good (departs model why reason user x)
+departs_good : (why : Release) (reason : ℕ) (user : List ℕ) (x : Core) → ReportsAt x → Good (send_dr model why reason user x)
 departs_good why reason user x h =
-    (vacuous (departs model why reason user x) why refl, if_core (λ y. ReportsAt (ends why (shuts model y))) (model.may_send x.line) (gives model (Dr reason user) x) x h h)
+    (vacuous (send_dr model why reason user x) why refl, if_core (λ y. ReportsAt (with_release why (close_link model y))) (model.may_send x.line) (hand_tpdu model (Dr reason user) x) x h h)
 
-cut_off_good : (why : Release) (x : Core) → ReportsAt x → Good (cut_off model why x)
+cut_off_good : (why : Release) (x : Core) → ReportsAt x → Good (answer_dr model why x)
 cut_off_good why x h =
-    (vacuous (cut_off model why x) why refl, if_core (λ y. ReportsAt (ends why (finishes model y))) (model.may_send x.line) (gives model Dc x) x h h)
+    (vacuous (answer_dr model why x) why refl, if_core (λ y. ReportsAt (with_release why (send_owed_answer model y))) (model.may_send x.line) (hand_tpdu model Dc x) x h h)
 
-parts_good : (why : Release) (di : List ℕ) (x : Core) → ReportsAt x → Good (parts model why di x)
+parts_good : (why : Release) (di : List ℕ) (x : Core) → ReportsAt x → Good (on_safety_release model why di x)
 parts_good why di x h =
-    if_core Good why.by_peer (deserted model why x) (departs model why normal_disconnect di x) (vacuous (deserted model why x) why refl, h)
+    if_core Good why.by_peer (end_after_di model why x) (send_dr model why normal_disconnect di x) (vacuous (end_after_di model why x) why refl, h)
     (departs_good why normal_disconnect di x h)
 
 -- an open transport
@@ -83,12 +83,12 @@ some_spelled pdu flag = some_cons (header pdu flag) (body pdu)
 -- an answer goes down, and tells nothing
 answers_tell : (P : KeptSafe → Option ℕ → Option (List ℕ) → Option Spoken → Type 0) (carrier : Carrier) (text : List ℕ) (x : Core)
     → P x.safe x.connected x.upper.news x.upper.spoke
-    → let y = answers model carrier text x in P y.safe y.connected y.upper.news y.upper.spoke
+    → let y = hand_answer model carrier text x in P y.safe y.connected y.upper.news y.upper.spoke
 answers_tell P InCr text x h = if_core (λ y. P y.safe y.connected y.upper.news y.upper.spoke) (is_some_octets text) (record x { upper = model.accepts x.upper text }) x h h
 answers_tell P InCc text x h =
     if_core (λ y. P y.safe y.connected y.upper.news y.upper.spoke) (is_some_octets text && model.may_hand x.upper) (record x { upper = model.hands_message x.upper text }) x h h
 answers_tell P InDt text x h =
-    let y : Core = skips model x in
+    let y : Core = skip_message model x in
     if_core (λ y. P y.safe y.connected y.upper.news y.upper.spoke) (is_some_octets text && model.may_hand y.upper) (record y { upper = model.hands_message y.upper text }) y h h
 
 -- the transport is open behind it: it was, or the call is accepted
@@ -97,14 +97,14 @@ StageFits InCr text x = is_some_octets text ≡ true
 StageFits InCc text x = x.upper.transport.stage ≡ stage.Open
 StageFits InDt text x = x.upper.transport.stage ≡ stage.Open
 
-answers_open : (carrier : Carrier) (text : List ℕ) (x : Core) → StageFits carrier text x → (answers model carrier text x).upper.transport.stage ≡ stage.Open
+answers_open : (carrier : Carrier) (text : List ℕ) (x : Core) → StageFits carrier text x → (hand_answer model carrier text x).upper.transport.stage ≡ stage.Open
 answers_open InCr text x some =
     if_known (λ y. y.upper.transport.stage ≡ stage.Open) (is_some_octets text) (record x { upper = model.accepts x.upper text }) x (λ yes_some. refl)
     (λ not_some. absurd (cc))
 answers_open InCc text x is =
     if_core (λ y. y.upper.transport.stage ≡ stage.Open) (is_some_octets text && model.may_hand x.upper) (record x { upper = model.hands_message x.upper text }) x is is
 answers_open InDt text x is =
-    let y : Core = skips model x in
+    let y : Core = skip_message model x in
     if_core (λ y. y.upper.transport.stage ≡ stage.Open) (is_some_octets text && model.may_hand y.upper) (record y { upper = model.hands_message y.upper text }) y is is
 
 -- what may come so
@@ -122,7 +122,7 @@ abbrev HasKeys : Safety → SafetyOutcome → Type 0
 HasKeys s o = (session : TripleKey) → keys_of o ≡ Some session → session_in s.phase ≡ Some session
 
 abbrev after_step : SafetyEvent → Safety → SafetyOutcome → Core → Core
-after_step event s o x = spoken model event (s, o) x
+after_step event s o x = with_safety_step model event (s, o) x
 
 -- an outcome by which no one is connected and nothing accepted
 step_reports : (event : SafetyEvent) (s : Safety) (o : SafetyOutcome) (x : Core) → x.connected ≡ peer_by o → x.upper.news ≡ user_by o → HasKeys s o
@@ -132,18 +132,18 @@ step_reports event s o x connected news keys = record { sealed_is = refl; verifi
 module _ (event : SafetyEvent) (s : Safety) (x : Core) (none : x.connected ≡ None) (no_news : x.upper.news ≡ None) where
   -- an answer goes down
   answered_good : (carrier : Carrier) (o : SafetyOutcome) (text : List ℕ) → peer_by o ≡ None → user_by o ≡ None → StageFits carrier text (after_step event s o x) → HasKeys s o
-      → Good (answers model carrier text (after_step event s o x))
+      → Good (hand_answer model carrier text (after_step event s o x))
   answered_good carrier o text no_peer no_user fits keys = (
-    open_orderly (answers model carrier text (after_step event s o x)) (answers_open carrier text (after_step event s o x) fits),
+    open_orderly (hand_answer model carrier text (after_step event s o x)) (answers_open carrier text (after_step event s o x) fits),
     answers_tell Reports carrier text (after_step event s o x) (step_reports event s o x (none ∙ sym no_peer) (no_news ∙ sym no_user) keys),
   )
 
   -- and the side is connected
   connected_good : (carrier : Carrier) (o : SafetyOutcome) (peer : ℕ) (text : List ℕ) → peer_by o ≡ Some peer → user_by o ≡ None
       → StageFits carrier text (after_step event s o x) → HasKeys s o
-      → Good (record (answers model carrier text (after_step event s o x)) { connected = Some peer })
+      → Good (record (hand_answer model carrier text (after_step event s o x)) { connected = Some peer })
   connected_good carrier o peer text is_peer no_user fits keys =
-      let y : Core = record (answers model carrier text (after_step event s o x)) { connected = Some peer } in (
+      let y : Core = record (hand_answer model carrier text (after_step event s o x)) { connected = Some peer } in (
         open_orderly y (answers_open carrier text (after_step event s o x) fits),
         answers_tell (λ safe connected news spoke. Reports safe (Some peer) news spoke) carrier text (after_step event s o x)
             (record { sealed_is = refl; verified_is = refl; connected_is = sym is_peer; accepted_is = no_news ∙ sym no_user; keys_are = keys }),
@@ -156,14 +156,14 @@ module _ (event : SafetyEvent) (s : Safety) (x : Core) (none : x.connected ≡ N
   ignored_good o is no_peer no_user keys = (open_orderly (after_step event s o x) is, quiet o no_peer no_user keys)
 
   acts_good : (carrier : Carrier) (o : SafetyOutcome) → MayCome carrier x o → HasKeys s o
-      → Good (acts model carrier (report_of o) (sent_by o) (after_step event s o x))
+      → Good (on_safety_report model carrier (report_of o) (sent_by o) (after_step event s o x))
   acts_good InCr (SentAu2 session sealed octets) may keys = answered_good InCr (SentAu2 session sealed octets) octets refl refl may keys
   acts_good carrier (ReleasedLocally release octets) may keys = parts_good release octets (after_step event s (ReleasedLocally release octets) x) (quiet (ReleasedLocally release octets) refl refl keys)
   acts_good carrier (ReleasedByPeer release) may keys = parts_good release [] (after_step event s (ReleasedByPeer release) x) (quiet (ReleasedByPeer release) refl refl keys)
   acts_good InCr o may keys = absurd may
   acts_good InCc (AcceptedDt session user verified) may keys = absurd may
   acts_good InDt (AcceptedDt session user verified) may keys = (
-    open_orderly (keeps model InDt user (after_step event s (AcceptedDt session user verified) x)) may,
+    open_orderly (keep_message model InDt user (after_step event s (AcceptedDt session user verified) x)) may,
     record { sealed_is = refl; verified_is = refl; connected_is = none; accepted_is = refl; keys_are = keys },
   )
   acts_good InCc (SentAu1 octets) may keys = ignored_good (SentAu1 octets) may refl refl keys
@@ -237,7 +237,7 @@ module _ (only : StepsOnly) (own : KeysAreOwn) where
   Silent x = (x.connected ≡ None) × (x.upper.news ≡ None) × ReportsAt x
 
   text_good : (finds : Finds) (carrier : Carrier) (text : List ℕ) (x : Core) → SideFits carrier x.safe.safety.phase → StageComes carrier x → Silent x
-      → Good (text_comes model finds carrier text x)
+      → Good (on_text model finds carrier text x)
   text_good finds carrier text x side is silent =
       let key_of : ℕ → ℕ → Option TripleKey = finds x.moment in
       let a : Safety × SafetyOutcome = step key_of x.safe.safety (Received text) in
@@ -368,33 +368,33 @@ same_orderly : (x y : Core) → y.released ≡ x.released → y.upper.transport.
 same_orderly x y released staged phased h none =
     subst (λ (p : Phase). IsEarly y.upper.transport.stage p) (sym phased) (subst (λ (st : Stage). IsEarly st x.safe.safety.phase) (sym staged) (h (sym released ∙ none)))
 
-offers_good : (n : ℕ) (x : Core) → Good x → Good (offers model n x)
-unfolding offers
+offers_good : (n : ℕ) (x : Core) → Good x → Good (hand_waiting_tpdus model n x)
+unfolding hand_waiting_tpdus
 offers_good zero x h = h
 offers_good (suc n) x h =
-    if_core Good (goes_on model x) (offers model n (gives_next model x)) x
-    (offers_good n (gives_next model x) (same_orderly x (gives_next model x) refl (next_stage x.upper.transport) refl h.0, h.1)) h
+    if_core Good (has_next_tpdu model x) (hand_waiting_tpdus model n (hand_next_tpdu model x)) x
+    (offers_good n (hand_next_tpdu model x) (same_orderly x (hand_next_tpdu model x) refl (next_stage x.upper.transport) refl h.0, h.1)) h
 
-concludes_good : (x : Core) → Good x → Good (concludes model x)
+concludes_good : (x : Core) → Good x → Good (conclude_event model x)
 concludes_good x h =
-    if_core Good (is_some x.released) x (finishes model (offers model most_offers x)) h (offers_good most_offers x h)
+    if_core Good (is_some x.released) x (send_owed_answer model (hand_waiting_tpdus model most_offers x)) h (offers_good most_offers x h)
 
-begun_reports : (now : ℕ) (x : Core) → ReportsAt (begins_at model now x)
+begun_reports : (now : ℕ) (x : Core) → ReportsAt (new_event_at model now x)
 begun_reports now x = record { sealed_is = refl; verified_is = refl; connected_is = refl; accepted_is = refl; keys_are = λ session none. absurd (cc) }
 
-begun_good : (now : ℕ) (x : Core) → IsOrderly x → Good (begins_at model now x)
-begun_good now x h = (same_orderly x (begins_at model now x) refl refl refl h, begun_reports now x)
+begun_good : (now : ℕ) (x : Core) → IsOrderly x → Good (new_event_at model now x)
+begun_good now x h = (same_orderly x (new_event_at model now x) refl refl refl h, begun_reports now x)
 
-starts_good : (now : ℕ) (x : Core) → IsOrderly x → Good (starts model now x)
+starts_good : (now : ℕ) (x : Core) → IsOrderly x → Good (step_start model now x)
 starts_good now x h =
-    let y : Core = begins_at model now x in
+    let y : Core = new_event_at model now x in
     let z : Core = record y { line = model.starts y.moment y.line } in
-    if_core Good (is_some y.released) y (concludes model z) (begun_good now x h) (concludes_good z (begun_good now x h))
+    if_core Good (is_some y.released) y (conclude_event model z) (begun_good now x h) (concludes_good z (begun_good now x h))
 
 module _ (only : StepsOnly) (own : KeysAreOwn) where
   -- what the transport made of it
   does_good : (finds : Finds) (deed : Deed) (x : Core) (old : Stage) → Turned old x.upper.transport.stage deed → IsEarly old x.safe.safety.phase → x.released ≡ None
-      → (x.connected ≡ None) × (x.upper.news ≡ None) × ReportsAt x → Good (does model finds deed x)
+      → (x.connected ≡ None) × (x.upper.news ≡ None) × ReportsAt x → Good (on_transport_deed model finds deed x)
   does_good finds Nothing x old turned early live silent = (λ none. subst (λ (st : Stage). IsEarly st x.safe.safety.phase) (sym turned) early, silent.2)
   does_good finds (Called user) x old turned early live silent =
       text_good only own finds InCr user x (subst (λ (st : Stage). IsEarly st x.safe.safety.phase) turned early) tt silent
@@ -405,7 +405,7 @@ module _ (only : StepsOnly) (own : KeysAreOwn) where
   does_good finds (transport.Refused sub reason) x old turned early live silent = departs_good (by_this_end 2 sub) reason [] x silent.2
 
   block_good : (finds : Finds) (answer : joining.Answer) (x : Core) → IsOrderly x → x.released ≡ None
-      → (x.connected ≡ None) × (x.upper.news ≡ None) × ReportsAt x → Good (block_at model finds answer x)
+      → (x.connected ≡ None) × (x.upper.news ≡ None) × ReportsAt x → Good (on_joined_block model finds answer x)
   block_good finds (Ok None) x orderly live silent = (orderly, silent.2)
   block_good finds (Ok (Some tpdu)) x orderly live silent =
       does_good finds (model.deed x.upper tpdu) (record x { upper = model.hears x.upper tpdu }) x.upper.transport.stage (reception_turns x.upper.transport tpdu) (orderly live) live silent
@@ -413,7 +413,7 @@ module _ (only : StepsOnly) (own : KeysAreOwn) where
 
   -- the caller connects
   connect_good : (x : Core) (phase : Phase) → is_ready phase ≡ true → (x.connected ≡ None) × (x.upper.news ≡ None) × ReportsAt x
-      → let a = begins_side x.safe.safety phase in Good (connects model (sent_by a.1) (spoken model ConnectRequest a x))
+      → let a = begins_side x.safe.safety phase in Good (connect_with_text model (sent_by a.1) (with_safety_step model ConnectRequest a x))
   connect_good x (Ready peer kmac rb) ready silent =
       let s : Safety = record (x.safe.safety) { phase = WaitAu2 peer kmac rb } in
       let octets : List ℕ = spelling (Au1 x.safe.safety.me 1 rb) (flag_of x.safe.safety.role) in
@@ -431,27 +431,27 @@ module _ (only : StepsOnly) (own : KeysAreOwn) where
   connect_good x (Connected peer session) ready silent = absurd (cc)
   connect_good x (Released release session) ready silent = absurd (cc)
 
-  comes_up_good : (x : Core) → IsOrderly x → (x.connected ≡ None) × (x.upper.news ≡ None) × ReportsAt x → Good (comes_up model x)
+  comes_up_good : (x : Core) → IsOrderly x → (x.connected ≡ None) × (x.upper.news ≡ None) × ReportsAt x → Good (on_link_up model x)
   comes_up_good x orderly silent =
       if_known Good (model.may_connect x.upper && is_ready x.safe.safety.phase)
-      (connects model (sent_by (step no_keys x.safe.safety ConnectRequest).1) (spoken model ConnectRequest (step no_keys x.safe.safety ConnectRequest) x)) x
+      (connect_with_text model (sent_by (step no_keys x.safe.safety ConnectRequest).1) (with_safety_step model ConnectRequest (step no_keys x.safe.safety ConnectRequest) x)) x
       (λ may. connect_good x x.safe.safety.phase (and_parts (model.may_connect x.upper) (is_ready x.safe.safety.phase) may).1 silent) (λ not_may. (orderly, silent.2))
 
   link_good : (finds : Finds) (payload : Option (List ℕ)) (up : Bool) (why : Option Release) (x : Core) → IsOrderly x → x.released ≡ None
-      → (x.connected ≡ None) × (x.upper.news ≡ None) × ReportsAt x → Good (link_at model finds payload up why x)
+      → (x.connected ≡ None) × (x.upper.news ≡ None) × ReportsAt x → Good (on_link_told model finds payload up why x)
   link_good finds (Some payload) up why x orderly live silent =
       block_good finds (joining.step x.joined payload).1 (record x { joined = (joining.step x.joined payload).0 }) orderly live silent
   link_good finds None true why x orderly live silent = comes_up_good x orderly silent
-  link_good finds None false (Some why) x orderly live silent = (vacuous (ends why x) why refl, silent.2)
+  link_good finds None false (Some why) x orderly live silent = (vacuous (with_release why x) why refl, silent.2)
   link_good finds None false None x orderly live silent = (orderly, silent.2)
 
-  comes_good : (finds : Finds) (now : ℕ) (verdict : Verdict) (x : Core) → IsOrderly x → Good (comes model finds now verdict x)
+  comes_good : (finds : Finds) (now : ℕ) (verdict : Verdict) (x : Core) → IsOrderly x → Good (step_frame model finds now verdict x)
   comes_good finds now verdict x h =
-      let y : Core = begins_at model now x in
+      let y : Core = new_event_at model now x in
       let z : Core = record y { line = model.receives y.moment verdict y.line } in
       let deed : LinkDeed = model.told y.moment verdict y.line in
-      unless_released Good y.released y (concludes model (link_comes model finds deed z)) (begun_good now x h)
-      (λ live. concludes_good (link_comes model finds deed z)
+      unless_released Good y.released y (conclude_event model (on_link_deed model finds deed z)) (begun_good now x h)
+      (λ live. concludes_good (on_link_deed model finds deed z)
       (link_good finds deed.payload deed.up deed.released z (begun_good now x h).0 live (refl, refl, begun_reports now x)))
 
   -- a send leaves the side as it is, and tells no peer and no message
@@ -471,26 +471,26 @@ module _ (only : StepsOnly) (own : KeysAreOwn) where
   send_quiet s (WaitAu3 connection) user = (refl, refl, refl)
   send_quiet s (WaitAr connection) user = (refl, refl, refl)
 
-  says_good : (text : List ℕ) (x : Core) → Good x → Good (says model text x)
+  says_good : (text : List ℕ) (x : Core) → Good x → Good (hand_text model text x)
   says_good text x h = if_core Good (is_some_octets text && model.may_hand x.upper) (record x { upper = model.hands_message x.upper text }) x h h
 
-  sends_good : (now : ℕ) (user : List ℕ) (x : Core) → IsOrderly x → Good (sends_unless model None now user x)
+  sends_good : (now : ℕ) (user : List ℕ) (x : Core) → IsOrderly x → Good (step_send_unless model None now user x)
   sends_good now user x h =
-      let y : Core = begins_at model now x in
+      let y : Core = new_event_at model now x in
       let s : Safety = y.safe.safety in
       let a : Safety × SafetyOutcome = step no_keys s (DataRequest user) in
-      let z : Core = record (spoken model (DataRequest user) a y) { upper = model.sends (spoken model (DataRequest user) a y).upper user } in
+      let z : Core = record (with_safety_step model (DataRequest user) a y) { upper = model.sends (with_safety_step model (DataRequest user) a y).upper user } in
       let quiet = send_quiet s s.phase user in
-      concludes_good (says model (sent_by a.1) z) (says_good (sent_by a.1) z (
+      concludes_good (hand_text model (sent_by a.1) z) (says_good (sent_by a.1) z (
         same_orderly y z refl refl (ap (λ (t : Safety). t.phase) quiet.0) (begun_good now x h).0,
         step_reports (DataRequest user) a.0 a.1 y (sym quiet.1) (sym quiet.2) (own no_keys s (DataRequest user)),
       ))
 
-  uses_good : (now : ℕ) (x : Core) → IsOrderly x → Good (uses model now x)
+  uses_good : (now : ℕ) (x : Core) → IsOrderly x → Good (step_take model now x)
   uses_good now x h =
-      let y : Core = begins_at model now x in
+      let y : Core = new_event_at model now x in
       let z : Core = record y { upper = model.uses y.upper } in
-      if_core Good (model.untaken y.upper == 0) y (concludes model z) (begun_good now x h) (concludes_good z (begun_good now x h))
+      if_core Good (model.untaken y.upper == 0) y (conclude_event model z) (begun_good now x h) (concludes_good z (begun_good now x h))
 
   leave_quiet : (s : Safety) (phase : Phase) (sub : ℕ) → let a = disconnects_side s phase sub in (peer_by a.1 ≡ None) × (user_by a.1 ≡ None)
   leave_quiet s (Released release session) sub = (refl, refl)
@@ -501,30 +501,30 @@ module _ (only : StepsOnly) (own : KeysAreOwn) where
   leave_quiet s (WaitAr connection) sub = (refl, refl)
   leave_quiet s (Connected peer session) sub = (refl, refl)
 
-  leaves_good : (now sub : ℕ) (x : Core) → IsOrderly x → Good (leaves model now sub x)
+  leaves_good : (now sub : ℕ) (x : Core) → IsOrderly x → Good (step_release model now sub x)
   leaves_good now sub x h =
-      let y : Core = begins_at model now x in
+      let y : Core = new_event_at model now x in
       let s : Safety = y.safe.safety in
       let a : Safety × SafetyOutcome = step no_keys s (DisconnectRequest sub) in
-      let z : Core = spoken model (DisconnectRequest sub) a y in
+      let z : Core = with_safety_step model (DisconnectRequest sub) a y in
       let quiet = leave_quiet s s.phase sub in
-      if_core Good (is_some y.released) y (departs model (release_of (User sub)) normal_disconnect (sent_by a.1) z) (begun_good now x h)
+      if_core Good (is_some y.released) y (send_dr model (release_of (User sub)) normal_disconnect (sent_by a.1) z) (begun_good now x h)
       (departs_good (release_of (User sub)) normal_disconnect (sent_by a.1) z
       (step_reports (DisconnectRequest sub) a.0 a.1 y (sym quiet.0) (sym quiet.1) (own no_keys s (DisconnectRequest sub))))
 
-  time_good : (why : Option Release) (x : Core) → Good x → Good (time_at model why x)
-  time_good (Some why) x h = (vacuous (ends why x) why refl, h.1)
+  time_good : (why : Option Release) (x : Core) → Good x → Good (on_expiry model why x)
+  time_good (Some why) x h = (vacuous (with_release why x) why refl, h.1)
   time_good None x h =
       let why : Release = release_of SetUpTimeSpent in
-      if_core Good (is_spent x) (departs model why normal_disconnect (di_of why x.safe.safety) x) x (departs_good why normal_disconnect (di_of why x.safe.safety) x h.1) h
+      if_core Good (is_spent x) (send_dr model why normal_disconnect (di_of why x.safe.safety) x) x (departs_good why normal_disconnect (di_of why x.safe.safety) x h.1) h
 
-  ticks_good : (now : ℕ) (x : Core) → IsOrderly x → Good (ticks model now x)
+  ticks_good : (now : ℕ) (x : Core) → IsOrderly x → Good (step_tick model now x)
   ticks_good now x h =
-      let y : Core = begins_at model now x in
+      let y : Core = new_event_at model now x in
       let z : Core = record y { line = model.ticks y.moment y.line } in
       let why : Option Release = model.given_up y.moment y.line in
-      if_core Good (is_some y.released) y (concludes model (time_at model why z)) (begun_good now x h)
-      (concludes_good (time_at model why z) (time_good why z (begun_good now x h)))
+      if_core Good (is_some y.released) y (conclude_event model (on_expiry model why z)) (begun_good now x h)
+      (concludes_good (on_expiry model why z) (time_good why z (begun_good now x h)))
 
   pub calls_report : CallsReport
   calls_report x h = (

@@ -5,13 +5,14 @@ use Rattle.std.specs.Prelude.{ℕ, Bool, List, [], ◌∷◌, ◌++◌, Option, 
 use Rattle.des_block.specs.declared.triple_key.TripleKey.{TripleKey}
 use Rattle.safety_automaton.specs.Safety.{Safety, SafetyEvent, ConnectRequest, Received, DataRequest, DisconnectRequest, Refusal, SafetyOutcome, SentAu1, SentAu2, SentAu3, SentAr, ReceivedAr, AcceptedDt, SentDt, ReleasedLocally, ReleasedByPeer, NothingDone}
 use Rattle.safety_automaton.specs.Safety as safety
-use Rattle.safe_pair.specs.Facts.{Sent, Sealed, Verified, Connected, Accepted, heard_in}
-use Rattle.station_model.specs.Stations.{Station}
-use Rattle.station_model.specs.Events.{news}
-use Rattle.end_model.specs.Ends.{End as Stack}
-use Rattle.drill_model.specs.StackEnds.{stack_begins, stack_hears, stack_sends, stack_takes, stack_releases, stack_ticks}
-use Rattle.drill_model.specs.StationEnds.{begins, frames_heard, user_sends, user_releases, time_goes_on}
-use Rattle.drill_model.specs.Outcomes.{SendRefusal, RefusedReleased, RefusedNotConnected, RefusedLength, Outcome, OfSafety, Refused, Released, Frame}
+use Rattle.safety_pair_laws.specs.Facts.{Sent, Sealed, Verified, Connected, Accepted, heard_in}
+use Rattle.hdlc_station_model.specs.Stations.{Station}
+use Rattle.hdlc_station_model.specs.Events.{news}
+use Rattle.er_end_model.specs.Ends.{End as Stack}
+use Rattle.drill_model.specs.StackEnds.{stack_start, stack_hear, stack_send, stack_take, stack_release, stack_tick}
+use Rattle.drill_model.specs.StationEnds.{station_start, frames_heard, station_send, station_release, station_tick}
+use Rattle.er_end_model.specs.Outcomes.{SendRefusal, RefusedReleased, RefusedNotConnected, RefusedLength}
+use Rattle.drill_model.specs.Outcomes.{Outcome, OfSafety, Refused, Released, Frame}
 
 -- what is given to an end
 pub data EndEvent : Type 0 where
@@ -82,12 +83,12 @@ station_end selective stream a = (OfStation selective a.0 stream, a.1)
 
 -- octets go on from the stream before them, so a frame may begin in one piece and close in another; a station has no messages to take
 abbrev pub station_end_step : (selective : Bool) (moment : ℕ) → Station → (stream : List ℕ) → EndEvent → End × List Outcome
-station_end_step selective moment s stream Start = station_end selective stream (begins moment s)
+station_end_step selective moment s stream Start = station_end selective stream (station_start moment s)
 station_end_step selective moment s stream (Receive octets) = station_end selective (stream ++ octets) (frames_heard selective moment (news stream octets) s)
-station_end_step selective moment s stream (Send payload) = station_end selective stream (user_sends moment payload s)
+station_end_step selective moment s stream (Send payload) = station_end selective stream (station_send moment payload s)
 station_end_step selective moment s stream Take = station_end selective stream (s, [])
-station_end_step selective moment s stream (Release sub) = station_end selective stream (user_releases sub s)
-station_end_step selective moment s stream Tick = station_end selective stream (time_goes_on moment s)
+station_end_step selective moment s stream (Release sub) = station_end selective stream (station_release sub s)
+station_end_step selective moment s stream Tick = station_end selective stream (station_tick moment s)
 
 -- ---- level full
 
@@ -97,12 +98,12 @@ stack_end a = (OfStack a.0, a.1)
 
 -- a stack that looks KMACs up so, at every moment
 abbrev pub stack_end_step : (ℕ → ℕ → Option TripleKey) → (moment : ℕ) → Stack → EndEvent → End × List Outcome
-stack_end_step key_of moment m Start = stack_end (stack_begins moment m)
-stack_end_step key_of moment m (Receive octets) = stack_end (stack_hears (λ now. key_of) moment octets m)
-stack_end_step key_of moment m (Send user) = stack_end (stack_sends moment user m)
-stack_end_step key_of moment m Take = stack_end (stack_takes moment m)
-stack_end_step key_of moment m (Release sub) = stack_end (stack_releases moment sub m)
-stack_end_step key_of moment m Tick = stack_end (stack_ticks moment m)
+stack_end_step key_of moment m Start = stack_end (stack_start moment m)
+stack_end_step key_of moment m (Receive octets) = stack_end (stack_hear (λ now. key_of) moment octets m)
+stack_end_step key_of moment m (Send user) = stack_end (stack_send moment user m)
+stack_end_step key_of moment m Take = stack_end (stack_take moment m)
+stack_end_step key_of moment m (Release sub) = stack_end (stack_release moment sub m)
+stack_end_step key_of moment m Tick = stack_end (stack_tick moment m)
 
 -- ---- any level
 

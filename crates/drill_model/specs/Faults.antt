@@ -1,6 +1,6 @@
 -- Why a step of a world isn't done: it is refused, or too many frames would wait (this profile). The step itself is total; its faults are
 -- told beside it.
-use Rattle.std.specs.Prelude.{ℕ, zero, suc, ◌+◌, nat_lt, if◌then◌else◌, List, Option, Some, None}
+use Rattle.std.specs.Prelude.{ℕ, zero, suc, ◌+◌, ◌≡◌, ◌<◌, nat_lt, if◌then◌else◌, List, take, slice_get, Option, Some, None}
 use Rattle.er_base.specs.declared.side.Side.{Side}
 use Rattle.er_scenario.specs.declared.step.Step.{Step}
 use Rattle.er_scenario.specs.declared.step.Step.TheVariants as does
@@ -69,3 +69,7 @@ fault_of plan w s = or_else (refusal w s) (overfull_of (world_step plan w s).0)
 -- the same behind the steps before it
 abbrev pub fault_behind : Plan → List Step → Step → Option WorldFault
 fault_behind plan before s = fault_of plan (world_run plan before).0 s
+
+-- the first steps of a list are all done
+abbrev pub AllDone : Plan → List Step → (count : ℕ) → Type 0
+AllDone plan steps count = (k : ℕ) (s : Step) → k < count → slice_get steps k ≡ Some s → fault_behind plan (take k steps) s ≡ None

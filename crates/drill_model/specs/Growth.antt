@@ -1,7 +1,7 @@
 -- How a run, its marks and its text grow by steps: what the definitions imply, for whoever follows a run step by step.
 use Rattle.std.specs.Prelude.{ℕ, ◌≡◌, Bool, List, [], ◌∷◌, ◌++◌, map}
 use Rattle.er_scenario.specs.declared.step.Step.{Step}
-use Rattle.safe_pair.specs.Facts.{MarkedFact, marked, marked_from}
+use Rattle.safety_pair_laws.specs.Facts.{MarkedFact, marked, marked_from}
 use Rattle.drill_model.specs.Outcomes.{Occurrence, facts_in}
 use Rattle.drill_model.specs.Worlds.{Plan, Came, On, history_on, facts_on, then_world, world_step, world_run}
 use Rattle.drill_model.specs.Marks.{marks_behind, marks_from}

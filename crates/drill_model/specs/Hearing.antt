@@ -5,15 +5,15 @@ use Rattle.std.specs.List.{flat_map}
 use Rattle.er_base.specs.declared.side.Side.{Side}
 use Rattle.er_base.specs.Sides.{other}
 use Rattle.des_block.specs.declared.triple_key.TripleKey.{TripleKey}
-use Rattle.er_settings.specs.declared.settings.Settings.{Settings}
+use Rattle.er_settings.specs.Values.{Settings}
 use Rattle.er_scenario.specs.declared.step.Step.{Step}
 use Rattle.hdlc_frames.specs.Framing.{Verdict}
-use Rattle.safe_pair.specs.Facts.{Fact, Sent, Sealed, Verified, Connected, Accepted, is_side}
-use Rattle.end_model.specs.Layers.{model}
-use Rattle.end_model.specs.Steps.{begins_at}
-use Rattle.end_model.specs.Ends.{End as Stack, hears_each}
-use Rattle.station_model.specs.Events as station_events
-use Rattle.end_model.specs.Hearing.{IsTextOf}
+use Rattle.safety_pair_laws.specs.Facts.{Fact, Sent, Sealed, Verified, Connected, Accepted, is_side}
+use Rattle.er_end_model.specs.Layers.{model}
+use Rattle.er_end_model.specs.Steps.{new_event_at}
+use Rattle.er_end_model.specs.Ends.{End as Stack, hears_each}
+use Rattle.hdlc_station_model.specs.Events as station_events
+use Rattle.er_end_model.specs.Hearing.{IsTextOf}
 use Rattle.drill_model.specs.Outcomes.{OfSafety, Passed, Occurrence, at_end}
 use Rattle.drill_model.specs.Ends.{End, OfSafe, OfStation, OfStack}
 use Rattle.drill_model.specs.Links.{Link, end_of, key_on, LinkStep, life}
@@ -39,7 +39,7 @@ pub record IsMade (keys : (engine rbc : ℕ) → Option TripleKey) (moment : ℕ
   pub verdict : Verdict
   pub later : List Verdict
   pub frames : station_events.news earlier octets ≡ first ++ verdict ∷ later
-  pub made : IsTextOf (hears_each (λ now. keys) moment first (begins_at model moment m.core)) moment verdict text
+  pub made : IsTextOf (hears_each (λ now. keys) moment first (new_event_at model moment m.core)) moment verdict text
 
 -- what an end hears of the octets that are passed to it; a station has no safety layer
 abbrev pub IsHeard : (keys : (engine rbc : ℕ) → Option TripleKey) (moment : ℕ) → End → (earlier octets heard : List ℕ) → Type 0

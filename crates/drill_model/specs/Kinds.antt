@@ -5,12 +5,12 @@ use Rattle.std.specs.List.{flat_map, list_any}
 use Rattle.er_base.specs.declared.side.Side.{Side}
 use Rattle.er_base.specs.declared.side.Side.TheVariants.{E, R}
 use Rattle.er_base.specs.declared.release.Release.{Release}
-use Rattle.er_settings.specs.declared.settings.Settings.{Settings}
-use Rattle.safe_pair.specs.Facts.{is_side}
-use Rattle.safe_pair.specs.Openings.{Agrees}
-use Rattle.safe_pair.specs.Deliveries as pair
-use Rattle.station_model.specs.Lines.{station_bound}
-use Rattle.end_model.specs.Bounds.{end_bound}
+use Rattle.er_settings.specs.Values.{Settings}
+use Rattle.safety_pair_laws.specs.Facts.{is_side}
+use Rattle.safety_pair_laws.specs.Openings.{Agrees}
+use Rattle.safety_pair_laws.specs.Deliveries as pair
+use Rattle.hdlc_station_model.specs.Lines.{station_bound}
+use Rattle.er_end_model.specs.Bounds.{end_bound}
 use Rattle.drill_model.specs.Outcomes.{Outcome, OfSafety, Handed, Arrived, Up, Took, NothingToTake, Refused, Released, Frame, Expired, UserReleased, Passed, Lost, Repeated, Altered, Inserted, NothingWaits, IsShort, Occurrence}
 use Rattle.drill_model.specs.Links.{LinkOpening, OfPair, OfStations, OfStacks}
 
@@ -146,48 +146,22 @@ deliveries history = length (flat_map (λ o. passed_in o.outcome) history)
 
 -- a frame was lost, repeated, altered or inserted, a user was told to release, or a tick found an expired timer
 abbrev pub is_disturbance : Outcome → Bool
-is_disturbance (OfSafety fact) = false
-is_disturbance (Handed payload) = false
-is_disturbance (Arrived payload) = false
-is_disturbance Up = false
-is_disturbance (Took message) = false
-is_disturbance NothingToTake = false
-is_disturbance (Refused refusal) = false
-is_disturbance (Released release) = false
-is_disturbance (Frame octets) = false
 is_disturbance Expired = true
 is_disturbance (UserReleased sub) = true
-is_disturbance (Passed octets) = false
 is_disturbance Lost = true
 is_disturbance Repeated = true
 is_disturbance Altered = true
 is_disturbance Inserted = true
-is_disturbance NothingWaits = false
-is_disturbance (IsShort found) = false
+is_disturbance other = false
 
 abbrev pub is_disturbed : List Occurrence → Bool
 is_disturbed history = list_any (λ o. is_disturbance o.outcome) history
 
 -- a frame was altered or inserted
 abbrev pub is_disorder : Outcome → Bool
-is_disorder (OfSafety fact) = false
-is_disorder (Handed payload) = false
-is_disorder (Arrived payload) = false
-is_disorder Up = false
-is_disorder (Took message) = false
-is_disorder NothingToTake = false
-is_disorder (Refused refusal) = false
-is_disorder (Released release) = false
-is_disorder (Frame octets) = false
-is_disorder Expired = false
-is_disorder (UserReleased sub) = false
-is_disorder (Passed octets) = false
-is_disorder Lost = false
-is_disorder Repeated = false
 is_disorder Altered = true
 is_disorder Inserted = true
-is_disorder NothingWaits = false
-is_disorder (IsShort found) = false
+is_disorder other = false
 
 abbrev pub is_disordered : List Occurrence → Bool
 is_disordered history = list_any (λ o. is_disorder o.outcome) history

@@ -8,8 +8,9 @@ use Rattle.er_scenario.specs.declared.level.Level.TheVariants.{Safe}
 use Rattle.er_scenario.specs.declared.step.Step.{Step}
 use Rattle.er_scenario.specs.declared.step.Step.TheVariants as does
 use Rattle.drill_model.specs.declared.world_fault.WorldFault.TheVariants.{NoLink, LinkTwice, MomentBack}
-use Rattle.drill_model.specs.Outcomes.{RefusedNotConnected, RefusedLength, RefusedReleased, Refused, Released, Frame, UserReleased, Passed, Lost, Repeated, Altered, Inserted, NothingWaits, IsShort, at_end}
-use Rattle.drill_model.specs.Worlds.{Plan, On, Drained, drain, ticks, world_run}
+use Rattle.er_end_model.specs.Outcomes.{RefusedNotConnected, RefusedLength, RefusedReleased}
+use Rattle.drill_model.specs.Outcomes.{Refused, Released, Frame, UserReleased, Passed, Lost, Repeated, Altered, Inserted, NothingWaits, IsShort, at_end}
+use Rattle.drill_model.specs.Worlds.{Plan, On, Drained, drain, tick_each_link, world_run}
 use Rattle.drill_model.specs.Faults.{fault_behind}
 
 abbrev plan : Plan
@@ -64,5 +65,5 @@ pub known_number : fault_behind plan (fixed ∷ []) (does.Fixed 65 5 9 key key) 
 known_number = refl
 
 pub known_back : fault_behind plan (does.Tick 5 ∷ []) (does.Tick 4) ≡ Some (MomentBack 5 4)
-unfolding ticks
+unfolding tick_each_link
 known_back = refl

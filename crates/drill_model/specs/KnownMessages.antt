@@ -16,7 +16,7 @@ use Rattle.x224_tpdu.specs.Parameters.{parameters_in}
 use Rattle.x224_class2.specs.Segments.{segments_of}
 use Rattle.session_keys.specs.Session.{session_of}
 use Rattle.safety_automaton.specs.Safety.{au2_text, au3_text, ar_text, message_text}
-use Rattle.end_model.specs.Steps.{offers}
+use Rattle.er_end_model.specs.Steps.{hand_waiting_tpdus}
 use Rattle.er_base.specs.Octets.{eight, number_in}
 use Rattle.er_base.specs.declared.side.Side.TheVariants.{E, R}
 use Rattle.des_block.specs.declared.triple_key.TripleKey.{TripleKey}
@@ -24,7 +24,7 @@ use Rattle.er_settings.specs.Ranges.{usual_settings}
 use Rattle.er_scenario.specs.declared.level.Level.TheVariants.{Safe, Full}
 use Rattle.er_scenario.specs.declared.step.Step.{Step}
 use Rattle.er_scenario.specs.declared.step.Step.TheVariants as does
-use Rattle.safe_pair.specs.Facts.{Sent, Accepted}
+use Rattle.safety_pair_laws.specs.Facts.{Sent, Accepted}
 use Rattle.drill_model.specs.Outcomes.{OfSafety, Released, Frame, Passed, Repeated, Altered, Occurrence, at_end}
 use Rattle.drill_model.specs.Outcomes as came
 use Rattle.drill_model.specs.Worlds.{Plan, drain, history_on, world_run}
@@ -93,11 +93,11 @@ abbrev changed : List ℕ
 changed = (0x7e ∷ 0x01 ∷ 0x66 ∷ 0x01 ∷ 0x00 ∷ 0x04 ∷ 0xf0 ∷ 0x00 ∷ 0x01 ∷ 0x81 ∷ 0x0a ∷ 0x41 ∷ 0xf5 ∷ 0xef ∷ 0xb9 ∷ 0x65 ∷ 0x41 ∷ 0x96 ∷ 0xa5 ∷ 0xbc ∷ 0x3e ∷ 0xed ∷ 0x7e ∷ [])
 
 pub known_frames : flat_map (λ o. came.frames_of o.outcome) (history (does.Pass 1 E ∷ [])) ≡ set_up ++ message ∷ (0x7e ∷ 0x01 ∷ 0x81 ∷ 0x1e ∷ 0x83 ∷ 0x7e ∷ []) ∷ []
-unfolding reading parameters_in segments_of drain offers frames_of between_flags all_but_last cut verdict_on verdict_on_content checked_part check_number unescaped ends_in_escape spelling escaped escaped_octet content_of control_of fcs_of fcs_bits dividend remainder divided_once add_front sent_bits low_bits low_number bits number pick xor box_output substituted cipher_function rounds cipher keys_from round_keys triple_encipher blocks chained mac_bits mac_of session_of au2_text au3_text ar_text message_text eight number_in
+unfolding reading parameters_in segments_of drain hand_waiting_tpdus frames_of between_flags all_but_last cut verdict_on verdict_on_content checked_part check_number unescaped ends_in_escape spelling escaped escaped_octet content_of control_of fcs_of fcs_bits dividend remainder divided_once add_front sent_bits low_bits low_number bits number pick xor box_output substituted cipher_function rounds cipher keys_from round_keys triple_encipher blocks chained mac_bits mac_of session_of au2_text au3_text ar_text message_text eight number_in
 known_frames = refl
 
 pub known_accepted : accepted_by R (history (does.Pass 1 E ∷ [])) ≡ (0x41 ∷ []) ∷ []
-unfolding reading parameters_in segments_of drain offers frames_of between_flags all_but_last cut verdict_on verdict_on_content checked_part check_number unescaped ends_in_escape spelling escaped escaped_octet content_of control_of fcs_of fcs_bits dividend remainder divided_once add_front sent_bits low_bits low_number bits number pick xor box_output substituted cipher_function rounds cipher keys_from round_keys triple_encipher blocks chained mac_bits mac_of session_of au2_text au3_text ar_text message_text eight number_in
+unfolding reading parameters_in segments_of drain hand_waiting_tpdus frames_of between_flags all_but_last cut verdict_on verdict_on_content checked_part check_number unescaped ends_in_escape spelling escaped escaped_octet content_of control_of fcs_of fcs_bits dividend remainder divided_once add_front sent_bits low_bits low_number bits number pick xor box_output substituted cipher_function rounds cipher keys_from round_keys triple_encipher blocks chained mac_bits mac_of session_of au2_text au3_text ar_text message_text eight number_in
 known_accepted = refl
 
 -- the changed one isn't accepted, and both ends are released with 4.1
@@ -105,10 +105,10 @@ abbrev exchanged : List Step
 exchanged = does.Lose 1 E ∷ does.Put 1 E changed ∷ does.Drain 1 20 ∷ []
 
 pub known_refused : accepted_by R (history exchanged) ≡ []
-unfolding reading parameters_in segments_of drain offers frames_of between_flags all_but_last cut verdict_on verdict_on_content checked_part check_number unescaped ends_in_escape spelling escaped escaped_octet content_of control_of fcs_of fcs_bits dividend remainder divided_once add_front sent_bits low_bits low_number bits number pick xor box_output substituted cipher_function rounds cipher keys_from round_keys triple_encipher blocks chained mac_bits mac_of session_of au2_text au3_text ar_text message_text eight number_in
+unfolding reading parameters_in segments_of drain hand_waiting_tpdus frames_of between_flags all_but_last cut verdict_on verdict_on_content checked_part check_number unescaped ends_in_escape spelling escaped escaped_octet content_of control_of fcs_of fcs_bits dividend remainder divided_once add_front sent_bits low_bits low_number bits number pick xor box_output substituted cipher_function rounds cipher keys_from round_keys triple_encipher blocks chained mac_bits mac_of session_of au2_text au3_text ar_text message_text eight number_in
 known_refused = refl
 
 pub known_releases : releases_in (history exchanged)
     ≡ record { reason = 4; sub = 1; by_peer = false } ∷ record { reason = 4; sub = 1; by_peer = true } ∷ []
-unfolding reading parameters_in segments_of drain offers frames_of between_flags all_but_last cut verdict_on verdict_on_content checked_part check_number unescaped ends_in_escape spelling escaped escaped_octet content_of control_of fcs_of fcs_bits dividend remainder divided_once add_front sent_bits low_bits low_number bits number pick xor box_output substituted cipher_function rounds cipher keys_from round_keys triple_encipher blocks chained mac_bits mac_of session_of au2_text au3_text ar_text message_text eight number_in
+unfolding reading parameters_in segments_of drain hand_waiting_tpdus frames_of between_flags all_but_last cut verdict_on verdict_on_content checked_part check_number unescaped ends_in_escape spelling escaped escaped_octet content_of control_of fcs_of fcs_bits dividend remainder divided_once add_front sent_bits low_bits low_number bits number pick xor box_output substituted cipher_function rounds cipher keys_from round_keys triple_encipher blocks chained mac_bits mac_of session_of au2_text au3_text ar_text message_text eight number_in
 known_releases = refl

@@ -10,8 +10,9 @@ use Rattle.er_base.specs.declared.side.Side.TheVariants.{E, R}
 use Rattle.er_settings.specs.Ranges.{usual_settings}
 use Rattle.er_scenario.specs.declared.level.Level.TheVariants.{Link, LinkSr}
 use Rattle.er_scenario.specs.declared.step.Step.TheVariants as does
-use Rattle.drill_model.specs.Outcomes.{RefusedLength, RefusedFull, RefusedReleased, Handed, Arrived, Up, Refused, Released, Frame, Expired, UserReleased, Passed, Lost, Inserted, at_end}
-use Rattle.drill_model.specs.Worlds.{Plan, Came, On, Drained, drain, ticks, world_run}
+use Rattle.er_end_model.specs.Outcomes.{RefusedLength, RefusedFull, RefusedReleased}
+use Rattle.drill_model.specs.Outcomes.{Handed, Arrived, Up, Refused, Released, Frame, Expired, UserReleased, Passed, Lost, Inserted, at_end}
+use Rattle.drill_model.specs.Worlds.{Plan, Came, On, Drained, drain, tick_each_link, world_run}
 
 abbrev plan : Plan
 plan = record { level = Link; settings = usual_settings; show = false }
@@ -46,7 +47,7 @@ pub known_set_up : (world_run plan (does.Wire 1 ∷ does.Drain 1 5 ∷ [])).1
     ∷ On 1 (at_end R (Passed answer))
     ∷ On 1 (at_end E Up)
     ∷ Drained 1 2 ∷ []
-unfolding drain ticks frames_of between_flags all_but_last cut verdict_on verdict_on_content checked_part check_number unescaped ends_in_escape spelling escaped escaped_octet content_of control_of fcs_of fcs_bits dividend remainder divided_once add_front sent_bits low_bits low_number
+unfolding drain tick_each_link frames_of between_flags all_but_last cut verdict_on verdict_on_content checked_part check_number unescaped ends_in_escape spelling escaped escaped_octet content_of control_of fcs_of fcs_bits dividend remainder divided_once add_front sent_bits low_bits low_number
 known_set_up = refl
 
 -- the first of two I frames is lost: the called station asks for it once, and both are sent again
@@ -77,7 +78,7 @@ pub known_loss : (world_run plan (does.Wire 1 ∷ does.Drain 1 5 ∷ does.Send 1
     ∷ On 1 (at_end R (Passed (0x7e ∷ 0x01 ∷ 0x21 ∷ 0x14 ∷ 0x26 ∷ 0x7e ∷ [])))
     ∷ On 1 (at_end R (Passed ready))
     ∷ Drained 1 4 ∷ []
-unfolding drain ticks frames_of between_flags all_but_last cut verdict_on verdict_on_content checked_part check_number unescaped ends_in_escape spelling escaped escaped_octet content_of control_of fcs_of fcs_bits dividend remainder divided_once add_front sent_bits low_bits low_number
+unfolding drain tick_each_link frames_of between_flags all_but_last cut verdict_on verdict_on_content checked_part check_number unescaped ends_in_escape spelling escaped escaped_octet content_of control_of fcs_of fcs_bits dividend remainder divided_once add_front sent_bits low_bits low_number
 known_loss = refl
 
 -- the set-up frame is lost and sent again as T1 expires; then the called station is released before it is up, and sends nothing
@@ -91,7 +92,7 @@ pub known_releases : (world_run plan (does.Wire 1 ∷ does.Lose 1 E ∷ does.Tic
     ∷ On 1 (at_end R (Refused (RefusedReleased (record { reason = 0; sub = 7; by_peer = false }))))
     ∷ On 1 (at_end R (UserReleased 8))
     ∷ On 1 (at_end E (Passed set_up)) ∷ []
-unfolding drain ticks frames_of between_flags all_but_last cut verdict_on verdict_on_content checked_part check_number unescaped ends_in_escape spelling escaped escaped_octet content_of control_of fcs_of fcs_bits dividend remainder divided_once add_front sent_bits low_bits low_number
+unfolding drain tick_each_link frames_of between_flags all_but_last cut verdict_on verdict_on_content checked_part check_number unescaped ends_in_escape spelling escaped escaped_octet content_of control_of fcs_of fcs_bits dividend remainder divided_once add_front sent_bits low_bits low_number
 known_releases = refl
 
 -- octets that cut one frame and close it with another, which is empty: each is an event of its own
@@ -112,7 +113,7 @@ pub known_pieces : (world_run plan (does.Wire 1 ∷ does.Drain 1 5 ∷ does.Put 
     ∷ On 1 (at_end R (Arrived []))
     ∷ On 1 (at_end R (Frame ready))
     ∷ Drained 1 2 ∷ []
-unfolding drain ticks frames_of between_flags all_but_last cut verdict_on verdict_on_content checked_part check_number unescaped ends_in_escape spelling escaped escaped_octet content_of control_of fcs_of fcs_bits dividend remainder divided_once add_front sent_bits low_bits low_number
+unfolding drain tick_each_link frames_of between_flags all_but_last cut verdict_on verdict_on_content checked_part check_number unescaped ends_in_escape spelling escaped escaped_octet content_of control_of fcs_of fcs_bits dividend remainder divided_once add_front sent_bits low_bits low_number
 known_pieces = refl
 
 -- before the set-up is answered 16 payloads may wait
@@ -136,7 +137,7 @@ pub known_full : (world_run plan (does.Wire 1 ∷ does.Send 1 E [] ∷ does.Send
     ∷ On 1 (at_end E (Handed (15 ∷ [])))
     ∷ On 1 (at_end E (Handed (16 ∷ [])))
     ∷ On 1 (at_end E (Refused (RefusedFull 16))) ∷ []
-unfolding drain ticks frames_of between_flags all_but_last cut verdict_on verdict_on_content checked_part check_number unescaped ends_in_escape spelling escaped escaped_octet content_of control_of fcs_of fcs_bits dividend remainder divided_once add_front sent_bits low_bits low_number
+unfolding drain tick_each_link frames_of between_flags all_but_last cut verdict_on verdict_on_content checked_part check_number unescaped ends_in_escape spelling escaped escaped_octet content_of control_of fcs_of fcs_bits dividend remainder divided_once add_front sent_bits low_bits low_number
 known_full = refl
 
 -- ---- level link-sr
@@ -205,7 +206,7 @@ pub known_repair : (world_run selective_plan (does.Wire 1 ∷ does.Drain 1 4 ∷
     ∷ On 1 (at_end R (Passed ready_three))
     ∷ Drained 1 5 ∷ []
     )
-unfolding drain ticks frames_of between_flags all_but_last cut verdict_on verdict_on_content checked_part check_number unescaped ends_in_escape spelling escaped escaped_octet content_of control_of fcs_of fcs_bits dividend remainder divided_once add_front sent_bits low_bits low_number
+unfolding drain tick_each_link frames_of between_flags all_but_last cut verdict_on verdict_on_content checked_part check_number unescaped ends_in_escape spelling escaped escaped_octet content_of control_of fcs_of fcs_bits dividend remainder divided_once add_front sent_bits low_bits low_number
 known_repair = refl
 
 -- the SREJ is lost too: no later frame asks again, and nothing moves until T1 expires; then all three are sent again, and RR answers the two that
@@ -242,7 +243,7 @@ pub known_lost_request : (world_run selective_plan (does.Wire 1 ∷ does.Drain 1
     ∷ On 1 (at_end R (Passed ready_three))
     ∷ Drained 1 6 ∷ []
     )
-unfolding drain ticks frames_of between_flags all_but_last cut verdict_on verdict_on_content checked_part check_number unescaped ends_in_escape spelling escaped escaped_octet content_of control_of fcs_of fcs_bits dividend remainder divided_once add_front sent_bits low_bits low_number
+unfolding drain tick_each_link frames_of between_flags all_but_last cut verdict_on verdict_on_content checked_part check_number unescaped ends_in_escape spelling escaped escaped_octet content_of control_of fcs_of fcs_bits dividend remainder divided_once add_front sent_bits low_bits low_number
 known_lost_request = refl
 
 -- the first and the third of four I frames are lost: each is asked for once and sent again once
@@ -278,5 +279,5 @@ pub known_two_gaps : (world_run selective_plan (does.Wire 1 ∷ does.Drain 1 4 �
     ∷ On 1 (at_end R (Passed ready_four))
     ∷ Drained 1 7 ∷ []
     )
-unfolding drain ticks frames_of between_flags all_but_last cut verdict_on verdict_on_content checked_part check_number unescaped ends_in_escape spelling escaped escaped_octet content_of control_of fcs_of fcs_bits dividend remainder divided_once add_front sent_bits low_bits low_number
+unfolding drain tick_each_link frames_of between_flags all_but_last cut verdict_on verdict_on_content checked_part check_number unescaped ends_in_escape spelling escaped escaped_octet content_of control_of fcs_of fcs_bits dividend remainder divided_once add_front sent_bits low_bits low_number
 known_two_gaps = refl

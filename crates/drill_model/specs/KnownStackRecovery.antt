@@ -12,13 +12,13 @@ use Rattle.er_base.specs.declared.side.Side.TheVariants.{E}
 use Rattle.er_base.specs.Octets.{eight}
 use Rattle.er_scenario.specs.declared.step.Step.{Step}
 use Rattle.er_scenario.specs.declared.step.Step.TheVariants as does
-use Rattle.end_model.specs.Layers.{model}
-use Rattle.end_model.specs.Steps.{offers, begins_at, is_spent}
+use Rattle.er_end_model.specs.Layers.{model}
+use Rattle.er_end_model.specs.Steps.{hand_waiting_tpdus, new_event_at, is_spent}
 use Rattle.drill_model.specs.Outcomes.{Occurrence}
 use Rattle.drill_model.specs.Outcomes as came
 use Rattle.drill_model.specs.Ends.{End, OfSafe, OfStation, OfStack}
 use Rattle.drill_model.specs.Links.{Link}
-use Rattle.drill_model.specs.Worlds.{link_at, history_on, drain, ticks, world_run}
+use Rattle.drill_model.specs.Worlds.{link_at, history_on, drain, tick_each_link, world_run}
 use Rattle.drill_model.specs.Recovery.{GoOn, NoneWaits, IsRepairable}
 use Rattle.drill_model.specs.KnownStacks.{plan, called, set_up, answer, call}
 
@@ -35,31 +35,31 @@ abbrev losing : List Step
 losing = called ∷ does.Lose 1 E ∷ []
 
 pub known_repairable : Behind IsRepairable losing
-unfolding drain ticks offers eight frames_of between_flags all_but_last cut verdict_on verdict_on_content checked_part check_number unescaped ends_in_escape spelling escaped escaped_octet content_of control_of fcs_of fcs_bits dividend remainder divided_once add_front sent_bits low_bits low_number
+unfolding drain tick_each_link hand_waiting_tpdus eight frames_of between_flags all_but_last cut verdict_on verdict_on_content checked_part check_number unescaped ends_in_escape spelling escaped escaped_octet content_of control_of fcs_of fcs_bits dividend remainder divided_once add_front sent_bits low_bits low_number
 known_repairable = record { ordered = record { numbered = tt; ordered = refl }; agree = refl; e_live = refl; r_live = refl }
 
 -- at 1,000 the engine's T1 is found expired, the radio block centre's doesn't run, and the time for the set-up isn't spent
 pub known_expired : Behind (λ history l. NoneWaits l × GoOn 1000 l) losing
-unfolding drain ticks offers eight frames_of between_flags all_but_last cut verdict_on verdict_on_content checked_part check_number unescaped ends_in_escape spelling escaped escaped_octet content_of control_of fcs_of fcs_bits dividend remainder divided_once add_front sent_bits low_bits low_number
+unfolding drain tick_each_link hand_waiting_tpdus eight frames_of between_flags all_but_last cut verdict_on verdict_on_content checked_part check_number unescaped ends_in_escape spelling escaped escaped_octet content_of control_of fcs_of fcs_bits dividend remainder divided_once add_front sent_bits low_bits low_number
 known_expired = ((refl, refl), ((inr (refl, omega arith), refl), (inl refl, refl)))
 
 abbrev IsSpentAt40000 : End → Type 0
 IsSpentAt40000 (OfSafe s) = ⊥
 IsSpentAt40000 (OfStation selective s stream) = ⊥
-IsSpentAt40000 (OfStack m) = is_spent (begins_at model 40000 m.core) ≡ true
+IsSpentAt40000 (OfStack m) = is_spent (new_event_at model 40000 m.core) ≡ true
 
 -- at 40,000 it is spent, at both ends
 pub known_spent : Behind (λ history l. IsSpentAt40000 l.e × IsSpentAt40000 l.r) losing
-unfolding drain ticks offers eight frames_of between_flags all_but_last cut verdict_on verdict_on_content checked_part check_number unescaped ends_in_escape spelling escaped escaped_octet content_of control_of fcs_of fcs_bits dividend remainder divided_once add_front sent_bits low_bits low_number
+unfolding drain tick_each_link hand_waiting_tpdus eight frames_of between_flags all_but_last cut verdict_on verdict_on_content checked_part check_number unescaped ends_in_escape spelling escaped escaped_octet content_of control_of fcs_of fcs_bits dividend remainder divided_once add_front sent_bits low_bits low_number
 known_spent = (refl, refl)
 
 -- behind the tick the frame is sent again, and the set-up goes on
 pub known_again : flat_map (λ o. came.frames_of o.outcome) (history_on 1 (world_run plan (losing ++ does.Tick 1000 ∷ does.Drain 1 2 ∷ [])).1)
     ≡ set_up ∷ set_up ∷ answer ∷ call ∷ []
-unfolding drain ticks offers eight frames_of between_flags all_but_last cut verdict_on verdict_on_content checked_part check_number unescaped ends_in_escape spelling escaped escaped_octet content_of control_of fcs_of fcs_bits dividend remainder divided_once add_front sent_bits low_bits low_number
+unfolding drain tick_each_link hand_waiting_tpdus eight frames_of between_flags all_but_last cut verdict_on verdict_on_content checked_part check_number unescaped ends_in_escape spelling escaped escaped_octet content_of control_of fcs_of fcs_bits dividend remainder divided_once add_front sent_bits low_bits low_number
 known_again = refl
 
 -- not a moment before
 pub known_too_early : flat_map (λ o. came.frames_of o.outcome) (history_on 1 (world_run plan (losing ++ does.Tick 999 ∷ does.Drain 1 2 ∷ [])).1) ≡ set_up ∷ []
-unfolding drain ticks offers eight frames_of between_flags all_but_last cut verdict_on verdict_on_content checked_part check_number unescaped ends_in_escape spelling escaped escaped_octet content_of control_of fcs_of fcs_bits dividend remainder divided_once add_front sent_bits low_bits low_number
+unfolding drain tick_each_link hand_waiting_tpdus eight frames_of between_flags all_but_last cut verdict_on verdict_on_content checked_part check_number unescaped ends_in_escape spelling escaped escaped_octet content_of control_of fcs_of fcs_bits dividend remainder divided_once add_front sent_bits low_bits low_number
 known_too_early = refl

@@ -13,9 +13,10 @@ use Rattle.er_settings.specs.Ranges.{usual_settings}
 use Rattle.er_scenario.specs.declared.level.Level.TheVariants.{Full}
 use Rattle.er_scenario.specs.declared.step.Step.{Step}
 use Rattle.er_scenario.specs.declared.step.Step.TheVariants as does
-use Rattle.end_model.specs.Steps.{offers}
-use Rattle.drill_model.specs.Outcomes.{RefusedNotConnected, RefusedReleased, NothingToTake, Refused, Released, Frame, Expired, UserReleased, Passed, at_end}
-use Rattle.drill_model.specs.Worlds.{Plan, On, drain, ticks, world_run}
+use Rattle.er_end_model.specs.Steps.{hand_waiting_tpdus}
+use Rattle.er_end_model.specs.Outcomes.{RefusedNotConnected, RefusedReleased}
+use Rattle.drill_model.specs.Outcomes.{NothingToTake, Refused, Released, Frame, Expired, UserReleased, Passed, at_end}
+use Rattle.drill_model.specs.Worlds.{Plan, On, drain, tick_each_link, world_run}
 
 abbrev pub plan : Plan
 plan = record { level = Full; settings = usual_settings; show = false }
@@ -49,7 +50,7 @@ pub known_frames : (world_run plan (called ∷ does.Pass 1 E ∷ does.Pass 1 R �
     ∷ On 1 (at_end E (Frame call))
     ∷ On 1 (at_end E (Refused RefusedNotConnected))
     ∷ On 1 (at_end R NothingToTake) ∷ []
-unfolding drain ticks offers eight frames_of between_flags all_but_last cut verdict_on verdict_on_content checked_part check_number unescaped ends_in_escape spelling escaped escaped_octet content_of control_of fcs_of fcs_bits dividend remainder divided_once add_front sent_bits low_bits low_number
+unfolding drain tick_each_link hand_waiting_tpdus eight frames_of between_flags all_but_last cut verdict_on verdict_on_content checked_part check_number unescaped ends_in_escape spelling escaped escaped_octet content_of control_of fcs_of fcs_bits dividend remainder divided_once add_front sent_bits low_bits low_number
 known_frames = refl
 
 -- the time for the set-up runs from the moment of the opening: behind it T1 expires first, then both ends are released
@@ -63,5 +64,5 @@ pub known_time : (world_run plan (does.Tick 500 ∷ called ∷ does.Tick 1499 �
     ∷ On 1 (at_end R (Released (record { reason = 6; sub = 1; by_peer = false })))
     ∷ On 1 (at_end E (UserReleased 7))
     ∷ On 1 (at_end R (Refused (RefusedReleased (record { reason = 6; sub = 1; by_peer = false })))) ∷ []
-unfolding drain ticks offers eight frames_of between_flags all_but_last cut verdict_on verdict_on_content checked_part check_number unescaped ends_in_escape spelling escaped escaped_octet content_of control_of fcs_of fcs_bits dividend remainder divided_once add_front sent_bits low_bits low_number
+unfolding drain tick_each_link hand_waiting_tpdus eight frames_of between_flags all_but_last cut verdict_on verdict_on_content checked_part check_number unescaped ends_in_escape spelling escaped escaped_octet content_of control_of fcs_of fcs_bits dividend remainder divided_once add_front sent_bits low_bits low_number
 known_time = refl

@@ -15,6 +15,7 @@ pub mod Hearing
 pub mod Totals
 pub mod Texts
 pub mod Recovery
+pub mod Claims
 pub mod Headline
 pub mod Printing
 pub mod KnownAnswers

@@ -4,15 +4,15 @@ use Rattle.er_base.specs.declared.side.Side.{Side}
 use Rattle.er_base.specs.declared.side.Side.TheVariants.{E, R}
 use Rattle.er_base.specs.Sides.{other}
 use Rattle.des_block.specs.declared.triple_key.TripleKey.{TripleKey}
-use Rattle.er_settings.specs.declared.settings.Settings.{Settings}
-use Rattle.safe_pair.specs.Openings.{PairOpening, OfFixed, OfKeys, key_for, begun}
+use Rattle.er_settings.specs.Values.{Settings}
+use Rattle.safety_pair_laws.specs.Openings.{PairOpening, OfFixed, OfKeys, key_for, begun}
 use Rattle.drill_model.specs.Outcomes.{Outcome, UserReleased, Passed, NothingWaits, Occurrence, at_end, frames_in}
-use Rattle.station_model.specs.Stations.{made}
-use Rattle.end_model.specs.Ends.{Call, Answer}
-use Rattle.end_model.specs.Ends as stacks
+use Rattle.hdlc_station_model.specs.Stations.{made}
+use Rattle.er_end_model.specs.Ends.{Call, Answer}
+use Rattle.er_end_model.specs.Ends as stacks
 use Rattle.drill_model.specs.Ends.{End, OfSafe, OfStation, OfStack, EndEvent, Start, end_step}
 use Rattle.drill_model.specs.Ends
-use Rattle.drill_model.specs.Waiting.{LineChange, changes}
+use Rattle.drill_model.specs.Waiting.{LineChange, change_first}
 
 -- how a link is opened
 pub data LinkOpening : Type 0 where
@@ -62,11 +62,11 @@ key_on (OfStacks engine rbc ke kr ra rb) = key_for (OfKeys engine rbc ke kr ra r
 -- ---- an event at an end
 
 -- an end did this: its frames join those that wait
-abbrev pub answered : Link → Side → End × List Outcome → Link × List Occurrence
-answered l side a = (with_waiting (with_end l side a.0) side (waiting_of l side ++ frames_in a.1), map (at_end side) a.1)
+abbrev pub with_answer : Link → Side → End × List Outcome → Link × List Occurrence
+with_answer l side a = (with_waiting (with_end l side a.0) side (waiting_of l side ++ frames_in a.1), map (at_end side) a.1)
 
 abbrev pub give : Link → Side → EndEvent → Link × List Occurrence
-give l side event = answered l side (end_step (key_on l.opening) l.moment (end_of l side) event)
+give l side event = with_answer l side (end_step (key_on l.opening) l.moment (end_of l side) event)
 
 -- what came first, and then what came of the rest
 abbrev pub onto : List Occurrence → Link × List Occurrence → Link × List Occurrence
@@ -79,12 +79,12 @@ and_then a next = onto a.1 (next a.0)
 -- ---- openings
 
 -- two ends and no frame that waits
-abbrev pub joined : LinkOpening → (moment : ℕ) → End → End → Link
-joined opening moment e r =
+abbrev pub link_of : LinkOpening → (moment : ℕ) → End → End → Link
+link_of opening moment e r =
     record { opening = opening; opened_at = moment; moment = moment; e = e; r = r; from_e = []; from_r = [] }
 
 abbrev pub joined_pair : PairOpening → (moment : ℕ) → Link
-joined_pair opening moment = joined (OfPair opening) moment (OfSafe (begun opening).e) (OfSafe (begun opening).r)
+joined_pair opening moment = link_of (OfPair opening) moment (OfSafe (begun opening).e) (OfSafe (begun opening).r)
 
 -- two sides of a safe connection; an engine that calls begins at once
 abbrev pub opened_pair : PairOpening → (moment : ℕ) → Link × List Occurrence
@@ -95,7 +95,7 @@ opened_pair (OfKeys engine rbc ke kr ra rb) moment = give (joined_pair (OfKeys e
 abbrev pub opened_stations : Settings → (moment : ℕ) → (selective : Bool) → Link × List Occurrence
 opened_stations settings moment selective =
     give (
-    joined (OfStations selective) moment
+    link_of (OfStations selective) moment
     (OfStation selective (made true (settings.modulo == 128) settings.window settings.n2 settings.t1) [])
     (OfStation selective (made false (settings.modulo == 128) settings.window settings.n2 settings.t1) [])
     ) E Start
@@ -104,16 +104,16 @@ opened_stations settings moment selective =
 abbrev pub opened_stacks : Settings → (moment : ℕ) → (engine rbc : ℕ) (ke : TripleKey) (kr : Option TripleKey) (ra rb : ℕ) → Link × List Occurrence
 opened_stacks settings moment engine rbc ke kr ra rb =
     give (
-    joined (OfStacks engine rbc ke kr ra rb) moment
+    link_of (OfStacks engine rbc ke kr ra rb) moment
     (OfStack (stacks.opened (Call settings engine rbc ke rb moment)))
     (OfStack (stacks.opened (Answer settings rbc ra moment)))
     ) E Start
 
 -- a link that was just opened with these settings, at this moment
-abbrev pub opened : Settings → (moment : ℕ) → LinkOpening → Link × List Occurrence
-opened settings moment (OfPair opening) = opened_pair opening moment
-opened settings moment (OfStations selective) = opened_stations settings moment selective
-opened settings moment (OfStacks engine rbc ke kr ra rb) = opened_stacks settings moment engine rbc ke kr ra rb
+abbrev pub opened_link : Settings → (moment : ℕ) → LinkOpening → Link × List Occurrence
+opened_link settings moment (OfPair opening) = opened_pair opening moment
+opened_link settings moment (OfStations selective) = opened_stations settings moment selective
+opened_link settings moment (OfStacks engine rbc ke kr ra rb) = opened_stacks settings moment engine rbc ke kr ra rb
 
 -- ---- steps
 
@@ -143,7 +143,7 @@ change_waiting l side a = (with_waiting l side a.0, map (at_end side) a.1)
 abbrev pub link_step : Link → LinkStep → Link × List Occurrence
 link_step l (Send side octets) = give l side (Ends.Send octets)
 link_step l (Pass side) = pass l side (waiting_of l side)
-link_step l (Change side change) = change_waiting l side (changes change (waiting_of l side))
+link_step l (Change side change) = change_waiting l side (change_first change (waiting_of l side))
 link_step l (Take side) = give l side Ends.Take
 link_step l (Release side sub) = onto (at_end side (UserReleased sub) ∷ []) (give l side (Ends.Release sub))
 link_step l (Tick moment) = and_then (give (record l { moment = max l.moment moment }) E Ends.Tick) (λ m. give m R Ends.Tick)
@@ -159,6 +159,6 @@ link_run l (s ∷ rest) =
 -- a link from its opening on
 abbrev pub life : Settings → (moment : ℕ) → LinkOpening → List LinkStep → Link × List Occurrence
 life settings moment opening steps =
-    let first = opened settings moment opening in
+    let first = opened_link settings moment opening in
     let then' = link_run first.0 steps in
     (then'.0, first.1 ++ then'.1)

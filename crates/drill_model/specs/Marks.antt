@@ -1,30 +1,14 @@
 -- Which occurrences are forged: one scan over all that came, by the facts of each link (this profile).
 use Rattle.std.specs.Prelude.{ℕ, Bool, false, List, [], ◌∷◌, ◌++◌}
 use Rattle.er_base.specs.declared.side.Side.{Side}
-use Rattle.safe_pair.specs.Facts.{MarkedFact, marked, marked_from, is_forged}
-use Rattle.drill_model.specs.Outcomes.{Outcome, OfSafety, Handed, Arrived, Up, Took, NothingToTake, Refused, Released, Frame, Expired, UserReleased, Passed, Lost, Repeated, Altered, Inserted, NothingWaits, IsShort, Occurrence, facts_at}
+use Rattle.safety_pair_laws.specs.Facts.{MarkedFact, marked, marked_from, is_forged}
+use Rattle.drill_model.specs.Outcomes.{Outcome, OfSafety, Occurrence, facts_at}
 use Rattle.drill_model.specs.Worlds.{Came, On, Drained, facts_on}
 
 -- whether an outcome is forged, behind these facts of its link
 abbrev pub outcome_forged : (before : List MarkedFact) → Side → Outcome → Bool
 outcome_forged before side (OfSafety fact) = is_forged before side fact
-outcome_forged before side (Handed payload) = false
-outcome_forged before side (Arrived payload) = false
-outcome_forged before side Up = false
-outcome_forged before side (Took message) = false
-outcome_forged before side NothingToTake = false
-outcome_forged before side (Refused refusal) = false
-outcome_forged before side (Released release) = false
-outcome_forged before side (Frame octets) = false
-outcome_forged before side Expired = false
-outcome_forged before side (UserReleased sub) = false
-outcome_forged before side (Passed octets) = false
-outcome_forged before side Lost = false
-outcome_forged before side Repeated = false
-outcome_forged before side Altered = false
-outcome_forged before side Inserted = false
-outcome_forged before side NothingWaits = false
-outcome_forged before side (IsShort found) = false
+outcome_forged before side other = false
 
 -- an occurrence with its mark
 pub record MarkedOccurrence : Type 0 where

@@ -4,15 +4,8 @@ use Rattle.std.specs.Prelude.{ℕ, List, [], ◌∷◌}
 use Rattle.std.specs.List.{flat_map}
 use Rattle.er_base.specs.declared.release.Release.{Release}
 use Rattle.er_base.specs.declared.side.Side.{Side}
-use Rattle.safe_pair.specs.Facts.{Fact, SideFact, at_side}
-
--- why a send is refused: the end is released; the safety layer isn't connected; the octets, so many, aren't those of a message or payload;
--- so many wait to be sent
-pub data SendRefusal : Type 0 where
-  RefusedReleased : (release : Release) → SendRefusal
-  RefusedNotConnected : SendRefusal
-  RefusedLength : (found : ℕ) → SendRefusal
-  RefusedFull : (waiting : ℕ) → SendRefusal
+use Rattle.er_end_model.specs.Outcomes.{SendRefusal}
+use Rattle.safety_pair_laws.specs.Facts.{Fact, SideFact, at_side}
 
 pub data Outcome : Type 0 where
   -- a fact of the safety layer: a send that was Ok, a sealed or verified text, a connection, an accepted message
@@ -82,24 +75,8 @@ facts_in history = flat_map (λ o. facts_at o.side o.outcome) history
 
 -- the frames among outcomes
 abbrev pub frames_of : Outcome → List (List ℕ)
-frames_of (OfSafety fact) = []
-frames_of (Handed payload) = []
-frames_of (Arrived payload) = []
-frames_of Up = []
-frames_of (Took message) = []
-frames_of NothingToTake = []
-frames_of (Refused refusal) = []
-frames_of (Released release) = []
 frames_of (Frame octets) = octets ∷ []
-frames_of Expired = []
-frames_of (UserReleased sub) = []
-frames_of (Passed octets) = []
-frames_of Lost = []
-frames_of Repeated = []
-frames_of Altered = []
-frames_of Inserted = []
-frames_of NothingWaits = []
-frames_of (IsShort found) = []
+frames_of other = []
 
 abbrev pub frames_in : List Outcome → List (List ℕ)
 frames_in outcomes = flat_map frames_of outcomes

@@ -3,13 +3,13 @@
 use Rattle.std.specs.Prelude.{ℕ, ◌≡◌, ◌≤◌, ◌==◌, Bool, if◌then◌else◌, List, [], ◌∷◌, Option}
 use Rattle.std.specs.List.{flat_map, AllByRecursion}
 use Rattle.des_block.specs.declared.triple_key.TripleKey.{TripleKey}
-use Rattle.station_model.specs.Stations.{Station}
-use Rattle.station_model.specs.Events.{news}
-use Rattle.station_model.specs.Events as station_events
+use Rattle.hdlc_station_model.specs.Stations.{Station}
+use Rattle.hdlc_station_model.specs.Events.{news}
+use Rattle.hdlc_station_model.specs.Events as station_events
 use Rattle.drill_model.specs.Outcomes.{Outcome}
-use Rattle.end_model.specs.Layers.{model}
-use Rattle.end_model.specs.Steps.{begins_at}
-use Rattle.end_model.specs.Ends.{End as Stack}
+use Rattle.er_end_model.specs.Layers.{model}
+use Rattle.er_end_model.specs.Steps.{new_event_at}
+use Rattle.er_end_model.specs.Ends.{End as Stack}
 use Rattle.drill_model.specs.StationEnds.{heard_parts}
 use Rattle.drill_model.specs.StackEnds.{stack_parts}
 use Rattle.drill_model.specs.Ends.{End, OfSafe, OfStation, OfStack, EndEvent, station_end_step, stack_end_step, end_step}
@@ -48,7 +48,7 @@ station_parts selective moment s stream event.Tick = (station_end_step selective
 abbrev pub parts_of_stack : (ℕ → ℕ → Option TripleKey) → (moment : ℕ) → Stack → EndEvent → List (List Outcome)
 parts_of_stack key_of moment m event.Start = (stack_end_step key_of moment m event.Start).1 ∷ []
 parts_of_stack key_of moment m (event.Receive octets) =
-    stack_parts (λ now. key_of) moment (station_events.news m.stream octets) (begins_at model moment m.core)
+    stack_parts (λ now. key_of) moment (station_events.news m.stream octets) (new_event_at model moment m.core)
 parts_of_stack key_of moment m (event.Send user) = (stack_end_step key_of moment m (event.Send user)).1 ∷ []
 parts_of_stack key_of moment m event.Take = (stack_end_step key_of moment m event.Take).1 ∷ []
 parts_of_stack key_of moment m (event.Release sub) = (stack_end_step key_of moment m (event.Release sub)).1 ∷ []

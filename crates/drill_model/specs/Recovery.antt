@@ -5,10 +5,10 @@ use Rattle.std.specs.Prelude.{ℕ, ◌≡◌, ◌≤◌, ◌+◌, max, false, Li
 use Rattle.er_base.specs.declared.side.Side.TheVariants.{E, R}
 use Rattle.er_scenario.specs.declared.step.Step.{Step}
 use Rattle.er_scenario.specs.declared.step.Step.TheVariants as does
-use Rattle.station_model.specs.Stations.{is_down}
-use Rattle.station_pair.specs.Recovery.{MayRepeat, passes_bound}
-use Rattle.end_model.specs.Layers.{model}
-use Rattle.end_model.specs.Steps.{begins_at, is_spent}
+use Rattle.hdlc_station_model.specs.Stations.{is_down}
+use Rattle.hdlc_pair_laws.specs.Recovery.{MayRepeat, passes_bound}
+use Rattle.er_end_model.specs.Layers.{model}
+use Rattle.er_end_model.specs.Steps.{new_event_at, is_spent}
 use Rattle.drill_model.specs.Outcomes.{Occurrence}
 use Rattle.drill_model.specs.Ends.{End, OfSafe, OfStation, OfStack}
 use Rattle.drill_model.specs.Links.{LinkOpening, OfPair, OfStations, OfStacks, Link}
@@ -26,7 +26,7 @@ IsLive (OfStack m) = m.core.released ≡ None
 abbrev pub GoesOnAt : (now : ℕ) → End → Type 0
 GoesOnAt now (OfSafe s) = ⊥
 GoesOnAt now (OfStation selective s stream) = MayRepeat now s
-GoesOnAt now (OfStack m) = let x = begins_at model now m.core in MayRepeat x.moment x.line × (is_spent x ≡ false)
+GoesOnAt now (OfStack m) = let x = new_event_at model now m.core in MayRepeat x.moment x.line × (is_spent x ≡ false)
 
 -- so do both ends at a tick; a moment below the link's counts as the link's
 abbrev pub GoOn : (now : ℕ) → Link → Type 0

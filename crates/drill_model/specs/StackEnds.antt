@@ -2,13 +2,13 @@
 -- side (UNISIG SUBSET-037), one above the other; and what an event at it tells and sends (this profile).
 use Rattle.std.specs.Prelude.{ℕ, Bool, ◌&&◌, ◌||◌, not, List, [], ◌∷◌, ◌++◌, map, Option, Some, None, is_some}
 use Rattle.hdlc_frames.specs.Framing.{Verdict}
-use Rattle.safe_pair.specs.Facts.{facts_of}
-use Rattle.station_model.specs.Events.{said_octets, is_late, news}
-use Rattle.end_model.specs.Outcomes as end
-use Rattle.end_model.specs.Layers.{Spoken, Core, model}
-use Rattle.end_model.specs.Steps.{Finds, begins_at, comes, refusal_of, is_spent}
-use Rattle.end_model.specs.Ends.{End as Stack, Event, Start, Come, Send, Take, Leave, Tick, step}
-use Rattle.drill_model.specs.Outcomes.{SendRefusal, RefusedReleased, RefusedNotConnected, RefusedLength, RefusedFull, Outcome, OfSafety, Took, NothingToTake, Refused, Frame}
+use Rattle.safety_pair_laws.specs.Facts.{facts_of}
+use Rattle.hdlc_station_model.specs.Events.{said_octets, is_late, news}
+use Rattle.er_end_model.specs.Layers.{Spoken, Core, model}
+use Rattle.er_end_model.specs.Steps.{Finds, new_event_at, step_frame, refusal_of, is_spent}
+use Rattle.er_end_model.specs.Ends.{End as Stack, Event, Start, Come, Send, Take, Leave, Tick, step}
+use Rattle.er_end_model.specs.Outcomes.{SendRefusal}
+use Rattle.drill_model.specs.Outcomes.{Outcome, OfSafety, Took, NothingToTake, Refused, Frame}
 use Rattle.drill_model.specs.StationEnds.{if_released, if_expired}
 
 -- ---- a call
@@ -27,12 +27,12 @@ abbrev pub behind : (moment : ℕ) → Event → Stack → Stack
 behind moment event m = (step moment event m).0
 
 -- an event that leads to this stack, and what came of it
-abbrev pub leads : Stack → Stack × List Outcome
-leads m = (m, told_at m.core)
+abbrev pub stack_and_told : Stack → Stack × List Outcome
+stack_and_told m = (m, told_at m.core)
 
 -- the end that calls is to begin
-abbrev pub stack_begins : (moment : ℕ) → Stack → Stack × List Outcome
-stack_begins moment m = leads (behind moment Start m)
+abbrev pub stack_start : (moment : ℕ) → Stack → Stack × List Outcome
+stack_start moment m = stack_and_told (behind moment Start m)
 
 -- ---- octets come
 
@@ -40,51 +40,45 @@ stack_begins moment m = leads (behind moment Start m)
 abbrev pub stack_parts : Finds → (moment : ℕ) → List Verdict → Core → List (List Outcome)
 stack_parts finds moment [] x = []
 stack_parts finds moment (verdict ∷ verdicts) x =
-    let y = comes model finds moment verdict x in
+    let y = step_frame model finds moment verdict x in
     told_at y ∷ stack_parts finds moment verdicts y
 
 abbrev pub stack_told : Finds → (moment : ℕ) → List Verdict → Core → List Outcome
 stack_told finds moment [] x = []
 stack_told finds moment (verdict ∷ verdicts) x =
-    let y = comes model finds moment verdict x in
+    let y = step_frame model finds moment verdict x in
     told_at y ++ stack_told finds moment verdicts y
 
 -- each frame that the octets close is one event
-abbrev pub stack_hears : Finds → (moment : ℕ) → (octets : List ℕ) → Stack → Stack × List Outcome
-stack_hears finds moment octets m =
-    (behind moment (Come finds octets) m, stack_told finds moment (news m.stream octets) (begins_at model moment m.core))
+abbrev pub stack_hear : Finds → (moment : ℕ) → (octets : List ℕ) → Stack → Stack × List Outcome
+stack_hear finds moment octets m =
+    (behind moment (Come finds octets) m, stack_told finds moment (news m.stream octets) (new_event_at model moment m.core))
 
 -- ---- the user sends, takes, releases
 
-abbrev pub as_refusal : end.SendRefusal → SendRefusal
-as_refusal (end.RefusedReleased release) = RefusedReleased release
-as_refusal end.RefusedNotConnected = RefusedNotConnected
-as_refusal (end.RefusedLength found) = RefusedLength found
-as_refusal (end.RefusedFull waiting) = RefusedFull waiting
-
 -- a send is refused, or led to this
-abbrev pub told_unless : Option end.SendRefusal → Core → List Outcome
-told_unless (Some refusal) x = Refused (as_refusal refusal) ∷ []
+abbrev pub told_unless : Option SendRefusal → Core → List Outcome
+told_unless (Some refusal) x = Refused refusal ∷ []
 told_unless None x = told_at x
 
-abbrev pub stack_sends : (moment : ℕ) → (user : List ℕ) → Stack → Stack × List Outcome
-stack_sends moment user m =
+abbrev pub stack_send : (moment : ℕ) → (user : List ℕ) → Stack → Stack × List Outcome
+stack_send moment user m =
     let n = behind moment (Send user) m in
     (n, told_unless (refusal_of model user m.core) n.core)
 
 -- the oldest message was taken, or none was there
-abbrev pub took : Option (List ℕ) → List Outcome
-took None = NothingToTake ∷ []
-took (Some message) = Took message ∷ []
+abbrev pub told_of_take : Option (List ℕ) → List Outcome
+told_of_take None = NothingToTake ∷ []
+told_of_take (Some message) = Took message ∷ []
 
-abbrev pub stack_takes : (moment : ℕ) → Stack → Stack × List Outcome
-stack_takes moment m =
+abbrev pub stack_take : (moment : ℕ) → Stack → Stack × List Outcome
+stack_take moment m =
     let n = behind moment Take m in
-    (n, took (model.oldest m.core.upper) ++ told_at n.core)
+    (n, told_of_take (model.oldest m.core.upper) ++ told_at n.core)
 
 -- a stack that was released before does nothing
-abbrev pub stack_releases : (moment : ℕ) → (sub : ℕ) → Stack → Stack × List Outcome
-stack_releases moment sub m = leads (behind moment (Leave sub) m)
+abbrev pub stack_release : (moment : ℕ) → (sub : ℕ) → Stack → Stack × List Outcome
+stack_release moment sub m = stack_and_told (behind moment (Leave sub) m)
 
 -- ---- the moment has come
 
@@ -92,7 +86,7 @@ stack_releases moment sub m = leads (behind moment (Leave sub) m)
 abbrev pub finds_expired : Core → Bool
 finds_expired x = not (is_some x.released) && (is_late x.moment x.line || is_spent x)
 
-abbrev pub stack_ticks : (moment : ℕ) → Stack → Stack × List Outcome
-stack_ticks moment m =
+abbrev pub stack_tick : (moment : ℕ) → Stack → Stack × List Outcome
+stack_tick moment m =
     let n = behind moment Tick m in
-    (n, if_expired (finds_expired (begins_at model moment m.core)) ++ told_at n.core)
+    (n, if_expired (finds_expired (new_event_at model moment m.core)) ++ told_at n.core)

@@ -7,9 +7,9 @@ use Rattle.safety_automaton.specs.Safety.{Phase, Ready, WaitAu1, WaitAu2, WaitAu
 use Rattle.safety_automaton.specs.Reports.{KeptSafe}
 use Rattle.safety_automaton.specs.Laws.{keys_of}
 use Rattle.hdlc_frames.specs.Framing.{Verdict}
-use Rattle.end_model.specs.Layers.{Spoken, Core, model}
-use Rattle.end_model.specs.Steps.{Finds, starts, comes, sends_unless, uses, leaves, ticks}
-use Rattle.end_model.specs.Ends.{Opening, opened}
+use Rattle.er_end_model.specs.Layers.{Spoken, Core, model}
+use Rattle.er_end_model.specs.Steps.{Finds, step_start, step_frame, step_send_unless, step_take, step_release, step_tick}
+use Rattle.er_end_model.specs.Ends.{Opening, opened}
 
 -- ---- what a step of the safety side tells
 
@@ -111,9 +111,9 @@ OpensOrderly = (opening : Opening) → IsOrderly (opened opening).core
 abbrev pub CallsReport : Type 0
 CallsReport =
     (x : Core) → IsOrderly x
-    → ((now : ℕ) → IsOrderly (starts model now x) × ReportsAt (starts model now x))
-    × ((finds : Finds) (now : ℕ) (verdict : Verdict) → IsOrderly (comes model finds now verdict x) × ReportsAt (comes model finds now verdict x))
-    × ((now : ℕ) (user : List ℕ) → IsOrderly (sends_unless model None now user x) × ReportsAt (sends_unless model None now user x))
-    × ((now : ℕ) → IsOrderly (uses model now x) × ReportsAt (uses model now x))
-    × ((now sub : ℕ) → IsOrderly (leaves model now sub x) × ReportsAt (leaves model now sub x))
-    × ((now : ℕ) → IsOrderly (ticks model now x) × ReportsAt (ticks model now x))
+    → ((now : ℕ) → IsOrderly (step_start model now x) × ReportsAt (step_start model now x))
+    × ((finds : Finds) (now : ℕ) (verdict : Verdict) → IsOrderly (step_frame model finds now verdict x) × ReportsAt (step_frame model finds now verdict x))
+    × ((now : ℕ) (user : List ℕ) → IsOrderly (step_send_unless model None now user x) × ReportsAt (step_send_unless model None now user x))
+    × ((now : ℕ) → IsOrderly (step_take model now x) × ReportsAt (step_take model now x))
+    × ((now sub : ℕ) → IsOrderly (step_release model now sub x) × ReportsAt (step_release model now sub x))
+    × ((now : ℕ) → IsOrderly (step_tick model now x) × ReportsAt (step_tick model now x))

@@ -4,12 +4,13 @@
 use Rattle.std.specs.Prelude.{ℕ, nat_le, nat_lt, Bool, true, false, ◌&&◌, if◌then◌else◌, List, [], ◌∷◌, ◌++◌, length, map, Option, Some, None}
 use Rattle.er_base.specs.declared.release.Release.{Release}
 use Rattle.hdlc_frames.specs.Framing.{Verdict}
-use Rattle.station_model.specs.Stations.{Station, Deed, settled, is_down}
-use Rattle.station_model.specs.Sending.{waiting}
-use Rattle.station_model.specs.Calls.{starts, hands, finishes, ticks}
-use Rattle.station_model.specs.Selective.{receives_as}
-use Rattle.station_model.specs.Events.{said_octets, quits, is_late}
-use Rattle.drill_model.specs.Outcomes.{SendRefusal, RefusedReleased, RefusedLength, RefusedFull, Outcome, Handed, Arrived, Up, Refused, Released, Frame, Expired}
+use Rattle.hdlc_station_model.specs.Stations.{Station, Deed, settled, is_down}
+use Rattle.hdlc_station_model.specs.Sending.{waiting}
+use Rattle.hdlc_station_model.specs.Calls.{starts, hands, finishes, ticks}
+use Rattle.hdlc_station_model.specs.Selective.{receives_as}
+use Rattle.hdlc_station_model.specs.Events.{said_octets, quits, is_late}
+use Rattle.er_end_model.specs.Outcomes.{SendRefusal, RefusedReleased, RefusedLength, RefusedFull}
+use Rattle.drill_model.specs.Outcomes.{Outcome, Handed, Arrived, Up, Refused, Released, Frame, Expired}
 
 -- ---- a call
 
@@ -34,8 +35,8 @@ abbrev pub told_by : Station → List Outcome
 told_by s = ((if_up s.deed.up ++ all_arrived s.deed) ++ if_released s.deed.released) ++ map Frame (said_octets s)
 
 -- the station behind a call, and what came of it
-abbrev pub called : Station → Station × List Outcome
-called s = (settled s, told_by s)
+abbrev pub station_and_told : Station → Station × List Outcome
+station_and_told s = (settled s, told_by s)
 
 -- ---- octets come
 
@@ -43,7 +44,7 @@ called s = (settled s, told_by s)
 abbrev pub frames_heard : (selective : Bool) (moment : ℕ) → List Verdict → Station → Station × List Outcome
 frames_heard selective moment [] s = (s, [])
 frames_heard selective moment (verdict ∷ verdicts) s =
-    let a = called (finishes (receives_as selective moment verdict s)) in
+    let a = station_and_told (finishes (receives_as selective moment verdict s)) in
     let b = frames_heard selective moment verdicts a.0 in
     (b.0, a.1 ++ b.1)
 
@@ -51,7 +52,7 @@ frames_heard selective moment (verdict ∷ verdicts) s =
 abbrev pub heard_parts : (selective : Bool) (moment : ℕ) → List Verdict → Station → List (List Outcome)
 heard_parts selective moment [] s = []
 heard_parts selective moment (verdict ∷ verdicts) s =
-    let a = called (finishes (receives_as selective moment verdict s)) in
+    let a = station_and_told (finishes (receives_as selective moment verdict s)) in
     a.1 ∷ heard_parts selective moment verdicts a.0
 
 -- ---- the user sends
@@ -68,17 +69,17 @@ refusal_of s payload None =
 abbrev pub handed_unless : Option SendRefusal → (moment : ℕ) → (payload : List ℕ) → Station → Station × List Outcome
 handed_unless (Some refusal) moment payload s = (s, Refused refusal ∷ [])
 handed_unless None moment payload s =
-    let a = called (finishes (hands moment payload s)) in
+    let a = station_and_told (finishes (hands moment payload s)) in
     (a.0, Handed payload ∷ a.1)
 
-abbrev pub user_sends : (moment : ℕ) → (payload : List ℕ) → Station → Station × List Outcome
-user_sends moment payload s = handed_unless (refusal_of s payload s.released) moment payload s
+abbrev pub station_send : (moment : ℕ) → (payload : List ℕ) → Station → Station × List Outcome
+station_send moment payload s = handed_unless (refusal_of s payload s.released) moment payload s
 
 -- ---- the user releases
 
 -- a station that was released before does nothing
-abbrev pub user_releases : (sub : ℕ) → Station → Station × List Outcome
-user_releases sub s = if is_down s.phase then (s, []) else called (quits sub s)
+abbrev pub station_release : (sub : ℕ) → Station → Station × List Outcome
+station_release sub s = if is_down s.phase then (s, []) else station_and_told (quits sub s)
 
 -- ---- the moment has come
 
@@ -87,12 +88,12 @@ if_expired true = Expired ∷ []
 if_expired false = []
 
 -- T1 is found expired or isn't
-abbrev pub time_goes_on : (moment : ℕ) → Station → Station × List Outcome
-time_goes_on moment s =
-    let a = called (finishes (ticks moment s)) in
+abbrev pub station_tick : (moment : ℕ) → Station → Station × List Outcome
+station_tick moment s =
+    let a = station_and_told (finishes (ticks moment s)) in
     (a.0, if_expired (is_late moment s) ++ a.1)
 
 -- ---- the set-up
 
-abbrev pub begins : (moment : ℕ) → Station → Station × List Outcome
-begins moment s = called (finishes (starts moment s))
+abbrev pub station_start : (moment : ℕ) → Station → Station × List Outcome
+station_start moment s = station_and_told (finishes (starts moment s))

@@ -3,7 +3,7 @@ use Rattle.std.specs.Prelude.{ℕ, zero, suc, ◌+◌, ◌-◌, ◌^◌, min, Bo
 use Rattle.std.specs.List.{count_by}
 use Rattle.er_base.specs.declared.side.Side.TheVariants.{E, R}
 use Rattle.drill_model.specs.declared.totals.Totals.{Totals as RunTotals}
-use Rattle.drill_model.specs.Outcomes.{Outcome, OfSafety, Handed, Arrived, Up, Took, NothingToTake, Refused, Released, Frame, Expired, UserReleased, Passed, Lost, Repeated, Altered, Inserted, NothingWaits, IsShort, Occurrence}
+use Rattle.drill_model.specs.Outcomes.{Outcome, Lost, Repeated, Occurrence}
 use Rattle.drill_model.specs.Worlds.{Came, history_on}
 use Rattle.drill_model.specs.Kinds.{sent_by, accepted_by, deliveries}
 
@@ -18,45 +18,13 @@ acceptances history = length (accepted_by E history) + length (accepted_by R his
 
 -- a frame was removed by the line
 abbrev pub is_loss : Outcome → Bool
-is_loss (OfSafety fact) = false
-is_loss (Handed payload) = false
-is_loss (Arrived payload) = false
-is_loss Up = false
-is_loss (Took message) = false
-is_loss NothingToTake = false
-is_loss (Refused refusal) = false
-is_loss (Released release) = false
-is_loss (Frame octets) = false
-is_loss Expired = false
-is_loss (UserReleased sub) = false
-is_loss (Passed octets) = false
 is_loss Lost = true
-is_loss Repeated = false
-is_loss Altered = false
-is_loss Inserted = false
-is_loss NothingWaits = false
-is_loss (IsShort found) = false
+is_loss other = false
 
 -- a frame was copied by the line
 abbrev pub is_repeat : Outcome → Bool
-is_repeat (OfSafety fact) = false
-is_repeat (Handed payload) = false
-is_repeat (Arrived payload) = false
-is_repeat Up = false
-is_repeat (Took message) = false
-is_repeat NothingToTake = false
-is_repeat (Refused refusal) = false
-is_repeat (Released release) = false
-is_repeat (Frame octets) = false
-is_repeat Expired = false
-is_repeat (UserReleased sub) = false
-is_repeat (Passed octets) = false
-is_repeat Lost = false
 is_repeat Repeated = true
-is_repeat Altered = false
-is_repeat Inserted = false
-is_repeat NothingWaits = false
-is_repeat (IsShort found) = false
+is_repeat other = false
 
 abbrev pub losses : List Occurrence → ℕ
 losses history = count_by (λ o. is_loss o.outcome) history

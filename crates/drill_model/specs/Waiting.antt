@@ -1,6 +1,6 @@
 -- What the line does to the frames of one direction that wait, the first to be passed first (this profile).
 use Rattle.std.specs.Prelude.{ℕ, ◌==◌, nat_lt, not, if◌then◌else◌, List, [], ◌∷◌, length}
-use Rattle.station_model.specs.Lines.{altered}
+use Rattle.hdlc_station_model.specs.Lines.{altered}
 use Rattle.drill_model.specs.Outcomes.{Outcome, Lost, Repeated, Altered, Inserted, NothingWaits, IsShort}
 
 pub data LineChange : Type 0 where
@@ -13,28 +13,28 @@ pub data LineChange : Type 0 where
   -- these octets become the first frame
   Put : (octets : List ℕ) → LineChange
 
-abbrev pub loses : List (List ℕ) → List (List ℕ) × List Outcome
-loses [] = ([], NothingWaits ∷ [])
-loses (frame ∷ frames) = (frames, Lost ∷ [])
+abbrev pub lose_first : List (List ℕ) → List (List ℕ) × List Outcome
+lose_first [] = ([], NothingWaits ∷ [])
+lose_first (frame ∷ frames) = (frames, Lost ∷ [])
 
-abbrev pub repeats : List (List ℕ) → List (List ℕ) × List Outcome
-repeats [] = ([], NothingWaits ∷ [])
-repeats (frame ∷ frames) = (frame ∷ frame ∷ frames, Repeated ∷ [])
+abbrev pub repeat_first : List (List ℕ) → List (List ℕ) × List Outcome
+repeat_first [] = ([], NothingWaits ∷ [])
+repeat_first (frame ∷ frames) = (frame ∷ frame ∷ frames, Repeated ∷ [])
 
 -- the mask 0 changes nothing
-abbrev pub alters : (place mask : ℕ) → List (List ℕ) → List (List ℕ) × List Outcome
-alters place mask [] = ([], NothingWaits ∷ [])
-alters place mask (frame ∷ frames) =
+abbrev pub alter_first : (place mask : ℕ) → List (List ℕ) → List (List ℕ) × List Outcome
+alter_first place mask [] = ([], NothingWaits ∷ [])
+alter_first place mask (frame ∷ frames) =
     if not (nat_lt place (length frame)) then (frame ∷ frames, IsShort (length frame) ∷ [])
     else if mask == 0 then (frame ∷ frames, [])
     else (altered frame place mask ∷ frames, Altered ∷ [])
 
-abbrev pub puts : List ℕ → List (List ℕ) → List (List ℕ) × List Outcome
-puts octets frames = (octets ∷ frames, Inserted ∷ [])
+abbrev pub put_first : List ℕ → List (List ℕ) → List (List ℕ) × List Outcome
+put_first octets frames = (octets ∷ frames, Inserted ∷ [])
 
 -- the frames after a change, and what came of it
-abbrev pub changes : LineChange → List (List ℕ) → List (List ℕ) × List Outcome
-changes Lose frames = loses frames
-changes Repeat frames = repeats frames
-changes (Alter place mask) frames = alters place mask frames
-changes (Put octets) frames = puts octets frames
+abbrev pub change_first : LineChange → List (List ℕ) → List (List ℕ) × List Outcome
+change_first Lose frames = lose_first frames
+change_first Repeat frames = repeat_first frames
+change_first (Alter place mask) frames = alter_first place mask frames
+change_first (Put octets) frames = put_first octets frames

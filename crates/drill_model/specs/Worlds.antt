@@ -5,18 +5,18 @@ use Rattle.std.specs.List.{flat_map}
 use Rattle.er_base.specs.declared.side.Side.{Side}
 use Rattle.er_base.specs.declared.side.Side.TheVariants.{E, R}
 use Rattle.des_block.specs.declared.triple_key.TripleKey.{TripleKey}
-use Rattle.er_settings.specs.declared.settings.Settings.{Settings}
+use Rattle.er_settings.specs.Values.{Settings}
 use Rattle.er_scenario.specs.declared.level.Level.{Level}
 use Rattle.er_scenario.specs.declared.level.Level.TheVariants as level
 use Rattle.er_scenario.specs.declared.step.Step.{Step}
 use Rattle.er_scenario.specs.declared.step.Step.TheVariants as does
 use Rattle.er_scenario.specs.declared.scenario.Scenario.{Scenario}
-use Rattle.station_model.specs.Lines.{next_of}
-use Rattle.safe_pair.specs.Facts.{SideFact}
-use Rattle.safe_pair.specs.Openings.{OfFixed, OfKeys}
+use Rattle.hdlc_station_model.specs.Lines.{next_of}
+use Rattle.safety_pair_laws.specs.Facts.{SideFact}
+use Rattle.safety_pair_laws.specs.Openings.{OfFixed, OfKeys}
 use Rattle.drill_model.specs.Outcomes.{NothingWaits, Occurrence, at_end, facts_in}
 use Rattle.drill_model.specs.Waiting.{Lose, Repeat, Alter, Put}
-use Rattle.drill_model.specs.Links.{Link, LinkOpening, OfPair, OfStations, OfStacks, opened, waiting_of, LinkStep, Send, Pass, Change, Take, Release, Tick, link_step}
+use Rattle.drill_model.specs.Links.{Link, LinkOpening, OfPair, OfStations, OfStacks, opened_link, waiting_of, LinkStep, Send, Pass, Change, Take, Release, Tick, link_step}
 
 -- what a drill is run with: its level, the settings of its links, and whether frames are printed
 pub record Plan : Type 0 where
@@ -94,7 +94,7 @@ wire_opening level.Full = None
 abbrev pub open_link : Plan → World → ℕ → Option Link → Option LinkOpening → World × List Came
 open_link plan w n (Some l) opening = (w, [])
 open_link plan w n None None = (w, [])
-open_link plan w n None (Some opening) = if is_link n then went_on w n (opened plan.settings w.moment opening) else (w, [])
+open_link plan w n None (Some opening) = if is_link n then went_on w n (opened_link plan.settings w.moment opening) else (w, [])
 
 -- ---- steps of links
 
@@ -140,12 +140,12 @@ unfoldable pub drain : (most : ℕ) → Link → Drain
 drain zero l = no_passes l
 drain (suc most) l = drain_on (drain most) l (next_side l) (overfull_side l)
 
-abbrev pub drained : World → ℕ → Drain → World × List Came
-drained w n d = (with_link w n d.link, map (On n) d.came ++ Drained n d.passes ∷ [])
+abbrev pub with_drain : World → ℕ → Drain → World × List Came
+with_drain w n d = (with_link w n d.link, map (On n) d.came ++ Drained n d.passes ∷ [])
 
 abbrev pub drain_link : World → ℕ → (most : ℕ) → Option Link → World × List Came
 drain_link w n most None = (w, [])
-drain_link w n most (Some l) = drained w n (drain most l)
+drain_link w n most (Some l) = with_drain w n (drain most l)
 
 -- a copy of the first waiting frame of an end of link n is put as the first one of an end of link m, where both were opened
 abbrev pub copy_frame : World → ℕ → Side → List (List ℕ) → ℕ → Side → Link → World × List Came
@@ -162,13 +162,13 @@ abbrev pub then_world : World × List Came → (World → World × List Came) �
 then_world a next = let b = next a.0 in (b.0, a.1 ++ b.1)
 
 -- the links from number n on, so many, are ticked, their numbers rising
-unfoldable pub ticks : (moment : ℕ) → World → (n count : ℕ) → World × List Came
-ticks moment w n zero = (w, [])
-ticks moment w n (suc count) = then_world (at_link w n (link_at w n) (Tick moment)) (λ v. ticks moment v (n + 1) count)
+unfoldable pub tick_each_link : (moment : ℕ) → World → (n count : ℕ) → World × List Came
+tick_each_link moment w n zero = (w, [])
+tick_each_link moment w n (suc count) = then_world (at_link w n (link_at w n) (Tick moment)) (λ v. tick_each_link moment v (n + 1) count)
 
 -- the moment is set and every end is ticked, links rising, e before r; not where it lies before the world's
-abbrev pub ticked : World → (moment : ℕ) → World × List Came
-ticked w moment = if nat_lt moment w.moment then (w, []) else ticks moment (record w { moment = moment }) 1 64
+abbrev pub tick_world : World → (moment : ℕ) → World × List Came
+tick_world w moment = if nat_lt moment w.moment then (w, []) else tick_each_link moment (record w { moment = moment }) 1 64
 
 -- ---- steps of the world
 
@@ -186,7 +186,7 @@ world_step plan w (does.Put n s text) = at_link w n (link_at w n) (Change s (Put
 world_step plan w (does.Copy n s m t) = copy_between w n s (link_at w n) m t (link_at w m)
 world_step plan w (does.Take n s) = at_link w n (link_at w n) (Take s)
 world_step plan w (does.Release n s sub) = at_link w n (link_at w n) (Release s sub)
-world_step plan w (does.Tick moment) = ticked w moment
+world_step plan w (does.Tick moment) = tick_world w moment
 world_step plan w (does.Drain n most) = drain_link w n most (link_at w n)
 
 -- a list of steps from a world on: the world at the end, and all that came

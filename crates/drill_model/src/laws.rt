@@ -23,7 +23,7 @@ pub fn marks_grow()
     ensures link { LinkMarksGrow }
     ensures text { LinkText }
 {
-    safe_pair::laws::marks_grow();
+    safety_pair_laws::laws::marks_grow();
 }
 
 /// A stack is orderly as it is opened and behind each call: its safety side is connected only behind its transport. And what it keeps of

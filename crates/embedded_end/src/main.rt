@@ -7,7 +7,7 @@ mod side;
 
 use crate::side::{CENTRE, ENGINE, Side};
 use des_block::TripleKey;
-use er_base::NoMemory;
+use er_base::{Moment, NoMemory};
 use key_store::KeyStore;
 use safety_automaton::KeyFinder;
 use std::alloc::Global;
@@ -42,20 +42,26 @@ fn main(rt: HostRuntime) -> io::Result<()> {
 
 // The set-up, and then a message of the engine.
 fn talk(alloc: Global, keys: &KeyStore, kmac: TripleKey) -> Result<(Side, Side), NoMemory> {
-    let mut engine = Side::engine(alloc, kmac, 0x0102030405060708, 0)?;
-    let mut centre = Side::centre(alloc, 0x1122334455667788, 0)?;
-    carry(&mut engine, &mut centre, keys)?;
-    engine.send(0, b"a position report")?;
-    carry(&mut engine, &mut centre, keys)?;
+    let now = Moment::new(0);
+    let mut engine = Side::engine(alloc, kmac, 0x0102030405060708, now)?;
+    let mut centre = Side::centre(alloc, 0x1122334455667788, now)?;
+    carry(&mut engine, &mut centre, keys, now)?;
+    engine.send(now, b"a position report")?;
+    carry(&mut engine, &mut centre, keys, now)?;
     Ok((engine, centre))
 }
 
 // What each sent is given to the other.
-fn carry(engine: &mut Side, centre: &mut Side, keys: &KeyStore) -> Result<(), NoMemory> {
+fn carry(
+    engine: &mut Side,
+    centre: &mut Side,
+    keys: &KeyStore,
+    now: Moment,
+) -> Result<(), NoMemory> {
     for _ in 0..PASSES {
-        centre.receive(keys, 0, &engine.to_line)?;
+        centre.receive(keys, now, &engine.to_line)?;
         engine.to_line.clear();
-        engine.receive(keys, 0, &centre.to_line)?;
+        engine.receive(keys, now, &centre.to_line)?;
         centre.to_line.clear();
     }
     Ok(())

@@ -1,9 +1,7 @@
 //! An end, and what a program that embeds it has beside it.
 
-ghost use Rattle.std.specs.Prelude.{◌≤◌};
-
 use des_block::TripleKey;
-use er_base::NoMemory;
+use er_base::{Moment, NoMemory};
 use er_end::End;
 use er_settings::Settings;
 use key_store::KeyStore;
@@ -26,34 +24,34 @@ pub struct Side {
 
 impl Side {
     /// A radio block centre: its end waits for a call.
-    pub fn centre(alloc: Global, random: u64, now: u64) -> Result<Side, NoMemory>
-        requires { now ≤ 1000000000000000 }
-    {
-        let end = End::answer(alloc, &Settings::usual(), CENTRE, random, now)?;
+    pub fn centre(alloc: Global, random: u64, now: Moment) -> Result<Side, NoMemory> {
+        let end = End::answer(alloc, &Settings::usual(), CENTRE, random, now.get())?;
         Ok(Side::new(alloc, end))
     }
 
     /// An engine: its end calls the radio block centre.
-    pub fn engine(alloc: Global, kmac: TripleKey, random: u64, now: u64) -> Result<Side, NoMemory>
-        requires { now ≤ 1000000000000000 }
-    {
+    pub fn engine(
+        alloc: Global,
+        kmac: TripleKey,
+        random: u64,
+        now: Moment,
+    ) -> Result<Side, NoMemory> {
         let settings = Settings::usual();
-        let end = End::call(alloc, &settings, ENGINE, CENTRE, kmac, random, now)?;
+        let end = End::call(alloc, &settings, ENGINE, CENTRE, kmac, random, now.get())?;
         let mut side = Side::new(alloc, end);
-        side.to_line.extend_from_slice(side.end.start(now).out)?;
+        let deeds = side.end.start(now.get());
+        side.to_line.extend_from_slice(deeds.out)?;
         Ok(side)
     }
 
     /// Octets came from the line, and go to the end frame by frame.
-    pub fn receive(&mut self, keys: &KeyStore, now: u64, octets: &[u8]) -> Result<(), NoMemory>
-        requires { now ≤ 1000000000000000 }
-    {
+    pub fn receive(&mut self, keys: &KeyStore, now: Moment, octets: &[u8]) -> Result<(), NoMemory> {
         let mut rest = octets;
         while !rest.is_empty() {
-            let (used, deeds) = self.end.octets(keys, now, rest);
+            let (used, deeds) = self.end.octets(keys, now.get(), rest);
             self.to_line.extend_from_slice(deeds.out)?;
             self.peer = self.peer.or(deeds.connected);
-            if let Some(taken) = self.end.take(now) {
+            if let Some(taken) = self.end.take(now.get()) {
                 self.to_user.extend_from_slice(taken.text)?;
                 self.to_line.extend_from_slice(taken.out)?;
             }
@@ -63,10 +61,8 @@ impl Side {
     }
 
     /// The user sends a message; one that is refused isn't sent.
-    pub fn send(&mut self, now: u64, message: &[u8]) -> Result<(), NoMemory>
-        requires { now ≤ 1000000000000000 }
-    {
-        if let Ok(deeds) = self.end.send(now, message) {
+    pub fn send(&mut self, now: Moment, message: &[u8]) -> Result<(), NoMemory> {
+        if let Ok(deeds) = self.end.send(now.get(), message) {
             self.to_line.extend_from_slice(deeds.out)?;
         }
         Ok(())

@@ -19,9 +19,9 @@ use Rattle.sapdu.specs.Spelling.{di_in}
 use Rattle.safety_automaton.specs.Keys.{no_keys}
 use Rattle.safety_automaton.specs.Reports.{Report, ToldAnswered, ToldConnected, ToldAccepted, ToldReleased, ToldIgnored, report_of}
 use Rattle.safety_automaton.specs.Safety.{ConnectRequest, Received, DataRequest, DisconnectRequest, sent_by, peer_flag, step}
-use Rattle.end_model.specs.Outcomes.{Outcome, ConnectedTo, Accepted, Taken, NothingToTake, Refused, WasReleased, Octets, SendRefusal}
-use Rattle.end_model.specs.Steps.{Finds, begins, begins_at, gives_if_may, departs, cut_off, parts, why_of, spoken, is_some_octets, says, accepts, Carrier, InCr, InCc, InDt, answers, acts, text_comes, does, block_at, is_ready, connects, comes_up, link_at, gives_next, goes_on, offers, most_offers, concludes, received, refusal_of, sent, sends_unless, used, left, normal_disconnect, is_spent, di_of, time_at, ticked, broken, started, outcomes_of, if_connected, if_accepted, if_released, if_octets, if_taken}
-use Rattle.end_model.specs.Ends.{Start, Come, Send, Take, Leave, Tick, Ended, Fault, Stalled, if_refused}
+use Rattle.er_end_model.specs.Outcomes.{Outcome, ConnectedTo, Accepted, Taken, NothingToTake, Refused, WasReleased, Octets, SendRefusal}
+use Rattle.er_end_model.specs.Steps.{Finds, new_event, new_event_at, hand_tpdu_if_may, send_dr, answer_dr, on_safety_release, why_of, with_safety_step, is_some_octets, hand_text, accept_text, Carrier, InCr, InCc, InDt, hand_answer, on_safety_report, on_text, on_transport_deed, on_joined_block, is_ready, connect_with_text, on_link_up, on_link_told, hand_next_tpdu, has_next_tpdu, hand_waiting_tpdus, most_offers, conclude_event, on_frame, refusal_of, on_send, step_send_unless, on_take, on_release, normal_disconnect, is_spent, di_of, on_expiry, on_tick, on_break, on_start, outcomes_of, if_connected, if_accepted, if_released, if_octets, if_taken}
+use Rattle.er_end_model.specs.Ends.{Start, Come, Send, Take, Leave, Tick, Ended, Fault, Stalled, if_refused}
 use Rattle.er_end.specs.Inboxes.{KInbox, kept_more, newest_of}
 use Rattle.er_end.specs.KeptLayers.{KCore, kept}
 use Rattle.er_end.specs.KeptEnds.{found_comes, used_of, after_start, after_octets, refusal, after_send, after_take, after_release, after_tick, after_break, waiting_in, deadline_of}
@@ -36,38 +36,38 @@ box_if : (b : Bool) (x y : KCore) (v : KInbox) → box x ≡ v → box y ≡ v �
 box_if true x y v h g = h
 box_if false x y v h g = g
 
-box_gives : (g : Given) (x : KCore) → box (gives_if_may kept g x) ≡ box x
+box_gives : (g : Given) (x : KCore) → box (hand_tpdu_if_may kept g x) ≡ box x
 box_gives g x = box_if (kept.may_send x.line) _ x (box x) refl refl
 
-box_departs : (why : Release) (reason : ℕ) (user : List ℕ) (x : KCore) → box (departs kept why reason user x) ≡ box x
+box_departs : (why : Release) (reason : ℕ) (user : List ℕ) (x : KCore) → box (send_dr kept why reason user x) ≡ box x
 box_departs why reason user x = box_gives (Dr reason user) x
 
-box_cut_off : (why : Release) (x : KCore) → box (cut_off kept why x) ≡ box x
+box_cut_off : (why : Release) (x : KCore) → box (answer_dr kept why x) ≡ box x
 box_cut_off why x = box_gives Dc x
 
-box_parts : (why : Release) (di : List ℕ) (x : KCore) → box (parts kept why di x) ≡ box x
+box_parts : (why : Release) (di : List ℕ) (x : KCore) → box (on_safety_release kept why di x) ≡ box x
 box_parts why di x = box_if why.by_peer _ _ (box x) refl (box_departs why normal_disconnect di x)
 
-box_offers : (n : ℕ) (x : KCore) → box (offers kept n x) ≡ box x
-unfolding offers
+box_offers : (n : ℕ) (x : KCore) → box (hand_waiting_tpdus kept n x) ≡ box x
+unfolding hand_waiting_tpdus
 box_offers zero x = refl
-box_offers (suc n) x = box_if (goes_on kept x) (offers kept n (gives_next kept x)) x (box x) (box_offers n (gives_next kept x)) refl
+box_offers (suc n) x = box_if (has_next_tpdu kept x) (hand_waiting_tpdus kept n (hand_next_tpdu kept x)) x (box x) (box_offers n (hand_next_tpdu kept x)) refl
 
-box_concludes : (x : KCore) → box (concludes kept x) ≡ box x
+box_concludes : (x : KCore) → box (conclude_event kept x) ≡ box x
 box_concludes x = box_if (is_some x.released) x _ (box x) refl (box_offers most_offers x)
 
-box_says : (text : List ℕ) (x : KCore) → box (says kept text x) ≡ box x
+box_says : (text : List ℕ) (x : KCore) → box (hand_text kept text x) ≡ box x
 box_says text x = box_if (is_some_octets text && kept.may_hand x.upper) _ x (box x) refl refl
 
-box_accepts : (text : List ℕ) (x : KCore) → box (accepts kept text x) ≡ box x
+box_accepts : (text : List ℕ) (x : KCore) → box (accept_text kept text x) ≡ box x
 box_accepts text x = box_if (is_some_octets text) _ x (box x) refl refl
 
-box_answers : (carrier : Carrier) (text : List ℕ) (x : KCore) → box (answers kept carrier text x) ≡ box x
+box_answers : (carrier : Carrier) (text : List ℕ) (x : KCore) → box (hand_answer kept carrier text x) ≡ box x
 box_answers InCr text x = box_accepts text x
 box_answers InCc text x = box_says text x
 box_answers InDt text x = box_says text (record x { upper = kept.skips x.upper })
 
-box_connects : (text : List ℕ) (x : KCore) → box (connects kept text x) ≡ box x
+box_connects : (text : List ℕ) (x : KCore) → box (connect_with_text kept text x) ≡ box x
 box_connects text x = box_if (is_some_octets text) _ x (box x) refl refl
 
 -- the same, or with one message more
@@ -79,7 +79,7 @@ more_on : (q p r : KInbox) → More q p → r ≡ p → More q r
 more_on q p r (Same e) f = Same (f ∙ e)
 more_on q p r (One user e) f = One user (f ∙ e)
 
-more_acts : (carrier : Carrier) (report : Report) (octets : List ℕ) (x : KCore) → More (box x) (box (acts kept carrier report octets x))
+more_acts : (carrier : Carrier) (report : Report) (octets : List ℕ) (x : KCore) → More (box x) (box (on_safety_report kept carrier report octets x))
 more_acts carrier ToldAnswered octets x = Same (box_answers carrier octets x)
 more_acts carrier (ToldConnected peer) octets x = Same (box_answers carrier octets x)
 more_acts InCr (ToldAccepted user) octets x = Same refl
@@ -88,12 +88,12 @@ more_acts InDt (ToldAccepted user) octets x = One user refl
 more_acts carrier (ToldReleased why) octets x = Same (box_parts why octets x)
 more_acts carrier ToldIgnored octets x = Same refl
 
-more_text : (finds : Finds) (carrier : Carrier) (text : List ℕ) (x : KCore) → More (box x) (box (text_comes kept finds carrier text x))
+more_text : (finds : Finds) (carrier : Carrier) (text : List ℕ) (x : KCore) → More (box x) (box (on_text kept finds carrier text x))
 more_text finds carrier text x =
     let a = step (finds x.moment) x.safe.safety (Received text) in
-    more_acts carrier (report_of a.1) (sent_by a.1) (spoken kept (Received text) a x)
+    more_acts carrier (report_of a.1) (sent_by a.1) (with_safety_step kept (Received text) a x)
 
-more_does : (finds : Finds) (deed : Deed) (x : KCore) → More (box x) (box (does kept finds deed x))
+more_does : (finds : Finds) (deed : Deed) (x : KCore) → More (box x) (box (on_transport_deed kept finds deed x))
 more_does finds Nothing x = Same refl
 more_does finds (Called user) x = more_text finds InCr user x
 more_does finds (Confirmed user) x = more_text finds InCc user x
@@ -101,18 +101,18 @@ more_does finds (Message message) x = more_text finds InDt message x
 more_does finds (Disconnected user) x = Same (box_cut_off (why_of (di_in user (peer_flag x.safe.safety))) x)
 more_does finds (transport.Refused sub reason) x = Same (box_departs (by_this_end 2 sub) reason [] x)
 
-more_block : (finds : Finds) (joined : joining.Answer) (x : KCore) → More (box x) (box (block_at kept finds joined x))
+more_block : (finds : Finds) (joined : joining.Answer) (x : KCore) → More (box x) (box (on_joined_block kept finds joined x))
 more_block finds (Ok None) x = Same refl
 more_block finds (Ok (Some tpdu)) x = more_does finds (kept.deed x.upper tpdu) (record x { upper = kept.hears x.upper tpdu })
 more_block finds (Err fault) x = Same (box_departs (release_of BlockRefused) protocol_error [] x)
 
-box_up : (x : KCore) → box (comes_up kept x) ≡ box x
+box_up : (x : KCore) → box (on_link_up kept x) ≡ box x
 box_up x =
     let a = step no_keys x.safe.safety ConnectRequest in
     box_if (kept.may_connect x.upper && is_ready x.safe.safety.phase) _ x (box x)
-    (box_connects (sent_by a.1) (spoken kept ConnectRequest a x)) refl
+    (box_connects (sent_by a.1) (with_safety_step kept ConnectRequest a x)) refl
 
-more_link : (finds : Finds) (payload : Option (List ℕ)) (up : Bool) (released : Option Release) (x : KCore) → More (box x) (box (link_at kept finds payload up released x))
+more_link : (finds : Finds) (payload : Option (List ℕ)) (up : Bool) (released : Option Release) (x : KCore) → More (box x) (box (on_link_told kept finds payload up released x))
 more_link finds (Some payload) up released x =
     let joined = joining.step x.joined payload in more_block finds joined.1 (record x { joined = joined.0 })
 more_link finds None true released x = Same (box_up x)
@@ -123,17 +123,17 @@ more_if : (b : Bool) (x y : KCore) (q : KInbox) → More q (box x) → More q (b
 more_if true x y q h g = h
 more_if false x y q h g = g
 
-more_received : (finds : Finds) (verdict : Verdict) (x : KCore) → More (box x) (box (received kept finds verdict x))
+more_received : (finds : Finds) (verdict : Verdict) (x : KCore) → More (box x) (box (on_frame kept finds verdict x))
 more_received finds verdict x =
     let deed = kept.told x.moment verdict x.line in
     let y : KCore = record x { line = kept.receives x.moment verdict x.line } in
-    let z = link_at kept finds deed.payload deed.up deed.released y in
+    let z = on_link_told kept finds deed.payload deed.up deed.released y in
     more_if (is_some x.released) x _ (box x) (Same refl)
     (more_on (box x) (box z) _ (more_link finds deed.payload deed.up deed.released y) (box_concludes z))
 
-more_found : (finds : Finds) (now : ℕ) (found : Option Verdict) (x : KCore) → More (box (begins_at kept now x)) (box (found_comes finds now found x))
+more_found : (finds : Finds) (now : ℕ) (found : Option Verdict) (x : KCore) → More (box (new_event_at kept now x)) (box (found_comes finds now found x))
 more_found finds now None x = Same refl
-more_found finds now (Some verdict) x = more_received finds verdict (begins_at kept now x)
+more_found finds now (Some verdict) x = more_received finds verdict (new_event_at kept now x)
 
 -- ---- what is told of it
 
@@ -214,34 +214,34 @@ silent_by x q old e = told_news x ∙ ap (λ z. option_to_list (newest_of z)) e 
 
 -- ---- the events
 
-box_started : (x : KCore) → box (started kept x) ≡ box x
+box_started : (x : KCore) → box (on_start kept x) ≡ box x
 box_started x = let y : KCore = record x { line = kept.starts x.moment x.line } in box_if (is_some x.released) x _ (box x) refl (box_concludes y)
 
-box_sent : (user : List ℕ) (x : KCore) → box (sent kept user x) ≡ box x
+box_sent : (user : List ℕ) (x : KCore) → box (on_send kept user x) ≡ box x
 box_sent user x =
     let a = step no_keys x.safe.safety (DataRequest user) in
-    let y = spoken kept (DataRequest user) a x in
-    box_concludes (says kept (sent_by a.1) y) ∙ box_says (sent_by a.1) y
+    let y = with_safety_step kept (DataRequest user) a x in
+    box_concludes (hand_text kept (sent_by a.1) y) ∙ box_says (sent_by a.1) y
 
-box_left : (sub : ℕ) (x : KCore) → box (left kept sub x) ≡ box x
+box_left : (sub : ℕ) (x : KCore) → box (on_release kept sub x) ≡ box x
 box_left sub x =
     let a = step no_keys x.safe.safety (DisconnectRequest sub) in
     box_if (is_some x.released) x _ (box x) refl
-    (box_departs (release_of (User sub)) normal_disconnect (sent_by a.1) (spoken kept (DisconnectRequest sub) a x))
+    (box_departs (release_of (User sub)) normal_disconnect (sent_by a.1) (with_safety_step kept (DisconnectRequest sub) a x))
 
-box_time : (why : Option Release) (x : KCore) → box (time_at kept why x) ≡ box x
+box_time : (why : Option Release) (x : KCore) → box (on_expiry kept why x) ≡ box x
 box_time (Some why) x = refl
 box_time None x =
     let why = release_of SetUpTimeSpent in
     box_if (is_spent x) _ x (box x) (box_departs why normal_disconnect (di_of why x.safe.safety) x) refl
 
-box_ticked : (x : KCore) → box (ticked kept x) ≡ box x
+box_ticked : (x : KCore) → box (on_tick kept x) ≡ box x
 box_ticked x =
     let y : KCore = record x { line = kept.ticks x.moment x.line } in
-    let z = time_at kept (kept.given_up x.moment x.line) y in
+    let z = on_expiry kept (kept.given_up x.moment x.line) y in
     box_if (is_some x.released) x _ (box x) refl (box_concludes z ∙ box_time (kept.given_up x.moment x.line) y)
 
-box_broken : (cause : Cause) (x : KCore) → box (broken cause x) ≡ box x
+box_broken : (cause : Cause) (x : KCore) → box (on_break cause x) ≡ box x
 box_broken cause x = box_if (is_some x.released) x _ (box x) refl refl
 
 none_left : (ms : List (List ℕ)) → length ms ≡ 0 → ms ≡ []
@@ -253,7 +253,7 @@ record UsedSo (x y : KCore) : Type 0 where
   waits : (box y).waits ≡ drop 1 (box x).waits
   old : (box y).fresh ≡ false
 
-used_so : (x : KCore) → (box x).fresh ≡ false → UsedSo x (used kept x)
+used_so : (x : KCore) → (box x).fresh ≡ false → UsedSo x (on_take kept x)
 used_so x old = elim (cases_Bool (length (box x).waits == 0)) [
   | inl p ↦ rw p (record { waits = let e = none_left (box x).waits (eqb-true (length (box x).waits) 0 p) in e ∙ ap (λ z. drop 1 z) (sym e); old = old })
   | inr p ↦
@@ -275,15 +275,15 @@ silent_waits : (x : KCore) (q : KInbox) → q.fresh ≡ false → box x ≡ q �
 silent_waits x q old e = led_by x q.waits (waits_more q (box x) old (Same e))
 
 sends_waits : (refused : Option SendRefusal) (now : ℕ) (user : List ℕ) (x : KCore)
-    → (box (sends_unless kept refused now user x)).waits ≡ (box x).waits ++ accepted_in (if_refused refused (outcomes_of kept (sends_unless kept refused now user x)))
+    → (box (step_send_unless kept refused now user x)).waits ≡ (box x).waits ++ accepted_in (if_refused refused (outcomes_of kept (step_send_unless kept refused now user x)))
 sends_waits (Some refusal) now user x = sym (append-nil (box x).waits)
-sends_waits None now user x = silent_waits (sent kept user (begins_at kept now x)) (box (begins_at kept now x)) refl (box_sent user (begins_at kept now x))
+sends_waits None now user x = silent_waits (on_send kept user (new_event_at kept now x)) (box (new_event_at kept now x)) refl (box_sent user (new_event_at kept now x))
 
 pub waits_move : WaitsMove
 unfolding after_start after_octets refusal after_send after_take after_release after_tick after_break
-waits_move now Start k = let x = begins_at kept now k.core in silent_waits (started kept x) (box x) refl (box_started x)
+waits_move now Start k = let x = new_event_at kept now k.core in silent_waits (on_start kept x) (box x) refl (box_started x)
 waits_move now (Come finds octets) k =
-    let x = begins_at kept now k.core in
+    let x = new_event_at kept now k.core in
     let found = (deframing.feeding_of k.deframer octets).verdict in
     elim (cases_Bool (is_some k.core.released)) [
       | inl p ↦ rw p (silent_waits x (box x) refl refl)
@@ -291,40 +291,40 @@ waits_move now (Come finds octets) k =
     ]
 waits_move now (Send user) k = sends_waits (refusal_of kept user k.core) now user k.core
 waits_move now Take k =
-    let x = begins_at kept now k.core in
-    let y = used kept x in
+    let x = new_event_at kept now k.core in
+    let y = on_take kept x in
     let u = used_so x refl in
     led_by y (drop 1 (waiting_in k)) (ap (λ z. z) u.waits ∙ sym (ap (λ (b : Bool). drop 1 (waiting_in k) ++ option_to_list (if b then slice_get (box y).waits (length (box y).waits - 1) else None)) u.old ∙ append-nil (drop 1 (waiting_in k))))
     ∙ ap (λ z. drop 1 (waiting_in k) ++ z) (sym (taken_told (kept.oldest k.core.upper) (outcomes_of kept y)))
-waits_move now (Leave sub) k = let x = begins_at kept now k.core in silent_waits (left kept sub x) (box x) refl (box_left sub x)
-waits_move now Tick k = let x = begins_at kept now k.core in silent_waits (ticked kept x) (box x) refl (box_ticked x)
-waits_move now Ended k = let x = begins kept k.core in silent_waits (broken LineEnded x) (box x) refl (box_broken LineEnded x)
-waits_move now Fault k = let x = begins kept k.core in silent_waits (broken LineFailed x) (box x) refl (box_broken LineFailed x)
-waits_move now Stalled k = let x = begins kept k.core in silent_waits (broken LineStalled x) (box x) refl (box_broken LineStalled x)
+waits_move now (Leave sub) k = let x = new_event_at kept now k.core in silent_waits (on_release kept sub x) (box x) refl (box_left sub x)
+waits_move now Tick k = let x = new_event_at kept now k.core in silent_waits (on_tick kept x) (box x) refl (box_ticked x)
+waits_move now Ended k = let x = new_event kept k.core in silent_waits (on_break LineEnded x) (box x) refl (box_broken LineEnded x)
+waits_move now Fault k = let x = new_event kept k.core in silent_waits (on_break LineFailed x) (box x) refl (box_broken LineFailed x)
+waits_move now Stalled k = let x = new_event kept k.core in silent_waits (on_break LineStalled x) (box x) refl (box_broken LineStalled x)
 
 sends_silent : (refused : Option SendRefusal) (now : ℕ) (user : List ℕ) (x : KCore)
-    → accepted_in (if_refused refused (outcomes_of kept (sends_unless kept refused now user x))) ≡ []
+    → accepted_in (if_refused refused (outcomes_of kept (step_send_unless kept refused now user x))) ≡ []
 sends_silent (Some refusal) now user x = refl
-sends_silent None now user x = silent_by (sent kept user (begins_at kept now x)) (box (begins_at kept now x)) refl (box_sent user (begins_at kept now x))
+sends_silent None now user x = silent_by (on_send kept user (new_event_at kept now x)) (box (new_event_at kept now x)) refl (box_sent user (new_event_at kept now x))
 
 pub octets_bring : OctetsBring
 unfolding after_start after_octets refusal after_send after_take after_release after_tick after_break
-octets_bring now Start k p = let x = begins_at kept now k.core in silent_by (started kept x) (box x) refl (box_started x)
+octets_bring now Start k p = let x = new_event_at kept now k.core in silent_by (on_start kept x) (box x) refl (box_started x)
 octets_bring now (Come finds octets) k p = absurd (true≢false p)
 octets_bring now (Send user) k p = sends_silent (refusal_of kept user k.core) now user k.core
 octets_bring now Take k p =
-    let x = begins_at kept now k.core in
-    let y = used kept x in
+    let x = new_event_at kept now k.core in
+    let y = on_take kept x in
     taken_told (kept.oldest k.core.upper) (outcomes_of kept y) ∙ silent_by y (box y) (used_so x refl).old refl
-octets_bring now (Leave sub) k p = let x = begins_at kept now k.core in silent_by (left kept sub x) (box x) refl (box_left sub x)
-octets_bring now Tick k p = let x = begins_at kept now k.core in silent_by (ticked kept x) (box x) refl (box_ticked x)
-octets_bring now Ended k p = let x = begins kept k.core in silent_by (broken LineEnded x) (box x) refl (box_broken LineEnded x)
-octets_bring now Fault k p = let x = begins kept k.core in silent_by (broken LineFailed x) (box x) refl (box_broken LineFailed x)
-octets_bring now Stalled k p = let x = begins kept k.core in silent_by (broken LineStalled x) (box x) refl (box_broken LineStalled x)
+octets_bring now (Leave sub) k p = let x = new_event_at kept now k.core in silent_by (on_release kept sub x) (box x) refl (box_left sub x)
+octets_bring now Tick k p = let x = new_event_at kept now k.core in silent_by (on_tick kept x) (box x) refl (box_ticked x)
+octets_bring now Ended k p = let x = new_event kept k.core in silent_by (on_break LineEnded x) (box x) refl (box_broken LineEnded x)
+octets_bring now Fault k p = let x = new_event kept k.core in silent_by (on_break LineFailed x) (box x) refl (box_broken LineFailed x)
+octets_bring now Stalled k p = let x = new_event kept k.core in silent_by (on_break LineStalled x) (box x) refl (box_broken LineStalled x)
 
 -- ---- a release
 
-take_stays : (why : Release) (x : KCore) → x.released ≡ Some why → (used kept x).released ≡ Some why
+take_stays : (why : Release) (x : KCore) → x.released ≡ Some why → (on_take kept x).released ≡ Some why
 take_stays why x e = elim (cases_Bool (length (box x).waits == 0)) [ inl p ↦ rw p e | inr p ↦ rw p (rw e refl) ]
 
 pub release_stays : ReleaseStays
@@ -332,22 +332,22 @@ unfolding after_start after_octets after_send after_take after_release after_tic
 release_stays now Start k why e = rw e refl
 release_stays now (Come finds octets) k why e = rw e refl
 release_stays now (Send user) k why e = rw e refl
-release_stays now Take k why e = take_stays why (begins_at kept now k.core) e
+release_stays now Take k why e = take_stays why (new_event_at kept now k.core) e
 release_stays now (Leave sub) k why e = rw e refl
 release_stays now Tick k why e = rw e refl
 release_stays now Ended k why e = rw e refl
 release_stays now Fault k why e = rw e refl
 release_stays now Stalled k why e = rw e refl
 
-broken_is : (cause : Cause) (x : KCore) → is_some (broken cause x).released ≡ true
+broken_is : (cause : Cause) (x : KCore) → is_some (on_break cause x).released ≡ true
 broken_is cause x = elim (cases_Bool (is_some x.released)) [ inl p ↦ rw p p | inr p ↦ rw p refl ]
 
 pub breaks_release : BreaksRelease
 unfolding after_break
 breaks_release = record {
-  ended = λ now k. broken_is LineEnded (begins kept k.core);
-  fault = λ now k. broken_is LineFailed (begins kept k.core);
-  stalled = λ now k. broken_is LineStalled (begins kept k.core);
+  ended = λ now k. broken_is LineEnded (new_event kept k.core);
+  fault = λ now k. broken_is LineFailed (new_event kept k.core);
+  stalled = λ now k. broken_is LineStalled (new_event kept k.core);
 }
 
 pub released_want_none : ReleasedWantNone

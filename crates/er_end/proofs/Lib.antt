@@ -1,5 +1,7 @@
 pub mod Offers
 pub mod Tying
+pub mod Risings
+pub mod FrameRooms
 pub mod Lines
 pub mod Uppers
 pub mod Standings

@@ -4,12 +4,12 @@ use Rattle.std.specs.Prelude.{nat_lt, ◌==◌}
 use Rattle.std.proofs.lemmas.Bool.{cases_Bool}
 use Rattle.std.proofs.lemmas.Grind.{flat_map-append}
 use Rattle.hdlc_frames.specs.Framing.{Verdict}
-use Rattle.station_model.specs.declared.phase.Phase.{Phase}
-use Rattle.station_model.specs.declared.phase.Phase.TheVariants.{Idle, Setting, Up, Down}
-use Rattle.station_model.specs.Frames.{Frame, Rr, Disc, sent_octets}
-use Rattle.station_model.specs.Stations.{Station, Deed, no_deed, settled, is_down, is_up, sees, puts}
-use Rattle.station_model.specs.Sending.{can_send, waiting, sends_next, sends_up_to, settles}
-use Rattle.station_model.specs.Calls.{starts, receives, hands, finishes, ticks, closes, closes_at, may_send}
+use Rattle.hdlc_station_model.specs.declared.phase.Phase.{Phase}
+use Rattle.hdlc_station_model.specs.declared.phase.Phase.TheVariants.{Idle, Setting, Up, Down}
+use Rattle.hdlc_station_model.specs.Frames.{Frame, Rr, Disc, sent_octets}
+use Rattle.hdlc_station_model.specs.Stations.{Station, Deed, no_deed, settled, is_down, is_up, sees, puts}
+use Rattle.hdlc_station_model.specs.Sending.{can_send, waiting, sends_next, sends_up_to, settles}
+use Rattle.hdlc_station_model.specs.Calls.{starts, receives, hands, finishes, ticks, closes, closes_at, may_send}
 use Rattle.hdlc_balanced.specs.Kept.{Kept, kept_of, texts}
 use Rattle.hdlc_balanced.specs.Alike.{model_of, Sound, Alike, StepsAlike, KeptIsModelled}
 use Rattle.er_end.specs.KeptLayers.{KLine, ran, line_starts, line_receives, line_told, line_hands, line_finishes, line_ticks, line_given_up, line_closes, line_may_send, line_is_free}

@@ -1,10 +1,12 @@
 -- TPDUs that go down while no payload waits.
-use Rattle.std.proofs.Common.{◌≡◌, ◌<◌, ◌≤◌, ◌-◌, ℕ, zero, suc, true, false, refl, arith}
+use Rattle.std.proofs.Common.{◌≡◌, inl, inr, ◌<◌, ◌≤◌, ◌-◌, ℕ, zero, suc, true, false, refl, arith}
 use Rattle.std.specs.Prelude.{is_some}
-use Rattle.end_model.specs.Stacks.{Ops, Stack}
-use Rattle.end_model.specs.Steps.{goes_on, gives_next, offers}
+use Rattle.std.proofs.lemmas.Bool.{cases_Bool}
+use Rattle.er_end_model.specs.Stacks.{Ops, Stack}
+use Rattle.er_end_model.specs.Steps.{has_next_tpdu, hand_next_tpdu, hand_waiting_tpdus, conclude_event}
 use Rattle.x224_class2.specs.Transport.{Turn, Rest, Opening, Acknowledgement, Data}
 use Rattle.x224_class2.specs.Kept.{Kept, kept_turn, kept_tpdu_at, kept_behind, kept_next_tpdu, kept_after_next}
+use Rattle.er_end.specs.KeptLayers.{KCore, kept}
 
 -- a turn without a TPDU changes nothing
 rests : (k : Kept) (t : Turn) → is_some (kept_tpdu_at k t) ≡ false → kept_behind k t ≡ k
@@ -19,19 +21,35 @@ none_due k e = rests k (kept_turn k) e
 -- ---- up to so many times
 
 module _ {S U : Type 0} (o : Ops S U) where
-  pub stops : (n : ℕ) (x : Stack S U) → goes_on o x ≡ false → offers o n x ≡ x
-  unfolding offers
+  pub stops : (n : ℕ) (x : Stack S U) → has_next_tpdu o x ≡ false → hand_waiting_tpdus o n x ≡ x
+  unfolding hand_waiting_tpdus
   stops zero x e = refl
   stops (suc n) x e = rw e refl
 
-  pub none_left : (n : ℕ) (x : Stack S U) → n ≤ 0 → offers o n x ≡ x
-  unfolding offers
+  pub none_left : (n : ℕ) (x : Stack S U) → n ≤ 0 → hand_waiting_tpdus o n x ≡ x
+  unfolding hand_waiting_tpdus
   none_left zero x e = refl
   none_left (suc n) x e = absurd (omega arith)
 
-  pub one_more : (n : ℕ) (x : Stack S U) → 0 < n → goes_on o x ≡ true → offers o n x ≡ offers o (n - 1) (gives_next o x)
-  unfolding offers
+  pub one_more : (n : ℕ) (x : Stack S U) → 0 < n → has_next_tpdu o x ≡ true → hand_waiting_tpdus o n x ≡ hand_waiting_tpdus o (n - 1) (hand_next_tpdu o x)
+  unfolding hand_waiting_tpdus
   one_more zero x l e = absurd (omega arith)
   one_more (suc n) x l e =
       let m : suc n - 1 ≡ n = omega arith in
       rw (e, m) refl
+
+-- ---- what goes down leaves the messages that wait for the user
+
+offers_keep : (n : ℕ) (x : KCore) → (hand_waiting_tpdus kept n x).upper.inbox ≡ x.upper.inbox
+unfolding hand_waiting_tpdus
+offers_keep zero x = refl
+offers_keep (suc n) x = elim (cases_Bool (has_next_tpdu kept x)) [
+  | inl y ↦ rw y (offers_keep n (hand_next_tpdu kept x))
+  | inr m ↦ rw m refl
+]
+
+pub concludes_keep : (x : KCore) → (conclude_event kept x).upper.inbox ≡ x.upper.inbox
+concludes_keep x = elim (cases_Bool (is_some x.released)) [
+  | inl y ↦ rw y refl
+  | inr n ↦ rw n (offers_keep 33 x)
+]

@@ -4,7 +4,7 @@ use Rattle.std.specs.Prelude.{◌==◌, is_some}
 use Rattle.std.specs.Option.{option_to_list}
 use Rattle.std.proofs.lemmas.Bool.{cases_Bool}
 use Rattle.std.proofs.Math.Seq.{drop-append_seam}
-use Rattle.er_settings.specs.declared.settings.Settings.{Settings}
+use Rattle.er_settings.specs.Values.{Settings}
 use Rattle.er_settings.specs.Ranges.{AllAllowed}
 use Rattle.er_base.specs.declared.release.Release.{Release}
 use Rattle.er_base.specs.declared.cause.Cause.{Cause}
@@ -19,11 +19,11 @@ use Rattle.x224_class2.specs.Standing.{ConnectStands, AcceptStands, HandStands, 
 use Rattle.x224_class2.specs.Standing as transport
 use Rattle.safety_automaton.specs.Laws.{SendsFew}
 use Rattle.safety_automaton.specs.Safety.{Safety, initiator, responder}
-use Rattle.end_model.specs.Outcomes.{Outcome}
-use Rattle.end_model.specs.Steps.{Finds, begins_at, starts, comes, received, refusal_at, refusal_of, sends_unless, uses, leaves, ticks, breaks, outcomes_of, if_taken}
-use Rattle.end_model.specs.Layers.{Core, model}
-use Rattle.station_model.specs.Events.{news}
-use Rattle.end_model.specs.Ends.{Call, Answer, Event, Start, Come, Send, Take, Leave, Tick, Ended, Fault, Stalled, End, core_made, hears_each, told_of_each, with_core, led, if_refused, step}
+use Rattle.er_end_model.specs.Outcomes.{Outcome}
+use Rattle.er_end_model.specs.Steps.{Finds, new_event_at, step_start, step_frame, on_frame, refusal_at, refusal_of, step_send_unless, step_take, step_release, step_tick, step_break, outcomes_of, if_taken}
+use Rattle.er_end_model.specs.Layers.{Core, model}
+use Rattle.hdlc_station_model.specs.Events.{news}
+use Rattle.er_end_model.specs.Ends.{Call, Answer, Event, Start, Come, Send, Take, Leave, Tick, Ended, Fault, Stalled, End, core_made, hears_each, told_of_each, with_core, led, if_refused, step}
 use Rattle.er_end.specs.KeptLayers.{KCore, kept}
 use Rattle.er_end.specs.KeptEnds.{KEnd, deadline_of, kept_core_made, kept_opened, after_start, after_octets, after_send, after_take, after_release, after_tick, after_break, refusal, used_of, found_comes, happens, tells, told_by}
 use Rattle.er_end.specs.KeptEnds as keeping
@@ -140,33 +140,33 @@ module _ (w : Lower) where
       → EndStands (keeping.with_core k x) (with_core m (f m.core))
   with_stands k m f x stays h t = record { fed = fed_still k m f stays h; core = t }
 
-  starts_stays : (now : ℕ) → Stays (starts model now)
+  starts_stays : (now : ℕ) → Stays (step_start model now)
   starts_stays now m e = rw e e
 
-  uses_stays : (now : ℕ) → Stays (uses model now)
+  uses_stays : (now : ℕ) → Stays (step_take model now)
   uses_stays now m e = elim (cases_Bool (length m.upper.accepted - m.upper.used == 0)) [
     | inl y ↦ rw y e
     | inr n ↦ rw n (rw e e)
   ]
 
   unsent : (r : Option Release) (connected : Bool) (user : List ℕ) (waiting now : ℕ) (m : Core) → is_some r ≡ true
-      → sends_unless model (refusal_at r connected user waiting) now user m ≡ m
+      → step_send_unless model (refusal_at r connected user waiting) now user m ≡ m
   unsent None connected user waiting now m e = absurd cc
   unsent (Some why) connected user waiting now m e = refl
 
   abbrev sends_of : ℕ → List ℕ → Core → Core
-  sends_of now user m = sends_unless model (refusal_of model user m) now user m
+  sends_of now user m = step_send_unless model (refusal_of model user m) now user m
 
   sends_stays : (now : ℕ) (user : List ℕ) → Stays (sends_of now user)
   sends_stays now user m e = ap (λ (x : Core). is_some x.released) (unsent m.released _ user _ now m e) ∙ e
 
-  leaves_stays : (now sub : ℕ) → Stays (leaves model now sub)
+  leaves_stays : (now sub : ℕ) → Stays (step_release model now sub)
   leaves_stays now sub m e = rw e e
 
-  ticks_stays : (now : ℕ) → Stays (ticks model now)
+  ticks_stays : (now : ℕ) → Stays (step_tick model now)
   ticks_stays now m e = rw e e
 
-  breaks_stays : (cause : Cause) → Stays (breaks model cause)
+  breaks_stays : (cause : Cause) → Stays (step_break model cause)
   breaks_stays cause m e = rw e e
 
   -- ---- octets
@@ -175,22 +175,22 @@ module _ (w : Lower) where
   max_twice a b = omega arith
 
   -- an event that begins twice begins once
-  begins_twice : (now : ℕ) (m : Core) → begins_at model now (begins_at model now m) ≡ begins_at model now m
-  begins_twice now m = ap (λ (n : ℕ). record (begins_at model now m) { moment = n }) (max_twice m.moment now)
+  begins_twice : (now : ℕ) (m : Core) → new_event_at model now (new_event_at model now m) ≡ new_event_at model now m
+  begins_twice now m = ap (λ (n : ℕ). record (new_event_at model now m) { moment = n }) (max_twice m.moment now)
 
-  comes_begun : (finds : Finds) (now : ℕ) (v : Verdict) (m : Core) → comes model finds now v (begins_at model now m) ≡ comes model finds now v m
-  comes_begun finds now v m = ap (λ (x : Core). received model finds v x) (begins_twice now m)
+  comes_begun : (finds : Finds) (now : ℕ) (v : Verdict) (m : Core) → step_frame model finds now v (new_event_at model now m) ≡ step_frame model finds now v m
+  comes_begun finds now v m = ap (λ (x : Core). on_frame model finds v x) (begins_twice now m)
 
   -- a released end hears nothing
-  rests : (finds : Finds) (now : ℕ) (v : Verdict) (m : Core) → is_some m.released ≡ true → comes model finds now v (begins_at model now m) ≡ begins_at model now m
+  rests : (finds : Finds) (now : ℕ) (v : Verdict) (m : Core) → is_some m.released ≡ true → step_frame model finds now v (new_event_at model now m) ≡ new_event_at model now m
   rests finds now v m e = comes_begun finds now v m ∙ rw e refl
 
   each_rests : (finds : Finds) (now : ℕ) (vs : List Verdict) (m : Core) → is_some m.released ≡ true
-      → (hears_each finds now vs (begins_at model now m) ≡ begins_at model now m) × (told_of_each finds now vs (begins_at model now m) ≡ [])
+      → (hears_each finds now vs (new_event_at model now m) ≡ new_event_at model now m) × (told_of_each finds now vs (new_event_at model now m) ≡ [])
   each_rests finds now [] m e = (refl, refl)
   each_rests finds now (v ∷ vs) m e =
-      let b : Core = begins_at model now m in
-      let r : comes model finds now v b ≡ b = rests finds now v m e in
+      let b : Core = new_event_at model now m in
+      let r : step_frame model finds now v b ≡ b = rests finds now v m e in
       let more = each_rests finds now vs m e in (
         ap (λ (x : Core). hears_each finds now vs x) r ∙ more.0,
         ap (λ (x : Core). outcomes_of model x ++ told_of_each finds now vs x) r ∙ more.1,
@@ -198,16 +198,16 @@ module _ (w : Lower) where
 
   -- one verdict, or none
   heard : (finds : Finds) (now : ℕ) (found : Option Verdict) (k : KCore) (m : Core) → CoreStands k m
-      → CoreStands (found_comes finds now found k) (hears_each finds now (option_to_list found) (begins_at model now m))
-      × (outcomes_of kept (found_comes finds now found k) ≡ told_of_each finds now (option_to_list found) (begins_at model now m))
+      → CoreStands (found_comes finds now found k) (hears_each finds now (option_to_list found) (new_event_at model now m))
+      × (outcomes_of kept (found_comes finds now found k) ≡ told_of_each finds now (option_to_list found) (new_event_at model now m))
   heard finds now None k m t =
       let b = tied_begins_at kept model LineStands LineBegins UpperStands UpperBegins UpperCalled UpperBrought alike w.few now k m t in
-      (record { line = line_begun (begins_at kept now k).line (begins_at model now m).line b.line; upper = b.upper.stands; same = b.same }, refl)
+      (record { line = line_begun (new_event_at kept now k).line (new_event_at model now m).line b.line; upper = b.upper.stands; same = b.same }, refl)
   heard finds now (Some v) k m t =
-      let x : KCore = comes kept finds now v k in
-      let y : Core = comes model finds now v m in
+      let x : KCore = step_frame kept finds now v k in
+      let y : Core = step_frame model finds now v m in
       let c : CoreStands x y = tied_comes kept model LineStands LineBegins UpperStands UpperBegins UpperCalled UpperBrought alike w.few finds now v k m t in
-      let e : y ≡ comes model finds now v (begins_at model now m) = sym (comes_begun finds now v m) in (
+      let e : y ≡ step_frame model finds now v (new_event_at model now m) = sym (comes_begun finds now v m) in (
         subst (λ (z : Core). CoreStands x z) e c,
         sym (same_outcomes kept model LineStands LineBegins UpperStands UpperBegins UpperCalled UpperBrought alike w.few x y c)
             ∙ ap (λ (z : Core). outcomes_of model z) e ∙ sym (append-nil _),
@@ -235,8 +235,8 @@ module _ (w : Lower) where
       rw e (
         record {
           fed = λ none. absurd (let z = ap (λ (x : Core). is_some x.released) r.0 ∙ f in let y = is_none _ none in cc);
-          core = subst (λ (x : Core). CoreStands (begins_at kept now k.core) x) (sym r.0) (record {
-            line = line_begun (begins_at kept now k.core).line (begins_at model now m.core).line b.line;
+          core = subst (λ (x : Core). CoreStands (new_event_at kept now k.core) x) (sym r.0) (record {
+            line = line_begun (new_event_at kept now k.core).line (new_event_at model now m.core).line b.line;
             upper = b.upper.stands;
             same = b.same;
           });
@@ -252,7 +252,7 @@ module _ (w : Lower) where
       let f = deframing.feeding_of (deframing.kept_of stream) piece in
       let c = heard finds now f.verdict k.core m.core h.core in
       let n = news_is stream piece in
-      let b : Core = begins_at model now m.core in
+      let b : Core = new_event_at model now m.core in
       rw (e, fed) (
         record {
           fed = λ none. sym (w.goes_on stream piece).1;
@@ -272,7 +272,7 @@ module _ (w : Lower) where
     goes_start : Goes now Start k m
     unfolding after_start
     goes_start =
-        goes (starts model now) (starts kept now k.core) (starts_stays now)
+        goes (step_start model now) (step_start kept now k.core) (starts_stays now)
         (tied_starts kept model LineStands LineBegins UpperStands UpperBegins UpperCalled UpperBrought alike w.few now k.core m.core h.core)
 
     goes_send : (user : List ℕ) → Goes now (Send user) k m
@@ -280,7 +280,7 @@ module _ (w : Lower) where
     goes_send user =
         let r : refusal_of model user m.core ≡ refusal_of kept user k.core =
         same_refusal kept model LineStands LineBegins UpperStands UpperBegins UpperCalled UpperBrought alike w.few user k.core m.core h.core in
-        let x : KCore = sends_unless kept (refusal_of kept user k.core) now user k.core in
+        let x : KCore = step_send_unless kept (refusal_of kept user k.core) now user k.core in
         let g = goes (sends_of now user) x (sends_stays now user)
         (tied_sends kept model LineStands LineBegins UpperStands UpperBegins UpperCalled UpperBrought alike w.few now user k.core m.core h.core) in
         (g.0, ap₂ if_refused (sym r) g.1)
@@ -288,26 +288,26 @@ module _ (w : Lower) where
     goes_take : Goes now Take k m
     unfolding after_take
     goes_take =
-        let g = goes (uses model now) (uses kept now k.core) (uses_stays now)
+        let g = goes (step_take model now) (step_take kept now k.core) (uses_stays now)
         (tied_uses kept model LineStands LineBegins UpperStands UpperBegins UpperCalled UpperBrought alike w.few now k.core m.core h.core) in
         (g.0, ap₂ (λ (a b : List Outcome). a ++ b) (ap if_taken (sym (oldest_stands k.core.upper m.core.upper h.core.upper))) g.1)
 
     goes_leave : (sub : ℕ) → Goes now (Leave sub) k m
     unfolding after_release
     goes_leave sub =
-        goes (leaves model now sub) (leaves kept now sub k.core) (leaves_stays now sub)
+        goes (step_release model now sub) (step_release kept now sub k.core) (leaves_stays now sub)
         (tied_leaves kept model LineStands LineBegins UpperStands UpperBegins UpperCalled UpperBrought alike w.few now sub k.core m.core h.core)
 
     goes_tick : Goes now Tick k m
     unfolding after_tick
     goes_tick =
-        goes (ticks model now) (ticks kept now k.core) (ticks_stays now)
+        goes (step_tick model now) (step_tick kept now k.core) (ticks_stays now)
         (tied_ticks kept model LineStands LineBegins UpperStands UpperBegins UpperCalled UpperBrought alike w.few now k.core m.core h.core)
 
-    goes_break : (cause : Cause) → EndStands (after_break cause k) (led m (breaks model cause m.core)).0 × (told_by (after_break cause k) ≡ (led m (breaks model cause m.core)).1)
+    goes_break : (cause : Cause) → EndStands (after_break cause k) (led m (step_break model cause m.core)).0 × (told_by (after_break cause k) ≡ (led m (step_break model cause m.core)).1)
     unfolding after_break
     goes_break cause =
-        goes (breaks model cause) (breaks kept cause k.core) (breaks_stays cause)
+        goes (step_break model cause) (step_break kept cause k.core) (breaks_stays cause)
         (tied_breaks kept model LineStands LineBegins UpperStands UpperBegins UpperCalled UpperBrought alike w.few cause k.core m.core h.core)
 
   pub steps_alike : StepsAlike

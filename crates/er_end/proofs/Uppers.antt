@@ -13,7 +13,7 @@ use Rattle.x224_class2.specs.Transport as transport
 use Rattle.x224_class2.specs.Kept.{Kept, kept_over, may_be_called, kept_called, may_be_confirmed, kept_confirmed, may_be_disconnected, kept_is_expected, kept_with_data, may_acknowledge, kept_acknowledged, kept_refusal, kept_on_reading, kept_reception, kept_turn, kept_behind, kept_after_next, octets_next, kept_after_connect, kept_after_accept, kept_after_hand, kept_after_taken, distance}
 use Rattle.x224_class2.specs.Standing.{Stands, ConnectStands, AcceptStands, HandStands, TakenStands, ReceptionStands, NextStands, CountsStand}
 use Rattle.safety_automaton.specs.Safety.{SafetyEvent, SafetyOutcome}
-use Rattle.end_model.specs.Layers.{Upper, octets_due, model}
+use Rattle.er_end_model.specs.Layers.{Upper, octets_due, model}
 use Rattle.er_end.specs.Inboxes.{KInbox, kept_fewer, newest_of}
 use Rattle.er_end.specs.KeptLayers.{KUpper, upper_hears, upper_deed, upper_has_next, upper_next, upper_after_next, kept}
 use Rattle.er_end.specs.Standing.{UpperStands}

@@ -1,9 +1,9 @@
 -- Contract: what an event leaves of what an end keeps: the messages that wait, and a release.
 use Rattle.std.specs.Prelude.{ℕ, ◌≡◌, ◌≤◌, Bool, true, false, List, [], ◌∷◌, ◌++◌, length, drop, Some, None, is_some}
 use Rattle.er_base.specs.declared.release.Release.{Release}
-use Rattle.end_model.specs.Outcomes.{Outcome, ConnectedTo, Accepted, Taken, NothingToTake, Refused, WasReleased, Octets}
-use Rattle.end_model.specs.Steps.{Finds}
-use Rattle.end_model.specs.Ends.{Event, Start, Come, Send, Take, Leave, Tick, Ended, Fault, Stalled}
+use Rattle.er_end_model.specs.Outcomes.{Outcome, ConnectedTo, Accepted, Taken, NothingToTake, Refused, WasReleased, Octets}
+use Rattle.er_end_model.specs.Steps.{Finds}
+use Rattle.er_end_model.specs.Ends.{Event, Start, Come, Send, Take, Leave, Tick, Ended, Fault, Stalled}
 use Rattle.er_end.specs.KeptEnds.{KEnd, happens, tells, used_of, waiting_in, deadline_of}
 
 -- ---- messages that wait

@@ -3,17 +3,17 @@
 use Rattle.std.specs.Prelude.{ℕ, ◌+◌, ◌==◌, Bool, true, false, List, [], ◌++◌, length, Option, Some, None, is_some, if◌then◌else◌}
 use Rattle.er_base.specs.declared.cause.Cause.{Cause}
 use Rattle.er_base.specs.declared.cause.Cause.TheVariants.{LineEnded, LineFailed, LineStalled}
-use Rattle.er_settings.specs.declared.settings.Settings.{Settings}
+use Rattle.er_settings.specs.Values.{Settings}
 use Rattle.hdlc_frames.specs.Framing.{Verdict}
 use Rattle.hdlc_frames.specs.Deframing as deframing
-use Rattle.station_model.specs.Stations.{made}
+use Rattle.hdlc_station_model.specs.Stations.{made}
 use Rattle.hdlc_balanced.specs.Kept as line
 use Rattle.x224_class2.specs.Kept as transport
 use Rattle.safety_automaton.specs.Safety.{Safety, initiator, responder}
 use Rattle.safety_automaton.specs.Reports as reports
-use Rattle.end_model.specs.Outcomes.{Outcome, SendRefusal}
-use Rattle.end_model.specs.Steps.{Finds, begins_at, starts, comes, refusal_of, sends_unless, uses, leaves, ticks, breaks, deadline, outcomes_of, if_taken}
-use Rattle.end_model.specs.Ends.{Opening, Call, Answer, Event, Start, Come, Send, Take, Leave, Tick, Ended, Fault, Stalled, if_refused}
+use Rattle.er_end_model.specs.Outcomes.{Outcome, SendRefusal}
+use Rattle.er_end_model.specs.Steps.{Finds, new_event_at, step_start, step_frame, refusal_of, step_send_unless, step_take, step_release, step_tick, step_break, deadline, outcomes_of, if_taken}
+use Rattle.er_end_model.specs.Ends.{Opening, Call, Answer, Event, Start, Come, Send, Take, Leave, Tick, Ended, Fault, Stalled, if_refused}
 use Rattle.er_end.specs.Inboxes.{empty}
 use Rattle.er_end.specs.KeptLayers.{KCore, kept}
 
@@ -50,12 +50,12 @@ abbrev pub with_core : KEnd → KCore → KEnd
 with_core k x = record k { core = x }
 
 unfoldable pub after_start : ℕ → KEnd → KEnd
-after_start now k = with_core k (starts kept now k.core)
+after_start now k = with_core k (step_start kept now k.core)
 
 -- a verdict, or none
 abbrev pub found_comes : Finds → ℕ → Option Verdict → KCore → KCore
-found_comes finds now None x = begins_at kept now x
-found_comes finds now (Some verdict) x = comes kept finds now verdict x
+found_comes finds now None x = new_event_at kept now x
+found_comes finds now (Some verdict) x = step_frame kept finds now verdict x
 
 -- how many octets of a piece are used: those up to the first that closes a frame, all where none does or where the end is released
 unfoldable pub used_of : KEnd → List ℕ → ℕ
@@ -64,26 +64,26 @@ used_of k piece = if is_some k.core.released then length piece else (deframing.f
 unfoldable pub after_octets : Finds → ℕ → List ℕ → KEnd → KEnd
 after_octets finds now piece k =
     let fed = deframing.feeding_of k.deframer piece in
-    if is_some k.core.released then with_core k (begins_at kept now k.core)
+    if is_some k.core.released then with_core k (new_event_at kept now k.core)
     else record { deframer = fed.kept; core = found_comes finds now fed.verdict k.core }
 
 unfoldable pub refusal : List ℕ → KEnd → Option SendRefusal
 refusal user k = refusal_of kept user k.core
 
 unfoldable pub after_send : ℕ → List ℕ → KEnd → KEnd
-after_send now user k = with_core k (sends_unless kept (refusal_of kept user k.core) now user k.core)
+after_send now user k = with_core k (step_send_unless kept (refusal_of kept user k.core) now user k.core)
 
 unfoldable pub after_take : ℕ → KEnd → KEnd
-after_take now k = with_core k (uses kept now k.core)
+after_take now k = with_core k (step_take kept now k.core)
 
 unfoldable pub after_release : ℕ → ℕ → KEnd → KEnd
-after_release now sub k = with_core k (leaves kept now sub k.core)
+after_release now sub k = with_core k (step_release kept now sub k.core)
 
 unfoldable pub after_tick : ℕ → KEnd → KEnd
-after_tick now k = with_core k (ticks kept now k.core)
+after_tick now k = with_core k (step_tick kept now k.core)
 
 unfoldable pub after_break : Cause → KEnd → KEnd
-after_break cause k = with_core k (breaks kept cause k.core)
+after_break cause k = with_core k (step_break kept cause k.core)
 
 -- ---- what shows
 

@@ -3,14 +3,14 @@
 use Rattle.std.specs.Prelude.{ℕ, ◌==◌, nat_lt, Bool, ◌&&◌, List, [], ◌++◌, length, slice_get, Option, is_some, false}
 use Rattle.er_base.specs.declared.release.Release.{Release}
 use Rattle.hdlc_frames.specs.Framing.{Verdict}
-use Rattle.station_model.specs.Stations.{Station, Deed as LinkDeed}
-use Rattle.station_model.specs.Calls as station
+use Rattle.hdlc_station_model.specs.Stations.{Station, Deed as LinkDeed}
+use Rattle.hdlc_station_model.specs.Calls as station
 use Rattle.hdlc_balanced.specs.Kept as line
 use Rattle.hdlc_balanced.specs.Kept.{texts}
 use Rattle.hdlc_balanced.specs.Alike.{model_of}
 use Rattle.x224_class2.specs.Kept as transport
 use Rattle.x224_class2.specs.Transport.{Deed, is_new, is_open}
-use Rattle.end_model.specs.Stacks.{Ops, Stack}
+use Rattle.er_end_model.specs.Stacks.{Ops, Stack}
 use Rattle.er_end.specs.Inboxes.{KInbox, kept_more, kept_fewer, newest_of}
 
 -- the station, and the octets that it sent in this event

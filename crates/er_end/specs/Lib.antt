@@ -1,5 +1,6 @@
 pub mod Inboxes
 pub mod KeptLayers
+pub mod FrameRoom
 pub mod Coming
 pub mod KeptEnds
 pub mod Shown

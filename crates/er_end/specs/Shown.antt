@@ -1,6 +1,6 @@
 -- Contract: what the calls of an end answer, by what is kept.
 use Rattle.std.specs.Prelude.{◌≡◌, Option, option_map}
-use Rattle.end_model.specs.Outcomes.{SendRefusal, RefusedReleased, RefusedNotConnected, RefusedLength, RefusedFull}
+use Rattle.er_end_model.specs.Outcomes.{SendRefusal, RefusedReleased, RefusedNotConnected, RefusedLength, RefusedFull}
 use Rattle.er_end.specs.declared.deeds.Deeds.{Deeds}
 use Rattle.er_end.specs.declared.deeds.SendRefused.{SendRefused}
 use Rattle.er_end.specs.declared.deeds.SendRefused.TheVariants as code

@@ -3,15 +3,15 @@
 use Rattle.std.specs.Prelude.{ℕ, ◌≡◌, ◌≤◌, List, [], ◌∷◌, ◌++◌, length, take, drop, None}
 use Rattle.er_settings.specs.Ranges.{AllAllowed}
 use Rattle.hdlc_frames.specs.Deframing as deframing
-use Rattle.station_model.specs.Stations.{Station}
+use Rattle.hdlc_station_model.specs.Stations.{Station}
 use Rattle.hdlc_balanced.specs.Kept.{kept_of, texts}
 use Rattle.hdlc_balanced.specs.Alike.{Sound}
 use Rattle.x224_class2.specs.Standing.{Stands}
-use Rattle.end_model.specs.Outcomes.{Outcome}
-use Rattle.end_model.specs.Stacks.{Stack}
-use Rattle.end_model.specs.Layers.{Upper, Core, model}
-use Rattle.end_model.specs.Steps.{deadline}
-use Rattle.end_model.specs.Ends.{Opening, Call, Answer, Event, Start, Come, Send, Take, Leave, Tick, Ended, Fault, Stalled, End, opened, step, Moment, run, outcomes}
+use Rattle.er_end_model.specs.Outcomes.{Outcome}
+use Rattle.er_end_model.specs.Stacks.{Stack}
+use Rattle.er_end_model.specs.Layers.{Upper, Core, model}
+use Rattle.er_end_model.specs.Steps.{deadline}
+use Rattle.er_end_model.specs.Ends.{Opening, Call, Answer, Event, Start, Come, Send, Take, Leave, Tick, Ended, Fault, Stalled, End, opened, step, Moment, run, outcomes}
 use Rattle.er_end.specs.Inboxes.{newest_of}
 use Rattle.er_end.specs.KeptLayers.{KLine, KUpper, KCore, kept}
 use Rattle.er_end.specs.KeptEnds.{KEnd, kept_opened, happens, tells, used_of, deadline_of}

@@ -1,3 +1,4 @@
+use crate::short_sapdu::ShortSapdu;
 use er_base::Release;
 
 /// The TPDU that brought a text to the safety side.
@@ -9,18 +10,33 @@ pub enum Brought {
 }
 
 /// What a payload on its way up came to.
-#[derive(Clone, Copy, Debug, PartialEq, Eq)]
+#[derive(Drop)]
 pub enum Came {
     /// Nothing goes down.
     Nothing,
-    /// The safety side answered.
-    Answers { by: Brought },
-    /// It answered, or had no more to answer, and the safe connection stands with this peer.
-    Connects { by: Brought, peer: u32 },
-    /// The safety side was released.
-    Parts { why: Release },
-    /// The peer left by a DR.
-    CutsOff { why: Release },
+    /// The safety side answers.
+    Answers {
+        by: Brought,
+        answer: ShortSapdu,
+    },
+    /// It answers, or has no more to answer, and the safe connection stands with this peer.
+    Connects {
+        by: Brought,
+        answer: ShortSapdu,
+        peer: u32,
+    },
+    /// The safety side was released: by this end, which this DI tells, or by the peer.
+    SafetyReleased {
+        why: Release,
+        di: ShortSapdu,
+    },
+    /// The peer sent a DR.
+    PeerDisconnects {
+        why: Release,
+    },
     /// A TPDU or a block was refused, which a DR of this reason tells.
-    Departs { why: Release, reason: u8 },
+    Refused {
+        why: Release,
+        reason: u8,
+    },
 }

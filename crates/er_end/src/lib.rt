@@ -4,10 +4,9 @@
 //! An [`End`] takes one event at a time, octets of the line, a message, a tick, and gives deeds and the octets that go to the line. It
 //! has no clock, no line and no random source: moments, octets and random numbers come in as values. Its two makers reserve all memory;
 //! no other call takes any. Its contracts say each call as one function of what is kept, and `laws` that these are the steps of the end
-//! model (`end_model`).
+//! model (`er_end_model`).
 #![tactic(auto)]
 
-mod blocks;
 mod came;
 mod deeds;
 mod end;
@@ -15,6 +14,10 @@ mod inbox;
 pub mod laws;
 mod layers;
 mod line;
+mod own_tpdu;
+mod safety_side;
+mod sapdu_room;
+mod short_sapdu;
 
 pub use deeds::{Deeds, SendRefused, Taken};
 pub use end::End;

@@ -1,25 +1,23 @@
 ghost use Rattle.std.specs.Prelude.{◌≡◌, ◌≤◌, ◌==◌, [], length, true, IfOk};
-ghost use Rattle.er_settings.specs.Ranges.{AllAllowed};
 ghost use Rattle.hdlc_frames.specs.Shown.{shown};
 ghost use Rattle.hdlc_balanced.specs.Kept.{kept_of};
 ghost use Rattle.hdlc_balanced.specs.Told.{deed_of};
-ghost use Rattle.station_model.specs.Stations.{made};
+ghost use Rattle.hdlc_station_model.specs.Stations.{made};
 ghost use Rattle.er_end.specs.KeptLayers.{line_starts, line_receives, line_told, line_hands, line_finishes, line_ticks, line_given_up, line_closes, line_may_send, line_is_free};
-ghost use Rattle.er_end.specs.Coming.{Spent};
 
-use er_base::{NoMemory, Release, Room};
+use er_base::{Moment, NoMemory, Release, Room};
 use er_settings::Settings;
 use er_settings::laws::allowed_are_bounded;
 use hdlc_balanced::{LinkDeed, Station};
 use hdlc_frames::Found;
-use station_model::Counts;
+use hdlc_station_model::Counts;
 use std::alloc::Global;
 use std::marker::Model;
 
 // Room for three windows of 31 frames and four frames, each of at most 2,064 octets: what comes of one event.
 const OUT: usize = 200_208;
 
-/// A station, and the octets that it sent in this event.
+/// A station, and the octets that it sent in this event. With those that it may still send in it they always have room.
 #[derive(Drop)]
 pub struct Line {
     out: Room,
@@ -29,22 +27,23 @@ pub struct Line {
 impl Model for Line {
     ghost use Rattle.std.specs.Prelude.{◌≡◌, ◌≤◌};
     ghost use Rattle.er_end.specs.KeptLayers.{KLine};
+    ghost use Rattle.er_end.specs.FrameRoom.{Fits};
 
     ghost Value = { KLine };
 
     ghost view = { λ l. record { station = l.station; out = l.out.items } };
 
-    ghost invariant = { λ l. (l.out.capacity ≡ 200208) × (l.station.window ≤ 31) × (l.station.ahead ≤ l.station.window) };
+    ghost invariant = { λ l. (l.out.capacity ≡ 200208) × (l.station.window ≤ 31) × (l.station.ahead ≤ l.station.window) × Fits l.station l.out.items };
 }
 
 impl Line {
     /// The calling station of a link, or the called one.
     #[inline(never)]
     pub fn new(alloc: Global, calling: bool, settings: &Settings) -> Result<Line, NoMemory>
-        requires { AllAllowed settings.now }
         ensures { IfOk result (λ l. l ≡ record { station = kept_of (made calling (settings.now.modulo == 128) settings.now.window settings.now.n2 settings.now.t1); out = [] }) }
     {
         allowed_are_bounded();
+        let _ = &settings.window;
         let station = if calling {
             Station::calling(alloc, settings)?
         } else {
@@ -56,73 +55,61 @@ impl Line {
 
     /// An event begins: nothing was sent in it yet.
     pub fn begin(&mut self)
-        ensures line { self.new ≡ record self.old { out = [] } }
-        ensures spent { Spent 63 self.new }
+        ensures { self.new ≡ record self.old { out = [] } }
     {
         self.out.clear();
     }
 
-    /// The station is started.
+    /// An event begins in which the station is started.
     #[tactic(auto, unfolding(crate::specs::KeptLayers::line_starts))]
-    pub fn start(&mut self, now: u64)
-        requires moment { now ≤ 1000000000000000 }
-        requires begun { self.old.out ≡ [] }
-        ensures line { self.new ≡ line_starts now self.old }
-        ensures spent { Spent 63 self.new }
+    pub fn start(&mut self, now: Moment)
+        ensures { self.new ≡ line_starts now (record self.old { out = [] }) }
     {
-        self.station.start(now, &mut self.out);
+        self.out.clear();
+        self.station.start(now.get(), &mut self.out);
     }
 
-    /// What a deframer found comes.
+    /// An event begins in which what a deframer found comes.
     #[tactic(auto, unfolding(crate::specs::KeptLayers::line_receives, crate::specs::KeptLayers::line_told))]
-    pub fn receive<'f>(&mut self, now: u64, found: &Found<'f>) -> LinkDeed<'f>
-        requires moment { now ≤ 1000000000000000 }
-        requires begun { self.old.out ≡ [] }
-        ensures line { self.new ≡ line_receives now (shown found.now) self.old }
-        ensures told { deed_of result ≡ line_told now (shown found.now) self.old }
-        ensures spent { Spent 63 self.new }
+    pub fn receive<'f>(&mut self, now: Moment, found: &Found<'f>) -> LinkDeed<'f>
+        ensures line { self.new ≡ line_receives now (shown found.now) (record self.old { out = [] }) }
+        ensures told { deed_of result ≡ line_told now (shown found.now) (record self.old { out = [] }) }
     {
-        self.station.receive(now, found, &mut self.out)
+        self.out.clear();
+        self.station.receive(now.get(), found, &mut self.out)
     }
 
     /// A payload is handed down, while none waits.
-    #[tactic(auto, unfolding(crate::specs::KeptLayers::line_hands))]
-    pub fn hand(&mut self, now: u64, payload: &[u8])
-        requires moment { now ≤ 1000000000000000 }
+    #[tactic(auto, unfolding(crate::specs::KeptLayers::line_hands), using(crate::proofs::FrameRooms::hand_keeps))]
+    pub fn hand(&mut self, now: Moment, payload: &[u8])
         requires fits { length payload.now ≤ 1026 }
         requires free { line_is_free self.old ≡ true }
-        requires room { Spent 63 self.old }
-        ensures line { self.new ≡ line_hands now payload.now self.old }
-        ensures spent { Spent 63 self.new }
+        ensures { self.new ≡ line_hands now payload.now self.old }
     {
-        let _handed = self.station.hand(now, payload, &mut self.out);
+        let _handed = self.station.hand(now.get(), payload, &mut self.out);
     }
 
     /// The answer that is still owed is sent.
     #[tactic(auto, unfolding(crate::specs::KeptLayers::line_finishes))]
     pub fn finish(&mut self)
-        requires { Spent 63 self.old }
         ensures { self.new ≡ line_finishes self.old }
     {
         self.station.finish(&mut self.out);
     }
 
-    /// T1 may expire: why the station gives up, where it does.
+    /// An event begins in which T1 may expire: why the station gives up, where it does.
     #[tactic(auto, unfolding(crate::specs::KeptLayers::line_ticks, crate::specs::KeptLayers::line_given_up))]
-    pub fn tick(&mut self, now: u64) -> Option<Release>
-        requires moment { now ≤ 1000000000000000 }
-        requires begun { self.old.out ≡ [] }
-        ensures line { self.new ≡ line_ticks now self.old }
-        ensures given_up { result ≡ line_given_up now self.old }
-        ensures spent { Spent 63 self.new }
+    pub fn tick(&mut self, now: Moment) -> Option<Release>
+        ensures line { self.new ≡ line_ticks now (record self.old { out = [] }) }
+        ensures given_up { result ≡ line_given_up now (record self.old { out = [] }) }
     {
-        self.station.tick(now, &mut self.out)
+        self.out.clear();
+        self.station.tick(now.get(), &mut self.out)
     }
 
     /// The link is ended.
     #[tactic(auto, unfolding(crate::specs::KeptLayers::line_closes))]
     pub fn close(&mut self)
-        requires { Spent 63 self.old }
         ensures { self.new ≡ line_closes self.old }
     {
         self.station.close(&mut self.out);

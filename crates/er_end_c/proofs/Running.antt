@@ -3,10 +3,10 @@ use Rattle.std.proofs.Common.{◌≡◌, ℕ, Bool, true, false, List, [], ◌�
 use Rattle.std.specs.Prelude.{Option, Some, None, if◌then◌else◌, slice_get}
 use Rattle.er_base.specs.declared.release.Release.{Release as Why}
 use Rattle.safety_automaton.specs.Keys.{Entry, key_at}
-use Rattle.end_model.specs.Outcomes.{Outcome, SendRefusal}
-use Rattle.end_model.specs.Steps.{if_connected, if_accepted, if_released, if_octets, if_taken}
-use Rattle.end_model.specs.Ends.{Opening, Event, End, opened, step, if_refused}
-use Rattle.end_model.specs.Ends as event
+use Rattle.er_end_model.specs.Outcomes.{Outcome, SendRefusal}
+use Rattle.er_end_model.specs.Steps.{if_connected, if_accepted, if_released, if_octets, if_taken}
+use Rattle.er_end_model.specs.Ends.{Opening, Event, End, opened, step, if_refused}
+use Rattle.er_end_model.specs.Ends as event
 use Rattle.er_end.specs.Inboxes.{newest_of, first_in}
 use Rattle.er_end.specs.KeptEnds.{KEnd, happens, told_by, used_of, refusal, after_send, waiting_in}
 use Rattle.er_end.specs.Standing.{IsAllowed, EndStands, MadeStands, StepsAlike, ShowsAlike}

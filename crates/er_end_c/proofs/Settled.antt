@@ -2,7 +2,7 @@
 use Rattle.std.proofs.Common.{◌≡◌, ℕ, Bool, true, false, ◌==◌, ◌||◌, ◌&&◌, refl, subst}
 use Rattle.std.specs.Prelude.{Some, None, Result, Ok, Err, MatchResult, IfOk, if◌then◌else◌}
 use Rattle.std.specs.Result.{result_ok}
-use Rattle.er_settings.specs.declared.settings.Settings.{Settings}
+use Rattle.er_settings.specs.Values.{Settings}
 use Rattle.er_settings.specs.declared.settings.SettingFault.{SettingFault}
 use Rattle.er_settings.specs.declared.setting_name.SettingName.{SettingName}
 use Rattle.er_settings.specs.declared.setting_name.SettingName.TheVariants as setting

@@ -2,8 +2,8 @@
 use Rattle.std.proofs.lemmas.Bool.{ne_eqb}
 use Rattle.std.proofs.Common.{arith, ◌≡◌, ℕ, zero, suc, true, false, ◌==◌, List, [], ◌∷◌, ◌++◌, length, refl, sym, ap, ◌∙◌}
 use Rattle.std.specs.Prelude.{Some, None, is_some, cond, pos, slice_get}
-use Rattle.end_model.specs.Outcomes.{Outcome}
-use Rattle.end_model.specs.Steps.{offers, goes_on, gives_next, begins_at, concludes, if_octets, if_taken}
+use Rattle.er_end_model.specs.Outcomes.{Outcome}
+use Rattle.er_end_model.specs.Steps.{hand_waiting_tpdus, has_next_tpdu, hand_next_tpdu, new_event_at, conclude_event, if_octets, if_taken}
 use Rattle.er_end.specs.Inboxes.{KInbox, first_in}
 use Rattle.er_end.specs.KeptLayers.{KCore, kept}
 use Rattle.er_end.specs.KeptEnds.{KEnd, after_take, waiting_in, told_by}
@@ -19,31 +19,31 @@ pub record Quiet (x : KCore) : Type 0 where
   pub leaves : x.leaves ≡ None
   pub fresh : x.upper.inbox.fresh ≡ false
 
-offered : (n : ℕ) (x : KCore) → Quiet x → Quiet (offers kept n x)
-unfolding offers
+offered : (n : ℕ) (x : KCore) → Quiet x → Quiet (hand_waiting_tpdus kept n x)
+unfolding hand_waiting_tpdus
 offered zero x q = q
 offered (suc n) x q =
-    elim (goes_on kept x) as (λ b. Quiet (cond b (offers kept n (gives_next kept x)) x)) [
-      | true ↦ offered n (gives_next kept x) (record { connected = q.connected; leaves = q.leaves; fresh = q.fresh })
+    elim (has_next_tpdu kept x) as (λ b. Quiet (cond b (hand_waiting_tpdus kept n (hand_next_tpdu kept x)) x)) [
+      | true ↦ offered n (hand_next_tpdu kept x) (record { connected = q.connected; leaves = q.leaves; fresh = q.fresh })
       | false ↦ q
     ]
 
-concluded : (x : KCore) → Quiet x → Quiet (concludes kept x)
+concluded : (x : KCore) → Quiet x → Quiet (conclude_event kept x)
 concluded x q =
-    elim (is_some x.released) as (λ b. Quiet (cond b x (record (offers kept 33 x) { line = kept.finishes (offers kept 33 x).line }))) [
+    elim (is_some x.released) as (λ b. Quiet (cond b x (record (hand_waiting_tpdus kept 33 x) { line = kept.finishes (hand_waiting_tpdus kept 33 x).line }))) [
       | true ↦ q
       | false ↦ (let o = offered 33 x q in record { connected = o.connected; leaves = o.leaves; fresh = o.fresh })
     ]
 
-begun : (now : ℕ) (x : KCore) → Quiet (begins_at kept now x)
+begun : (now : ℕ) (x : KCore) → Quiet (new_event_at kept now x)
 begun now x = record { connected = refl; leaves = refl; fresh = refl }
 
 -- behind a take
 pub quiet : (now : ℕ) (k : KEnd) → Quiet (after_take now k).core
 unfolding after_take
 quiet now k =
-    let x : KCore = begins_at kept now k.core in
-    elim (length (waiting_in k) == 0) as (λ b. Quiet (cond b x (concludes kept (record x { upper = kept.uses x.upper })))) [
+    let x : KCore = new_event_at kept now k.core in
+    elim (length (waiting_in k) == 0) as (λ b. Quiet (cond b x (conclude_event kept (record x { upper = kept.uses x.upper })))) [
       | true ↦ begun now k.core
       | false ↦ concluded (record x { upper = kept.uses x.upper }) (record { connected = refl; leaves = refl; fresh = refl })
     ]
@@ -107,24 +107,24 @@ take_none now h e =
 
 -- ---- the message that is left to be read
 
-inbox_offered : (n : ℕ) (x : KCore) → (offers kept n x).upper.inbox ≡ x.upper.inbox
-unfolding offers
+inbox_offered : (n : ℕ) (x : KCore) → (hand_waiting_tpdus kept n x).upper.inbox ≡ x.upper.inbox
+unfolding hand_waiting_tpdus
 inbox_offered zero x = refl
 inbox_offered (suc n) x =
-    elim (goes_on kept x) as (λ b. (cond b (offers kept n (gives_next kept x)) x).upper.inbox ≡ x.upper.inbox) [
-      | true ↦ inbox_offered n (gives_next kept x)
+    elim (has_next_tpdu kept x) as (λ b. (cond b (hand_waiting_tpdus kept n (hand_next_tpdu kept x)) x).upper.inbox ≡ x.upper.inbox) [
+      | true ↦ inbox_offered n (hand_next_tpdu kept x)
       | false ↦ refl
     ]
 
-inbox_concluded : (x : KCore) → (concludes kept x).upper.inbox ≡ x.upper.inbox
+inbox_concluded : (x : KCore) → (conclude_event kept x).upper.inbox ≡ x.upper.inbox
 inbox_concluded x =
-    elim (is_some x.released) as (λ b. (cond b x (record (offers kept 33 x) { line = kept.finishes (offers kept 33 x).line })).upper.inbox ≡ x.upper.inbox) [
+    elim (is_some x.released) as (λ b. (cond b x (record (hand_waiting_tpdus kept 33 x) { line = kept.finishes (hand_waiting_tpdus kept 33 x).line })).upper.inbox ≡ x.upper.inbox) [
       | true ↦ refl
       | false ↦ inbox_offered 33 x
     ]
 
 last_for : (x : KCore) (ms : List (List ℕ)) → x.upper.inbox.waits ≡ ms → x.upper.inbox.last ≡ []
-    → (cond (length ms == 0) x (concludes kept (record x { upper = kept.uses x.upper }))).upper.inbox.last ≡ first_in ms
+    → (cond (length ms == 0) x (conclude_event kept (record x { upper = kept.uses x.upper }))).upper.inbox.last ≡ first_in ms
 last_for x [] w e = e
 last_for x (m ∷ ms) w e =
     let some : (length (m ∷ ms) == 0) ≡ false = ne_eqb (length (m ∷ ms)) 0 (λ none. absurd (omega (arith, none))) in
@@ -132,4 +132,4 @@ last_for x (m ∷ ms) w e =
 
 pub last_taken : (now : ℕ) (k : KEnd) → (after_take now k).core.upper.inbox.last ≡ first_in (waiting_in k)
 unfolding after_take
-last_taken now k = last_for (begins_at kept now k.core) (waiting_in k) refl refl
+last_taken now k = last_for (new_event_at kept now k.core) (waiting_in k) refl refl

@@ -1,10 +1,10 @@
 -- Contract: what a call that is an event at an end leaves and answers.
 use Rattle.std.specs.Prelude.{ℕ, ℤ, ◌≡◌, Bool, nat_lt, if◌then◌else◌, List, Option, Some, None}
 use Rattle.safety_automaton.specs.Keys.{key_at}
-use Rattle.end_model.specs.Steps.{Finds}
-use Rattle.end_model.specs.Outcomes.{Outcome}
-use Rattle.end_model.specs.Ends as model
-use Rattle.end_model.specs.Ends.{Event}
+use Rattle.er_end_model.specs.Steps.{Finds}
+use Rattle.er_end_model.specs.Outcomes.{Outcome}
+use Rattle.er_end_model.specs.Ends as model
+use Rattle.er_end_model.specs.Ends.{Event}
 use Rattle.er_end.specs.KeptEnds.{KEnd, happens, tells, used_of}
 use Rattle.er_end_c.specs.declared.handle.CEnd.{CEnd}
 use Rattle.er_end_c.specs.declared.held.Held.{Held}

@@ -1,25 +1,18 @@
 -- Contract: what a handle holds.
-use Rattle.std.specs.Prelude.{ℕ, ◌==◌, ◌≡◌, Bool, if◌then◌else◌, List, [], Option, Some, None, IsSome}
+use Rattle.std.specs.Prelude.{◌==◌, Bool, if◌then◌else◌, List, [], Option, Some, None}
 use Rattle.safety_automaton.specs.Keys.{Entry}
 use Rattle.er_end.specs.KeptEnds.{KEnd}
 use Rattle.er_end_c.specs.declared.handle.CEnd.{CEnd}
 use Rattle.er_end_c.specs.declared.held.Held.{Held}
+use Rattle.er_end_c.specs.Ties.{open_number}
 
 -- the entries of keys, where there are any
 abbrev pub entries_of : Option (List Entry) → List Entry
 entries_of None = []
 entries_of (Some entries) = entries
 
--- the number of a handle that holds an end: it spells "EuroRadi"
-abbrev pub open_number : ℕ
-open_number = 7594301878338483525
-
 abbrev pub is_open : CEnd → Bool
 is_open end = end.open == open_number
-
--- a handle that says that it holds an end does
-abbrev pub IsTied : CEnd → Type 0
-IsTied end = end.open ≡ open_number → IsSome end.slot.held
 
 -- the end and its keys, where the handle holds one
 abbrev pub held_in : CEnd → Option Held

@@ -1,6 +1,7 @@
 pub mod Slots
 pub mod Statuses
 pub mod Deeds
+pub mod Ties
 pub mod Handles
 pub mod Calls
 pub mod Makings

@@ -2,10 +2,10 @@
 use Rattle.std.specs.Prelude.{ℕ, ℤ, ◌≡◌, ◌==◌, ◌&&◌, ◌||◌, ◌^◌, min, nat_lt, Bool, not, if◌then◌else◌, List, Option, Some, None, Result, Ok, Err, ◌⊎◌, slice_index_or}
 use Rattle.des_block.specs.declared.triple_key.TripleKey.{TripleKey}
 use Rattle.safety_automaton.specs.Keys.{Entry}
-use Rattle.er_settings.specs.declared.settings.Settings.{Settings}
+use Rattle.er_settings.specs.Values.{Settings}
 use Rattle.er_settings.specs.declared.setting_name.SettingName.TheVariants as setting
 use Rattle.er_settings.specs.Ranges.{is_allowed, settings_of}
-use Rattle.end_model.specs.Ends.{Opening}
+use Rattle.er_end_model.specs.Ends.{Opening}
 use Rattle.er_end.specs.KeptEnds.{kept_opened}
 use Rattle.er_end_c.specs.declared.face.CSettings.{CSettings}
 use Rattle.er_end_c.specs.declared.face.CKey.{CKey}

@@ -1,11 +1,11 @@
 -- Contract: calls on one handle, one after the other, from the making of its end on, are events of the end model, one after the other.
 use Rattle.std.specs.Prelude.{ℕ, ℤ, ◌≡◌, Bool, true, false, if◌then◌else◌, List, [], ◌∷◌, take, Option}
 use Rattle.safety_automaton.specs.Keys.{Entry, key_at}
-use Rattle.end_model.specs.Outcomes.{Outcome, ConnectedTo, Accepted, Taken, NothingToTake, Refused, WasReleased, Octets as Sent}
-use Rattle.end_model.specs.Steps.{Finds, deadline}
-use Rattle.end_model.specs.Layers.{model}
-use Rattle.end_model.specs.Ends.{Opening, Event, End, opened, step}
-use Rattle.end_model.specs.Ends as event
+use Rattle.er_end_model.specs.Outcomes.{Outcome, ConnectedTo, Accepted, Taken, NothingToTake, Refused, WasReleased, Octets as Sent}
+use Rattle.er_end_model.specs.Steps.{Finds, deadline}
+use Rattle.er_end_model.specs.Layers.{model}
+use Rattle.er_end_model.specs.Ends.{Opening, Event, End, opened, step}
+use Rattle.er_end_model.specs.Ends as event
 use Rattle.er_end.specs.Standing.{IsAllowed}
 use Rattle.er_end_c.specs.declared.handle.CEnd.{CEnd}
 use Rattle.er_end_c.specs.declared.face.CDeeds.{CDeeds}

@@ -1,12 +1,12 @@
 //! The calls that are events at an end.
 
-ghost use Rattle.er_end_c.specs.Handles.{IsTied};
 ghost use Rattle.er_end_c.specs.Calls.{Does, Start, Octets, Send, Take, Release, Tick, Ended, Fault, Stalled};
 
-use crate::face::{CDeeds, MOST_MOMENT};
-use crate::handle::{CEnd, put, taken};
+use crate::face::CDeeds;
+use crate::handle::CEnd;
 use crate::held::refused_status;
 use crate::status;
+use er_base::Moment;
 use std::alloc::Global;
 
 /// An end that calls begins.
@@ -17,20 +17,18 @@ pub extern "C" fn euroradio_start(
     now: u64,
     deeds: &mut CDeeds,
 ) -> i32
-    requires { IsTied end.old }
-    ensures tied { IsTied end.new }
     ensures does { Does (Start now) end.old end.new result deeds.new }
 {
     *deeds = CDeeds::none();
-    let Some(mut held) = taken(alloc, end) else {
+    let Some(mut held) = end.take_held(alloc) else {
         return status::CLOSED;
     };
-    if now > MOST_MOMENT {
-        put(end, held);
+    let Some(now) = Moment::checked(now) else {
+        end.put_held(held);
         return status::MOMENT;
-    }
+    };
     *deeds = held.start(now);
-    put(end, held);
+    end.put_held(held);
     status::OK
 }
 
@@ -43,20 +41,18 @@ pub extern "C" fn euroradio_octets(
     piece: &[u8],
     deeds: &mut CDeeds,
 ) -> i32
-    requires { IsTied end.old }
-    ensures tied { IsTied end.new }
     ensures does { Does (Octets now piece.now) end.old end.new result deeds.new }
 {
     *deeds = CDeeds::none();
-    let Some(mut held) = taken(alloc, end) else {
+    let Some(mut held) = end.take_held(alloc) else {
         return status::CLOSED;
     };
-    if now > MOST_MOMENT {
-        put(end, held);
+    let Some(now) = Moment::checked(now) else {
+        end.put_held(held);
         return status::MOMENT;
-    }
+    };
     *deeds = held.octets(now, piece);
-    put(end, held);
+    end.put_held(held);
     status::OK
 }
 
@@ -69,26 +65,24 @@ pub extern "C" fn euroradio_send(
     text: &[u8],
     deeds: &mut CDeeds,
 ) -> i32
-    requires { IsTied end.old }
-    ensures tied { IsTied end.new }
     ensures does { Does (Send now text.now) end.old end.new result deeds.new }
 {
     *deeds = CDeeds::none();
-    let Some(mut held) = taken(alloc, end) else {
+    let Some(mut held) = end.take_held(alloc) else {
         return status::CLOSED;
     };
-    if now > MOST_MOMENT {
-        put(end, held);
+    let Some(now) = Moment::checked(now) else {
+        end.put_held(held);
         return status::MOMENT;
-    }
+    };
     match held.send(now, text) {
         Ok(told) => {
             *deeds = told;
-            put(end, held);
+            end.put_held(held);
             status::OK
         }
         Err(refused) => {
-            put(end, held);
+            end.put_held(held);
             refused_status(refused)
         }
     }
@@ -98,26 +92,24 @@ pub extern "C" fn euroradio_send(
 #[tactic(auto, using(crate::proofs::Taking::take_some, crate::proofs::Taking::take_none))]
 #[unsafe(no_mangle)]
 pub extern "C" fn euroradio_take(alloc: Global, end: &mut CEnd, now: u64, deeds: &mut CDeeds) -> i32
-    requires { IsTied end.old }
-    ensures tied { IsTied end.new }
     ensures does { Does (Take now) end.old end.new result deeds.new }
 {
     *deeds = CDeeds::none();
-    let Some(mut held) = taken(alloc, end) else {
+    let Some(mut held) = end.take_held(alloc) else {
         return status::CLOSED;
     };
-    if now > MOST_MOMENT {
-        put(end, held);
+    let Some(now) = Moment::checked(now) else {
+        end.put_held(held);
         return status::MOMENT;
-    }
+    };
     match held.take(now) {
         Some(told) => {
             *deeds = told;
-            put(end, held);
+            end.put_held(held);
             status::OK
         }
         None => {
-            put(end, held);
+            end.put_held(held);
             status::NONE
         }
     }
@@ -132,87 +124,77 @@ pub extern "C" fn euroradio_release(
     sub: u8,
     deeds: &mut CDeeds,
 ) -> i32
-    requires { IsTied end.old }
-    ensures tied { IsTied end.new }
     ensures does { Does (Release now sub) end.old end.new result deeds.new }
 {
     *deeds = CDeeds::none();
-    let Some(mut held) = taken(alloc, end) else {
+    let Some(mut held) = end.take_held(alloc) else {
         return status::CLOSED;
     };
-    if now > MOST_MOMENT {
-        put(end, held);
+    let Some(now) = Moment::checked(now) else {
+        end.put_held(held);
         return status::MOMENT;
-    }
+    };
     *deeds = held.release(now, sub);
-    put(end, held);
+    end.put_held(held);
     status::OK
 }
 
 /// The moment has come.
 #[unsafe(no_mangle)]
 pub extern "C" fn euroradio_tick(alloc: Global, end: &mut CEnd, now: u64, deeds: &mut CDeeds) -> i32
-    requires { IsTied end.old }
-    ensures tied { IsTied end.new }
     ensures does { Does (Tick now) end.old end.new result deeds.new }
 {
     *deeds = CDeeds::none();
-    let Some(mut held) = taken(alloc, end) else {
+    let Some(mut held) = end.take_held(alloc) else {
         return status::CLOSED;
     };
-    if now > MOST_MOMENT {
-        put(end, held);
+    let Some(now) = Moment::checked(now) else {
+        end.put_held(held);
         return status::MOMENT;
-    }
+    };
     *deeds = held.tick(now);
-    put(end, held);
+    end.put_held(held);
     status::OK
 }
 
 /// The line ended.
 #[unsafe(no_mangle)]
 pub extern "C" fn euroradio_ended(alloc: Global, end: &mut CEnd, deeds: &mut CDeeds) -> i32
-    requires { IsTied end.old }
-    ensures tied { IsTied end.new }
     ensures does { Does Ended end.old end.new result deeds.new }
 {
     *deeds = CDeeds::none();
-    let Some(mut held) = taken(alloc, end) else {
+    let Some(mut held) = end.take_held(alloc) else {
         return status::CLOSED;
     };
     *deeds = held.ended();
-    put(end, held);
+    end.put_held(held);
     status::OK
 }
 
 /// The line failed.
 #[unsafe(no_mangle)]
 pub extern "C" fn euroradio_fault(alloc: Global, end: &mut CEnd, deeds: &mut CDeeds) -> i32
-    requires { IsTied end.old }
-    ensures tied { IsTied end.new }
     ensures does { Does Fault end.old end.new result deeds.new }
 {
     *deeds = CDeeds::none();
-    let Some(mut held) = taken(alloc, end) else {
+    let Some(mut held) = end.take_held(alloc) else {
         return status::CLOSED;
     };
     *deeds = held.fault();
-    put(end, held);
+    end.put_held(held);
     status::OK
 }
 
 /// The line takes no more octets.
 #[unsafe(no_mangle)]
 pub extern "C" fn euroradio_stalled(alloc: Global, end: &mut CEnd, deeds: &mut CDeeds) -> i32
-    requires { IsTied end.old }
-    ensures tied { IsTied end.new }
     ensures does { Does Stalled end.old end.new result deeds.new }
 {
     *deeds = CDeeds::none();
-    let Some(mut held) = taken(alloc, end) else {
+    let Some(mut held) = end.take_held(alloc) else {
         return status::CLOSED;
     };
     *deeds = held.stalled();
-    put(end, held);
+    end.put_held(held);
     status::OK
 }

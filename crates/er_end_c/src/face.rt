@@ -7,14 +7,11 @@ ghost use Rattle.key_store.specs.Lists.{as_entry};
 ghost use Rattle.er_end_c.specs.Makings.{settings_in, entry_shown};
 
 use des_block::TripleKey;
-use er_base::Release;
+use er_base::{MOST_MOMENT, Release};
 use er_end::Deeds;
 use er_settings::Settings;
+use hdlc_station_model::Counts;
 use key_store::KeyEntry;
-use station_model::Counts;
-
-/// The greatest moment, in milliseconds.
-pub const MOST_MOMENT: u64 = 1_000_000_000_000_000;
 
 /// What both ends agree on.
 #[repr(C)]

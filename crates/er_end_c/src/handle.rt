@@ -1,7 +1,6 @@
 //! The handle, and how a call has what it holds.
 
-ghost use Rattle.std.specs.Prelude.{◌≡◌, MatchOption, Some, None};
-ghost use Rattle.er_end_c.specs.Handles.{IsTied, held_in, is_open};
+ghost use Rattle.er_end_c.specs.Ties.{IsTied};
 
 use crate::held::Held;
 use crate::slot::Slot;
@@ -12,49 +11,46 @@ use std::mem;
 // Of a handle that holds an end: the octets of "EuroRadi" on a little-endian machine. A handle that was never made zero is refused with near certainty.
 const OPEN: u64 = 0x6964_6152_6f72_7545;
 
-/// A handle, in C's own memory. It is zero before an end is made.
+/// A handle, in C's own memory. It is zero before an end is made. One that says that it holds an end does: this C must leave so.
 #[repr(C)]
 pub struct CEnd {
     /// Whether it holds an end.
     pub open: u64,
     /// The end.
     pub slot: Slot,
+    ghost tied: { IsTied «open» slot.held },
 }
 
-/// Takes out what a handle holds, for the length of a call.
-pub fn taken(alloc: Global, end: &mut CEnd) -> Option<Box<Held>>
-    requires { IsTied end.old }
-    ensures { MatchOption result
-        ((held_in end.old ≡ None) × (end.new ≡ end.old))
-        (λ held. held_in end.old ≡ Some held.value) }
-{
-    if end.open != OPEN {
-        return None;
+impl CEnd {
+    ghost use Rattle.std.specs.Prelude.{◌≡◌, MatchOption, Some, None};
+    ghost use Rattle.er_end_c.specs.Handles.{held_in, is_open};
+
+    /// Takes out what it holds, for the length of a call.
+    pub fn take_held(&mut self, alloc: Global) -> Option<Box<Held>>
+        ensures { MatchOption result
+            ((held_in self.old ≡ None) × (self.new ≡ self.old))
+            (λ held. (held_in self.old ≡ Some held.value) × (held_in self.new ≡ None)) }
+    {
+        if self.open != OPEN {
+            return None;
+        }
+        self.open = 0;
+        let slot = mem::replace(&mut self.slot, Slot::empty());
+        Some(slot.into_loose(alloc).into_box())
     }
-    let slot = mem::replace(&mut end.slot, Slot::empty());
-    Some(slot.into_loose(alloc).into_box())
-}
 
-/// Puts it into a handle.
-pub fn put(end: &mut CEnd, held: Box<Held>)
-    ensures tied { IsTied end.new }
-    ensures held { held_in end.new ≡ Some held.value }
-{
-    end.slot = Slot::of(Loose::of(held));
-    end.open = OPEN;
-}
+    /// Puts it in.
+    pub fn put_held(&mut self, held: Box<Held>)
+        ensures { held_in self.new ≡ Some held.value }
+    {
+        self.slot = Slot::of(Loose::of(held));
+        self.open = OPEN;
+    }
 
-/// Leaves a handle with nothing.
-pub fn shut(end: &mut CEnd)
-    ensures tied { IsTied end.new }
-    ensures held { held_in end.new ≡ None }
-{
-    end.open = 0;
-}
-
-/// Whether it holds an end.
-pub fn is_open(end: &CEnd) -> bool
-    ensures { result ≡ is_open end.now }
-{
-    end.open == OPEN
+    /// Whether it holds an end.
+    pub fn is_open(&self) -> bool
+        ensures { result ≡ is_open self.now }
+    {
+        self.open == OPEN
+    }
 }

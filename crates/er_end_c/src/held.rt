@@ -1,6 +1,6 @@
 //! An end with its keys, and what each event at it comes to.
 
-ghost use Rattle.std.specs.Prelude.{◌≡◌, ◌≤◌, None, Some, MatchResult, option_map};
+ghost use Rattle.std.specs.Prelude.{◌≡◌, None, Some, MatchResult, option_map};
 ghost use Rattle.er_end.specs.KeptEnds.{after_start, after_octets, after_send, after_take, after_release, after_tick, after_break, used_of, refusal, waiting_in};
 ghost use Rattle.er_end_c.specs.Deeds.{refused_status};
 ghost use Rattle.er_end.specs.Shown.{refusal_view};
@@ -12,6 +12,7 @@ ghost use Rattle.er_base.specs.declared.cause.Cause.TheVariants.{LineEnded, Line
 use crate::face::CDeeds;
 use crate::keys::Keys;
 use crate::status;
+use er_base::Moment;
 use er_end::{End, SendRefused, Taken};
 
 /// What a handle holds.
@@ -25,63 +26,57 @@ pub struct Held {
 
 impl Held {
     /// The end begins.
-    pub fn start(&mut self, now: u64) -> CDeeds
-        requires { now ≤ 1000000000000000 }
+    pub fn start(&mut self, now: Moment) -> CDeeds
         ensures held { self.new ≡ with_end self.old (after_start now self.old.end) }
         ensures deeds { result ≡ deeds_of 0 (after_start now self.old.end) }
     {
-        CDeeds::of_event(0, &self.end.start(now))
+        CDeeds::of_event(0, &self.end.start(now.get()))
     }
 
     /// Octets come.
-    pub fn octets(&mut self, now: u64, piece: &[u8]) -> CDeeds
-        requires { now ≤ 1000000000000000 }
+    pub fn octets(&mut self, now: Moment, piece: &[u8]) -> CDeeds
         ensures held { self.new ≡ with_end self.old (after_octets (finds_in self.old) now piece.now self.old.end) }
         ensures deeds { result ≡ deeds_of (used_of self.old.end piece.now) (after_octets (finds_in self.old) now piece.now self.old.end) }
     {
-        let (used, deeds) = self.end.octets(&self.keys, now, piece);
+        let (used, deeds) = self.end.octets(&self.keys, now.get(), piece);
         CDeeds::of_event(used, &deeds)
     }
 
     /// The user sends.
-    pub fn send(&mut self, now: u64, text: &[u8]) -> Result<CDeeds, SendRefused>
-        requires { now ≤ 1000000000000000 }
+    pub fn send(&mut self, now: Moment, text: &[u8]) -> Result<CDeeds, SendRefused>
         ensures held { self.new ≡ with_end self.old (after_send now text.now self.old.end) }
         ensures answer { MatchResult result
             (λ deeds. (refusal text.now self.old.end ≡ None) × (deeds ≡ deeds_of 0 (after_send now text.now self.old.end)))
             (λ refused. refusal text.now self.old.end ≡ Some (refusal_view refused)) }
     {
-        match self.end.send(now, text) {
+        match self.end.send(now.get(), text) {
             Ok(deeds) => Ok(CDeeds::of_event(0, &deeds)),
             Err(refused) => Err(refused),
         }
     }
 
     /// The user takes the oldest message. None where none waits.
-    pub fn take(&mut self, now: u64) -> Option<CDeeds>
-        requires { now ≤ 1000000000000000 }
+    pub fn take(&mut self, now: Moment) -> Option<CDeeds>
         ensures held { self.new ≡ with_end self.old (after_take now self.old.end) }
         ensures answer { result ≡ taken_deeds (waiting_in self.old.end) (after_take now self.old.end) }
     {
-        taken_deeds(&self.end.take(now))
+        taken_deeds(&self.end.take(now.get()))
     }
 
     /// The user releases.
-    pub fn release(&mut self, now: u64, sub: u8) -> CDeeds
-        requires { now ≤ 1000000000000000 }
+    pub fn release(&mut self, now: Moment, sub: u8) -> CDeeds
         ensures held { self.new ≡ with_end self.old (after_release now sub self.old.end) }
         ensures deeds { result ≡ deeds_of 0 (after_release now sub self.old.end) }
     {
-        CDeeds::of_event(0, &self.end.release(now, sub))
+        CDeeds::of_event(0, &self.end.release(now.get(), sub))
     }
 
     /// The moment has come.
-    pub fn tick(&mut self, now: u64) -> CDeeds
-        requires { now ≤ 1000000000000000 }
+    pub fn tick(&mut self, now: Moment) -> CDeeds
         ensures held { self.new ≡ with_end self.old (after_tick now self.old.end) }
         ensures deeds { result ≡ deeds_of 0 (after_tick now self.old.end) }
     {
-        CDeeds::of_event(0, &self.end.tick(now))
+        CDeeds::of_event(0, &self.end.tick(now.get()))
     }
 
     /// The line ended.

@@ -2,26 +2,24 @@
 
 ghost use Rattle.std.specs.Prelude.{◌≡◌, ◌≤◌, ◌<◌, ◌^◌, ◌&&◌, ◌++◌, ◌∷◌, [], map, true, None, Some, MatchResult, IfOk, IfSome};
 ghost use Rattle.er_settings.specs.Ranges.{AllAllowed};
-ghost use Rattle.end_model.specs.Ends.{Call, Answer};
+ghost use Rattle.er_end_model.specs.Ends.{Call, Answer};
 ghost use Rattle.key_store.specs.KeyFiles.{keys_of};
 ghost use Rattle.key_store.specs.Lists.{as_entry, listed_keys};
-ghost use Rattle.er_end_c.specs.Handles.{IsTied, held_in};
+ghost use Rattle.er_end_c.specs.Handles.{held_in};
 ghost use Rattle.er_end_c.specs.Makings.{settings_from, is_number, fault_of, fault_status, key_of, held_made, made_with, made_of, entry_shown, Makes, KeysGive};
 
-use crate::face::{CKey, CSettings, MOST_MOMENT};
+use crate::face::{CKey, CSettings};
 use crate::fault::Fault;
-use crate::handle::{CEnd, is_open, put, shut, taken};
+use crate::handle::CEnd;
 use crate::held::Held;
 use crate::keys::Keys;
 use crate::status;
 use des_block::TripleKey;
+use er_base::{EtcsNumber, MOST_ETCS_NUMBER, Moment};
 use er_end::End;
 use er_settings::Settings;
 use key_store::{KeyEntry, KeyFileFault, KeyStore};
 use std::alloc::Global;
-
-/// The greatest ETCS number.
-const MOST_NUMBER: u32 = 16_777_215;
 
 /// Makes an end that calls.
 #[unsafe(no_mangle)]
@@ -35,8 +33,6 @@ pub extern "C" fn euroradio_call(
     rb: u64,
     now: u64,
 ) -> i32
-    requires { IsTied end.old }
-    ensures tied { IsTied end.new }
     ensures makes { Makes
         (fault_of end.old now (is_number me && is_number peer) settings.now)
         (Some (held_made (Call (settings_from settings.now) me peer (key_of kmac.now) rb now) None))
@@ -47,13 +43,14 @@ pub extern "C" fn euroradio_call(
         second: kmac[1],
         third: kmac[2],
     };
-    let settings = match admitted(end, now, are_numbers(me, peer), settings) {
-        Ok(settings) => settings,
+    let (settings, now) = match admitted(end, now, are_numbers(me, peer), settings) {
+        Ok(admitted) => admitted,
         Err(fault) => return fault.status(),
     };
+    let (me, peer) = (EtcsNumber::new(me), EtcsNumber::new(peer));
     match calling(alloc, &settings, me, peer, key, rb, now) {
         Some(held) => {
-            put(end, held);
+            end.put_held(held);
             status::OK
         }
         None => status::MEMORY,
@@ -71,20 +68,18 @@ pub extern "C" fn euroradio_answer(
     ra: u64,
     now: u64,
 ) -> i32
-    requires { IsTied end.old }
-    ensures tied { IsTied end.new }
     ensures makes { Makes
         (fault_of end.old now (is_number me) settings.now)
         (made_with (Answer (settings_from settings.now) me ra now) (keys_of keys.now))
         end.old end.new result }
 {
-    let settings = match admitted(end, now, me <= MOST_NUMBER, settings) {
-        Ok(settings) => settings,
+    let (settings, now) = match admitted(end, now, me <= MOST_ETCS_NUMBER, settings) {
+        Ok(admitted) => admitted,
         Err(fault) => return fault.status(),
     };
-    match answering(alloc, &settings, me, keys, ra, now) {
+    match answering(alloc, &settings, EtcsNumber::new(me), keys, ra, now) {
         Ok(held) => {
-            put(end, held);
+            end.put_held(held);
             status::OK
         }
         Err(fault) => fault.status(),
@@ -102,20 +97,18 @@ pub extern "C" fn euroradio_answer_keys(
     ra: u64,
     now: u64,
 ) -> i32
-    requires { IsTied end.old }
-    ensures tied { IsTied end.new }
     ensures makes { Makes
         (fault_of end.old now (is_number me) settings.now)
         (made_of (Answer (settings_from settings.now) me ra now) (listed_keys (map entry_shown keys.now)))
         end.old end.new result }
 {
-    let settings = match admitted(end, now, me <= MOST_NUMBER, settings) {
-        Ok(settings) => settings,
+    let (settings, now) = match admitted(end, now, me <= MOST_ETCS_NUMBER, settings) {
+        Ok(admitted) => admitted,
         Err(fault) => return fault.status(),
     };
-    match answering_keys(alloc, &settings, me, keys, ra, now) {
+    match answering_keys(alloc, &settings, EtcsNumber::new(me), keys, ra, now) {
         Ok(held) => {
-            put(end, held);
+            end.put_held(held);
             status::OK
         }
         Err(fault) => fault.status(),
@@ -125,12 +118,9 @@ pub extern "C" fn euroradio_answer_keys(
 /// Gives an end's memory back.
 #[unsafe(no_mangle)]
 pub extern "C" fn euroradio_free(alloc: Global, end: &mut CEnd)
-    requires { IsTied end.old }
-    ensures tied { IsTied end.new }
     ensures held { held_in end.new ≡ None }
 {
-    if let Some(held) = taken(alloc, end) {
-        shut(end);
+    if let Some(held) = end.take_held(alloc) {
         drop(held);
     }
 }
@@ -138,34 +128,33 @@ pub extern "C" fn euroradio_free(alloc: Global, end: &mut CEnd)
 fn are_numbers(me: u32, peer: u32) -> bool
     ensures { result ≡ is_number me && is_number peer }
 {
-    me <= MOST_NUMBER && peer <= MOST_NUMBER
+    me <= MOST_ETCS_NUMBER && peer <= MOST_ETCS_NUMBER
 }
 
-// The settings, where nothing stands against making an end.
+// The settings and the moment, where nothing stands against making an end.
 fn admitted(
     end: &CEnd,
     now: u64,
     are_numbers: bool,
     settings: &CSettings,
-) -> Result<Settings, Fault>
+) -> Result<(Settings, Moment), Fault>
     ensures fault { MatchResult result
-        (λ made. (fault_of end.now now are_numbers settings.now ≡ None) × (made ≡ settings_from settings.now))
+        (λ made. (fault_of end.now now are_numbers settings.now ≡ None) × (made.0 ≡ settings_from settings.now))
         (λ fault. fault_of end.now now are_numbers settings.now ≡ Some (fault_status fault)) }
-    ensures allowed { IfOk result (λ made. AllAllowed made) }
-    ensures moment { IfOk result (λ made. now ≤ 1000000000000000) }
+    ensures moment { IfOk result (λ made. made.1 ≡ now) }
     ensures numbers { IfOk result (λ made. are_numbers ≡ true) }
 {
-    if is_open(end) {
+    if end.is_open() {
         return Err(Fault::Open);
     }
-    if now > MOST_MOMENT {
+    let Some(now) = Moment::checked(now) else {
         return Err(Fault::Moment);
-    }
+    };
     if !are_numbers {
         return Err(Fault::Number);
     }
     match settings.checked() {
-        Some(settings) => Ok(settings),
+        Some(settings) => Ok((settings, now)),
         None => Err(Fault::Setting),
     }
 }
@@ -179,19 +168,15 @@ fn boxed(alloc: Global, end: End, keys: Keys) -> Option<Box<Held>>
 fn calling(
     alloc: Global,
     settings: &Settings,
-    me: u32,
-    peer: u32,
+    me: EtcsNumber,
+    peer: EtcsNumber,
     key: TripleKey,
     rb: u64,
-    now: u64,
+    now: Moment,
 ) -> Option<Box<Held>>
-    requires settings { AllAllowed settings.now }
-    requires me { me < 2 ^ 24 }
-    requires peer { peer < 2 ^ 24 }
-    requires moment { now ≤ 1000000000000000 }
     ensures { IfSome result (λ held. held.value ≡ held_made (Call settings.now me peer key rb now) None) }
 {
-    match End::call(alloc, settings, me, peer, key, rb, now) {
+    match End::call(alloc, settings, me.get(), peer.get(), key, rb, now.get()) {
         Ok(end) => boxed(alloc, end, Keys { store: None }),
         Err(_) => None,
     }
@@ -200,14 +185,11 @@ fn calling(
 fn answering(
     alloc: Global,
     settings: &Settings,
-    me: u32,
+    me: EtcsNumber,
     keys: &[u8],
     ra: u64,
-    now: u64,
+    now: Moment,
 ) -> Result<Box<Held>, Fault>
-    requires settings { AllAllowed settings.now }
-    requires me { me < 2 ^ 24 }
-    requires moment { now ≤ 1000000000000000 }
     ensures { let made = made_with (Answer settings.now me ra now) (keys_of keys.now) in
         MatchResult result (λ held. made ≡ Some held.value) (λ fault. KeysGive made fault) }
 {
@@ -225,14 +207,11 @@ fn answering(
 fn answering_keys(
     alloc: Global,
     settings: &Settings,
-    me: u32,
+    me: EtcsNumber,
     keys: &[CKey],
     ra: u64,
-    now: u64,
+    now: Moment,
 ) -> Result<Box<Held>, Fault>
-    requires settings { AllAllowed settings.now }
-    requires me { me < 2 ^ 24 }
-    requires moment { now ≤ 1000000000000000 }
     ensures { let made = made_of (Answer settings.now me ra now) (listed_keys (map entry_shown keys.now)) in
         MatchResult result (λ held. made ≡ Some held.value) (λ fault. KeysGive made fault) }
 {
@@ -271,17 +250,14 @@ fn push(entries: &mut Vec<KeyEntry>, key: &CKey) -> bool
 fn with_keys(
     alloc: Global,
     settings: &Settings,
-    me: u32,
+    me: EtcsNumber,
     store: KeyStore,
     ra: u64,
-    now: u64,
+    now: Moment,
 ) -> Option<Box<Held>>
-    requires settings { AllAllowed settings.now }
-    requires me { me < 2 ^ 24 }
-    requires moment { now ≤ 1000000000000000 }
     ensures { IfSome result (λ held. held.value ≡ held_made (Answer settings.now me ra now) (Some store)) }
 {
-    match End::answer(alloc, settings, me, ra, now) {
+    match End::answer(alloc, settings, me.get(), ra, now.get()) {
         Ok(end) => boxed(alloc, end, Keys { store: Some(store) }),
         Err(_) => None,
     }

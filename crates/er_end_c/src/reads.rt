@@ -3,11 +3,11 @@
 ghost use Rattle.std.specs.Prelude.{◌≡◌, ◌≤◌, length, option_map, MatchOption};
 ghost use Rattle.er_end.specs.KeptEnds.{waiting_in, deadline_of};
 ghost use Rattle.er_end.specs.Inboxes.{newest_of};
-ghost use Rattle.er_end_c.specs.Handles.{IsTied, held_in};
+ghost use Rattle.er_end_c.specs.Handles.{held_in};
 ghost use Rattle.er_end_c.specs.Reads.{text_in, text_of, copied, written, out_of, accepted_of, taken_of, shown_release, shown_release_status, shown_counts, found_status, waiting_count, shown_deadline, deadline_status};
 
 use crate::face::{CCounts, CDeeds};
-use crate::handle::{CEnd, put, taken};
+use crate::handle::CEnd;
 use crate::status;
 use std::alloc::Global;
 
@@ -19,68 +19,60 @@ pub extern "C" fn euroradio_out(
     from: usize,
     into: &mut [u8],
 ) -> usize
-    requires { IsTied end.old }
-    ensures tied { IsTied end.new }
     ensures held { held_in end.new ≡ held_in end.old }
     ensures copied { into.new ≡ written (copied (text_in out_of (held_in end.old)) from (length into.old)) into.old }
     ensures count { result ≡ length (copied (text_in out_of (held_in end.old)) from (length into.old)) }
 {
-    let Some(held) = taken(alloc, end) else {
+    let Some(held) = end.take_held(alloc) else {
         return 0;
     };
     let count = copy(held.end.out(), from, into);
-    put(end, held);
+    end.put_held(held);
     count
 }
 
 /// Copies the message that the last event accepted.
 #[unsafe(no_mangle)]
 pub extern "C" fn euroradio_accepted(alloc: Global, end: &mut CEnd, into: &mut [u8]) -> usize
-    requires { IsTied end.old }
-    ensures tied { IsTied end.new }
     ensures held { held_in end.new ≡ held_in end.old }
     ensures copied { into.new ≡ written (copied (text_in accepted_of (held_in end.old)) 0 (length into.old)) into.old }
     ensures count { result ≡ length (copied (text_in accepted_of (held_in end.old)) 0 (length into.old)) }
 {
-    let Some(held) = taken(alloc, end) else {
+    let Some(held) = end.take_held(alloc) else {
         return 0;
     };
     let count = copy_some(&held.end.accepted(), into);
-    put(end, held);
+    end.put_held(held);
     count
 }
 
 /// Copies the message that the last event, a take, took.
 #[unsafe(no_mangle)]
 pub extern "C" fn euroradio_taken(alloc: Global, end: &mut CEnd, into: &mut [u8]) -> usize
-    requires { IsTied end.old }
-    ensures tied { IsTied end.new }
     ensures held { held_in end.new ≡ held_in end.old }
     ensures copied { into.new ≡ written (copied (text_in taken_of (held_in end.old)) 0 (length into.old)) into.old }
     ensures count { result ≡ length (copied (text_in taken_of (held_in end.old)) 0 (length into.old)) }
 {
-    let Some(held) = taken(alloc, end) else {
+    let Some(held) = end.take_held(alloc) else {
         return 0;
     };
     let count = copy(held.end.taken(), 0, into);
-    put(end, held);
+    end.put_held(held);
     count
 }
 
 /// The moment at which a tick is wanted.
 #[unsafe(no_mangle)]
 pub extern "C" fn euroradio_deadline(alloc: Global, end: &mut CEnd, moment: &mut u64) -> i32
-    requires { IsTied end.old }
-    ensures tied { IsTied end.new }
     ensures held { held_in end.new ≡ held_in end.old }
     ensures answer { result ≡ deadline_status (held_in end.old) }
     ensures moment { moment.new ≡ shown_deadline moment.old (held_in end.old) }
 {
-    let Some(held) = taken(alloc, end) else {
+    let Some(held) = end.take_held(alloc) else {
         return status::CLOSED;
     };
     let deadline = held.end.deadline();
-    put(end, held);
+    end.put_held(held);
     match deadline {
         Some(at) => {
             *moment = at;
@@ -93,34 +85,30 @@ pub extern "C" fn euroradio_deadline(alloc: Global, end: &mut CEnd, moment: &mut
 /// How many accepted messages wait to be taken.
 #[unsafe(no_mangle)]
 pub extern "C" fn euroradio_waiting(alloc: Global, end: &mut CEnd) -> usize
-    requires { IsTied end.old }
-    ensures tied { IsTied end.new }
     ensures held { held_in end.new ≡ held_in end.old }
     ensures count { result ≡ waiting_count (held_in end.old) }
 {
-    let Some(held) = taken(alloc, end) else {
+    let Some(held) = end.take_held(alloc) else {
         return 0;
     };
     let count = held.end.waiting();
-    put(end, held);
+    end.put_held(held);
     count
 }
 
 /// Whether and why the end is released.
 #[unsafe(no_mangle)]
 pub extern "C" fn euroradio_released(alloc: Global, end: &mut CEnd, deeds: &mut CDeeds) -> i32
-    requires { IsTied end.old }
-    ensures tied { IsTied end.new }
     ensures held { held_in end.new ≡ held_in end.old }
     ensures answer { result ≡ shown_release_status (held_in end.old) }
     ensures deeds { deeds.new ≡ shown_release (held_in end.old) }
 {
     *deeds = CDeeds::none();
-    let Some(held) = taken(alloc, end) else {
+    let Some(held) = end.take_held(alloc) else {
         return status::CLOSED;
     };
     let why = held.end.released();
-    put(end, held);
+    end.put_held(held);
     *deeds = CDeeds::of_release(why);
     if why.is_some() {
         status::OK
@@ -132,18 +120,16 @@ pub extern "C" fn euroradio_released(alloc: Global, end: &mut CEnd, deeds: &mut 
 /// The frames that the station ignored so far.
 #[unsafe(no_mangle)]
 pub extern "C" fn euroradio_counted(alloc: Global, end: &mut CEnd, counts: &mut CCounts) -> i32
-    requires { IsTied end.old }
-    ensures tied { IsTied end.new }
     ensures held { held_in end.new ≡ held_in end.old }
     ensures answer { result ≡ found_status (held_in end.old) }
     ensures counts { counts.new ≡ shown_counts (held_in end.old) }
 {
     *counts = CCounts::none();
-    let Some(held) = taken(alloc, end) else {
+    let Some(held) = end.take_held(alloc) else {
         return status::CLOSED;
     };
     *counts = CCounts::of(held.end.counts());
-    put(end, held);
+    end.put_held(held);
     status::OK
 }
 

@@ -1,4 +1,5 @@
-// The place of a handle in which a box lies as its pointer.
+//! The place of a handle in which a box lies as its pointer.
+
 ghost use Rattle.std.specs.Prelude.{◌≡◌, Option, Some, None, IsSome};
 ghost use Rattle.er_end_c.specs.declared.held.Held.{Held};
 

@@ -14,14 +14,15 @@ use Rattle.link_trait.specs.Outside.{Grew}
 use Rattle.link_trait.specs.Growth.{grew_then, grew_nothing}
 use Rattle.er_program.specs.Asking.{Names, AsksLast, AsksBehindKeys, Asks}
 use Rattle.er_program.specs.Commands.{Replay}
-use Rattle.er_program.specs.LastLines.{fetch_line}
-use Rattle.er_program.specs.Answers.{Answer, AllAreTaken, OneIsRefused, IsTraceAnswer, lines_answer, tap_answer, keys_answer}
+use Rattle.er_statuses.specs.LastLines.{fetch_line}
+use Rattle.er_statuses.specs.Answers.{Answer, keys_answer}
+use Rattle.er_program.specs.Answers.{AllAreTaken, OneIsRefused, IsTraceAnswer, lines_answer, tap_answer}
 use Rattle.er_program.specs.AuditWriting.{IsTapAnswer}
 use Rattle.er_program.specs.ReplayWriting.{EndsOne}
-use Rattle.er_program.specs.Writing.{Gives}
-use Rattle.er_program.specs.declared.status.Status.{Status}
-use Rattle.er_program.specs.declared.stop.Stop.{Stop}
-use Rattle.er_program.specs.declared.stop.Stop.TheVariants as stop
+use Rattle.er_statuses.specs.Writing.{Gives, EndsUnfetched}
+use Rattle.er_statuses.specs.declared.status.Status.{Status}
+use Rattle.er_statuses.specs.declared.stop.Stop.{Stop}
+use Rattle.er_statuses.specs.declared.stop.Stop.TheVariants as stop
 
 -- ---- the trace
 
@@ -71,10 +72,10 @@ asks_tapped known read IsBegun name before now f g (Ok s) ends =
 asks_tapped known read IsBegun name before now f g (Err why) ends = tt
 
 -- its name wasn't fetched
-pub asks_lost : (name : List ℕ) (before now : Option (List ℕ)) (f g : ℕ) (r : Result Status Stop)
-    → Gives (record { status = 2; text = fetch_line name }) before now f g r → IfOk r (λ s. AsksLast name s.0 before now)
-asks_lost name before now f g (Ok s) gives = (λ h. omega (arith, gives.0), λ h. gives.1)
-asks_lost name before now f g (Err why) gives = tt
+pub asks_lost : (name : List ℕ) (c d : ℕ) (before now : Option (List ℕ)) (f g : ℕ) (r : Result Status Stop)
+    → EndsUnfetched name c d before now f g r → IfOk r (λ s. AsksLast name s.0 before now)
+asks_lost name c d before now f g (Ok s) ends = (λ h. omega (arith, ends.1), λ h. ends.2)
+asks_lost name c d before now f g (Err why) ends = tt
 
 -- ---- behind the key file
 
@@ -125,8 +126,8 @@ asks_words keys_name name a b c before now (Ok s) first further = behind_words k
 asks_words keys_name name a b c before now (Err why) first further = tt
 
 -- or not
-pub asks_words_lost : (keys_name name : List ℕ) (a b : Names) (before now : Option (List ℕ)) (f g : ℕ) (r : Result Status Stop)
-    → Grew a b (keys_name ∷ []) → Gives (record { status = 2; text = fetch_line keys_name }) before now f g r
+pub asks_words_lost : (keys_name name : List ℕ) (a b : Names) (c d : ℕ) (before now : Option (List ℕ)) (f g : ℕ) (r : Result Status Stop)
+    → IfOk r (λ s. Grew a b (keys_name ∷ [])) → EndsUnfetched keys_name c d before now f g r
     → IfOk r (λ s. Asks (Replay keys_name name) s.0 a b before now)
-asks_words_lost keys_name name a b before now f g (Ok s) first gives = inl (record { asked_for = first; ends = inl gives.0; written = λ h. gives.1 })
-asks_words_lost keys_name name a b before now f g (Err why) first gives = tt
+asks_words_lost keys_name name a b c d before now f g (Ok s) first ends = inl (record { asked_for = first; ends = inl ends.1; written = λ h. ends.2 })
+asks_words_lost keys_name name a b c d before now f g (Err why) first ends = tt

@@ -15,9 +15,10 @@ use Rattle.link_trait.specs.Outside.{Grew, Rose, HasFile}
 use Rattle.er_program.specs.Asking.{Names, Asks}
 use Rattle.er_program.specs.AuditRuns.{SpellTap, HasTapStatus, HasAuditStatus, IsTapStatusBehindKeys, tap_fault_line}
 use Rattle.er_program.specs.Commands.{Audit}
-use Rattle.er_program.specs.KeyLines.{keys_line}
-use Rattle.er_program.specs.LastLines.{fault_line, memory_line, why_word}
-use Rattle.er_program.specs.Answers.{Answer, Files, HasFetched, lines_answer, tap_answer, IsFetchedTap, IsTapAnswerBehindKeys, IsFetchedAudit, keys_answer}
+use Rattle.er_statuses.specs.KeyLines.{keys_line}
+use Rattle.er_statuses.specs.LastLines.{fault_line, memory_line, why_word}
+use Rattle.er_statuses.specs.Answers.{Answer, Files, HasFetched, keys_answer}
+use Rattle.er_program.specs.Answers.{lines_answer, tap_answer, IsFetchedTap, IsTapAnswerBehindKeys, IsFetchedAudit}
 use Rattle.er_program.specs.FileMeans.{FileMeans, IsUnfetched}
 
 -- ---- a name that wasn't fetched

@@ -7,7 +7,7 @@ use Rattle.er_base.specs.declared.why.Why.{Why}
 use Rattle.er_tap.specs.declared.tap.Tap.{Tap}
 use Rattle.er_tap.specs.declared.tap_line.TapLine.{TapLine}
 use Rattle.er_tap.specs.Files.{tap_of}
-use Rattle.end_model.specs.Steps.{Finds}
+use Rattle.er_end_model.specs.Steps.{Finds}
 use Rattle.safety_automaton.specs.Keys.{Entry, key_at}
 use Rattle.key_store.specs.declared.key_file_fault.KeyFileFault.{KeyFileFault}
 use Rattle.key_store.specs.declared.key_file_fault.KeyFileFault.TheVariants as keys
@@ -23,14 +23,16 @@ use Rattle.tap_model.specs.Texts.{audit_text}
 use Rattle.er_program.specs.AuditRuns.{FirstAuditText}
 use Rattle.er_program.specs.AuditWriting.{IsLinesAnswer, IsTapAnswer, BeginsAudit, BeginsLines, BeginsSpelledTap, BeginsTap, BeginsTapFile, BeginsTapOfGood, BeginsTapBehindKeys, TellsTapFault}
 use Rattle.er_program.specs.Commands.{Audit}
-use Rattle.er_program.specs.LastLines.{fetch_line, fault_line, why_word}
-use Rattle.er_program.specs.Answers.{Answer, Files, lines_answer, tap_answer, IsTapFileAnswer, IsTapAnswerBehindKeys, HasFetched, keys_answer}
+use Rattle.er_statuses.specs.LastLines.{fetch_line, fault_line, why_word}
+use Rattle.er_statuses.specs.Answers.{Answer, Files, HasFetched, keys_answer}
+use Rattle.er_program.specs.Answers.{lines_answer, tap_answer, IsTapFileAnswer, IsTapAnswerBehindKeys}
 use Rattle.er_program.specs.KeyWriting.{GaveOne, BrokeOne}
 use Rattle.er_program.specs.ReplayWriting.{BeganOne, EndsOne}
-use Rattle.er_program.specs.Writing.{Gives, Ends}
-use Rattle.er_program.specs.declared.status.Status.{Status}
-use Rattle.er_program.specs.declared.stop.Stop.{Stop}
-use Rattle.er_program.specs.declared.stop.Stop.TheVariants as stop
+use Rattle.er_statuses.specs.Writing.{Gives, EndsUnfetched}
+use Rattle.er_program.specs.Writing.{Ends}
+use Rattle.er_statuses.specs.declared.status.Status.{Status}
+use Rattle.er_statuses.specs.declared.stop.Stop.{Stop}
+use Rattle.er_statuses.specs.declared.stop.Stop.TheVariants as stop
 use Rattle.er_program.proofs.ReplayRuns.{ends_gives, ends_other, part_still}
 
 -- ---- the lines
@@ -141,11 +143,15 @@ ends_fetched known name file files b c before now f g r stands ends =
 
 -- or not
 pub ends_lost : (known : List Entry) (name : List ℕ) (files : Files) (b c : ℕ) (before now : Option (List ℕ)) (f g : ℕ) (r : Result Status Stop)
-    → Rose b c → Gives (record { status = 2; text = fetch_line name }) before now f g r
+    → EndsUnfetched name b c before now f g r
     → EndsOne (IsTapFileAnswer known name files b c) (BeginsTapFile known name files) before now f g r
-ends_lost known name files b c before now f g r rose gives =
-    ends_gives (IsTapFileAnswer known name files b c) (BeginsTapFile known name files) (record { status = 2; text = fetch_line name }) before now f g r
-    (record { fetched = None; stands = rose; is = refl }) (inl refl) gives
+ends_lost known name files b c before now f g (Ok s) ends =
+    ends_gives (IsTapFileAnswer known name files b c) (BeginsTapFile known name files) (record { status = 2; text = fetch_line name }) before now f g (Ok s)
+    (record { fetched = None; stands = ends.0; is = refl }) (inl refl) (ends.1, ends.2, ends.3)
+ends_lost known name files b c before now f g (Err stop.Sink) ends =
+    ends_gives (IsTapFileAnswer known name files b c) (BeginsTapFile known name files) (record { status = 2; text = fetch_line name }) before now f g (Err stop.Sink)
+    (record { fetched = None; stands = ends.0; is = refl }) (inl refl) (ends.1, ends.2)
+ends_lost known name files b c before now f g (Err (stop.NoMemory want)) ends = record { text = []; begun = inl refl; written = ends.0; later = ends.1 }
 
 -- ---- behind the key file
 
@@ -261,19 +267,19 @@ ends_audited keys_name name key_file files b c d before now f g (Err (stop.NoMem
 
 -- or not
 pub ends_audit_lost : (keys_name name : List ℕ) (files : Files) (c d : ℕ) (before now : Option (List ℕ)) (f g : ℕ) (r : Result Status Stop)
-    → Rose c d → Gives (record { status = 2; text = fetch_line keys_name }) before now f g r → Ends (Audit keys_name name) files c d before now f g r
-ends_audit_lost keys_name name files c d before now f g (Ok status) rose ends = record {
+    → EndsUnfetched keys_name c d before now f g r → Ends (Audit keys_name name) files c d before now f g r
+ends_audit_lost keys_name name files c d before now f g (Ok status) ends = record {
   answer = record { status = 2; text = fetch_line keys_name };
-  is = record { fetched = None; stands = rose; is = refl };
-  stated = ends.0;
-  printed = ends.1;
-  later = ends.2;
+  is = record { fetched = None; stands = ends.0; is = refl };
+  stated = ends.1;
+  printed = ends.2;
+  later = ends.3;
 }
-ends_audit_lost keys_name name files c d before now f g (Err stop.Sink) rose ends = record {
+ends_audit_lost keys_name name files c d before now f g (Err stop.Sink) ends = record {
   answer = record { status = 2; text = fetch_line keys_name };
-  is = record { fetched = None; stands = rose; is = refl };
-  part = ends.0;
-  rose = ends.1;
+  is = record { fetched = None; stands = ends.0; is = refl };
+  part = ends.1;
+  rose = ends.2;
 }
-ends_audit_lost keys_name name files c d before now f g (Err (stop.NoMemory want)) rose ends =
+ends_audit_lost keys_name name files c d before now f g (Err (stop.NoMemory want)) ends =
     record { text = []; first = inl refl; printed = ends.0; later = ends.1 }

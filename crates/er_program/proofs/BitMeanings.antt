@@ -4,8 +4,9 @@ use Rattle.std.specs.Prelude.{codes}
 use Rattle.std.proofs.lemmas.Bool.{cases_lt, lt-ltb, le-ltb}
 use Rattle.link_trait.specs.Outside.{Grew, HasFile}
 use Rattle.er_program.specs.Commands.{Bits}
-use Rattle.er_program.specs.LastLines.{fault_line}
-use Rattle.er_program.specs.Answers.{Answer, Files, HasFetched, IsFetchedBits, bits_answer}
+use Rattle.er_statuses.specs.LastLines.{fault_line}
+use Rattle.er_statuses.specs.Answers.{Answer, Files, HasFetched}
+use Rattle.er_program.specs.Answers.{IsFetchedBits, bits_answer}
 use Rattle.er_program.specs.BitTexts.{most_line_octets, bits_text}
 use Rattle.er_program.specs.FileMeans.{FileMeans}
 

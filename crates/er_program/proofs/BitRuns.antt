@@ -18,14 +18,16 @@ use Rattle.link_trait.specs.Growth.{grew_nothing, grew_then, part_then, part_mor
 use Rattle.er_base.specs.LineTexts.{line_text}
 use Rattle.er_base.specs.declared.no_memory.NoMemory.{NoMemory}
 use Rattle.er_program.specs.Commands.{Bits}
-use Rattle.er_program.specs.LastLines.{fault_line, fetch_line}
-use Rattle.er_program.specs.Answers.{Answer, Files, bits_answer}
+use Rattle.er_statuses.specs.LastLines.{fault_line, fetch_line}
+use Rattle.er_statuses.specs.Answers.{Answer, Files}
+use Rattle.er_program.specs.Answers.{bits_answer}
 use Rattle.er_program.specs.BitTexts.{most_line_octets, verdict_words, verdict_lines, is_frame, frame_count, counts_line, verdicts_in, bits_text}
 use Rattle.er_program.specs.BitWriting.{found_count, Tells, ReadTo, FirstVerdicts, EndsBits}
-use Rattle.er_program.specs.Writing.{Gives, Ends}
-use Rattle.er_program.specs.declared.stop.Stop.{Stop}
-use Rattle.er_program.specs.declared.stop.Stop.TheVariants as stop
-use Rattle.er_program.specs.declared.status.Status.{Status}
+use Rattle.er_statuses.specs.Writing.{Gives, EndsUnfetched}
+use Rattle.er_program.specs.Writing.{Ends}
+use Rattle.er_statuses.specs.declared.stop.Stop.{Stop}
+use Rattle.er_statuses.specs.declared.stop.Stop.TheVariants as stop
+use Rattle.er_statuses.specs.declared.status.Status.{Status}
 
 -- ---- lines and counts of verdicts
 
@@ -255,19 +257,19 @@ ends_bits name file files c d before now f g (Err (stop.NoMemory want)) stands e
 }
 
 pub ends_bits_unfetched : (name : List ℕ) (files : Files) (c d : ℕ) (before now : Option (List ℕ)) (f g : ℕ) (r : Result Status Stop)
-    → Rose c d → Gives (record { status = 2; text = fetch_line name }) before now f g r → Ends (Bits name) files c d before now f g r
-ends_bits_unfetched name files c d before now f g (Ok status) rose ends = record {
+    → EndsUnfetched name c d before now f g r → Ends (Bits name) files c d before now f g r
+ends_bits_unfetched name files c d before now f g (Ok status) ends = record {
   answer = record { status = 2; text = fetch_line name };
-  is = record { fetched = None; stands = rose; is = refl };
-  stated = ends.0;
-  printed = ends.1;
-  later = ends.2;
+  is = record { fetched = None; stands = ends.0; is = refl };
+  stated = ends.1;
+  printed = ends.2;
+  later = ends.3;
 }
-ends_bits_unfetched name files c d before now f g (Err stop.Sink) rose ends = record {
+ends_bits_unfetched name files c d before now f g (Err stop.Sink) ends = record {
   answer = record { status = 2; text = fetch_line name };
-  is = record { fetched = None; stands = rose; is = refl };
-  part = ends.0;
-  rose = ends.1;
+  is = record { fetched = None; stands = ends.0; is = refl };
+  part = ends.1;
+  rose = ends.2;
 }
-ends_bits_unfetched name files c d before now f g (Err (stop.NoMemory want)) rose ends =
+ends_bits_unfetched name files c d before now f g (Err (stop.NoMemory want)) ends =
     record { text = []; first = inl refl; printed = ends.0; later = ends.1 }

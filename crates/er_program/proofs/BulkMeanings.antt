@@ -5,9 +5,11 @@ use Rattle.drill_model.specs.declared.world_fault.WorldFault.TheVariants.{Overfu
 use Rattle.link_trait.specs.Outside.{Grew}
 use Rattle.er_program.specs.Asking.{Names}
 use Rattle.er_program.specs.Commands.{Bulk}
-use Rattle.er_program.specs.LastLines.{overfull_line}
-use Rattle.er_program.specs.BulkTexts.{bulk_plan, steps_of_bulk, totals_of_bulk, totals_line, AllDone, FirstOverfull}
-use Rattle.er_program.specs.Answers.{Answer, Files, IsBulkAnswer, AllAreCounted, TooManyWait}
+use Rattle.er_statuses.specs.LastLines.{overfull_line}
+use Rattle.er_program.specs.BulkTexts.{bulk_plan, steps_of_bulk, totals_of_bulk, totals_line, FirstOverfull}
+use Rattle.drill_model.specs.Faults.{AllDone}
+use Rattle.er_statuses.specs.Answers.{Answer, Files}
+use Rattle.er_program.specs.Answers.{IsBulkAnswer, AllAreCounted, TooManyWait}
 use Rattle.er_program.specs.Runs.{HoldsInBulk, HasBulkStatus}
 use Rattle.er_program.specs.FileMeans.{FileMeans}
 

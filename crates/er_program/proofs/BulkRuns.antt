@@ -5,7 +5,7 @@ use Rattle.std.proofs.lemmas.List.{take_all}
 use Rattle.std.proofs.lemmas.Option.{same_Some}
 use Rattle.er_base.specs.declared.no_memory.NoMemory.{NoMemory as Want}
 use Rattle.er_base.specs.declared.side.Side.{Side}
-use Rattle.er_settings.specs.declared.settings.Settings.{Settings}
+use Rattle.er_settings.specs.Values.{Settings}
 use Rattle.er_settings.specs.Ranges.{usual_settings}
 use Rattle.er_scenario.specs.declared.level.Level.{Level}
 use Rattle.er_scenario.specs.declared.level.Level.TheVariants as level
@@ -14,22 +14,24 @@ use Rattle.drill_model.specs.declared.totals.Totals.{Totals}
 use Rattle.drill_model.specs.declared.world_fault.WorldFault.{WorldFault}
 use Rattle.drill_model.specs.declared.world_fault.WorldFault.TheVariants.{NoLink, LinkTwice, MomentBack, Overfull, NoMemory}
 use Rattle.drill_model.specs.Worlds.{Plan, world_run}
-use Rattle.drill_model.specs.Faults.{fault_behind}
-use Rattle.drill_model.specs.Headline.{OpensAlways}
+use Rattle.drill_model.specs.Faults.{fault_behind, AllDone}
+use Rattle.drill_laws.specs.Laws.{OpensAlways}
 use Rattle.drill_model.specs.Totals.{totals_of}
-use Rattle.bulk_steps.specs.Turns.{bulk_steps}
+use Rattle.drill_bulk.specs.Turns.{bulk_steps}
 use Rattle.er_world.specs.Standing.{KeptWorld, Ran}
 use Rattle.link_trait.specs.Outside.{Grew}
-use Rattle.er_program.specs.Answers.{Files, IsBulkAnswer, AllAreCounted, TooManyWait}
+use Rattle.er_statuses.specs.Answers.{Files}
+use Rattle.er_program.specs.Answers.{IsBulkAnswer, AllAreCounted, TooManyWait}
 use Rattle.er_program.specs.Commands.{Bulk}
-use Rattle.er_program.specs.BulkTexts.{bulk_plan, steps_of_bulk, totals_of_bulk, totals_line, AllDone}
+use Rattle.er_program.specs.BulkTexts.{bulk_plan, steps_of_bulk, totals_of_bulk, totals_line}
 use Rattle.er_program.specs.BulkRuns.{IsDoable, AreDoable, DidFirst, HaltedAt}
 use Rattle.er_program.specs.KeyWriting.{GivesOne}
-use Rattle.er_program.specs.LastLines.{overfull_line}
-use Rattle.er_program.specs.Writing.{Gives, TellsFault, Ends}
-use Rattle.er_program.specs.declared.status.Status.{Status}
-use Rattle.er_program.specs.declared.stop.Stop.{Stop}
-use Rattle.er_program.specs.declared.stop.Stop.TheVariants as stop
+use Rattle.er_statuses.specs.LastLines.{overfull_line}
+use Rattle.er_statuses.specs.Writing.{Gives}
+use Rattle.er_program.specs.Writing.{TellsFault, Ends}
+use Rattle.er_statuses.specs.declared.status.Status.{Status}
+use Rattle.er_statuses.specs.declared.stop.Stop.{Stop}
+use Rattle.er_statuses.specs.declared.stop.Stop.TheVariants as stop
 use Rattle.er_program.proofs.BulkSteps.{take_one_more, steps_doable}
 use Rattle.er_program.proofs.BulkSteady.{IsOverfull, unrefused, only_overfull}
 use Rattle.er_program.proofs.KeyRuns.{gives_one}

@@ -8,10 +8,11 @@ use Rattle.er_scenario.specs.declared.step.Step.TheVariants as does
 use Rattle.drill_model.specs.declared.world_fault.WorldFault.{WorldFault}
 use Rattle.drill_model.specs.declared.world_fault.WorldFault.TheVariants.{Overfull}
 use Rattle.drill_model.specs.Links.{Link, LinkOpening, LinkStep}
-use Rattle.drill_model.specs.Worlds.{Plan, World, Came, new_world, is_link, link_at, overfull_side, at_link, open_link, drain_link, ticks, ticked, world_step, world_run_from, world_run, link_opening}
+use Rattle.drill_model.specs.Worlds.{Plan, World, Came, new_world, is_link, link_at, overfull_side, at_link, open_link, drain_link, tick_each_link, tick_world, world_step, world_run_from, world_run, link_opening}
 use Rattle.drill_model.specs.Faults.{or_else, refusal, overfull_fault, overfull_at, first_overfull, overfull_of, fault_behind}
-use Rattle.drill_model.specs.Headline.{OpensAlways, opening_by, or_opening, opening_of}
-use Rattle.bulk_steps.specs.Turns.{kmac}
+use Rattle.drill_laws.specs.Laws.{OpensAlways}
+use Rattle.drill_model.specs.Claims.{opening_by, or_opening, opening_of}
+use Rattle.drill_bulk.specs.Turns.{kmac}
 use Rattle.er_program.specs.BulkTexts.{bulk_plan, steps_of_bulk}
 use Rattle.er_program.proofs.BulkSteps.{IsGood, AreGood, moment_after, first_step, later_steps, steps_are, later_good}
 
@@ -34,13 +35,13 @@ open_moment plan w n (Some l) opening = refl
 open_moment plan w n None None = refl
 open_moment plan w n None (Some opening) = either_moment w.moment (is_link n) _ _ refl refl
 
-ticks_moment : (moment : ℕ) (w : World) (n count : ℕ) → (ticks moment w n count).0.moment ≡ w.moment
-unfolding ticks
+ticks_moment : (moment : ℕ) (w : World) (n count : ℕ) → (tick_each_link moment w n count).0.moment ≡ w.moment
+unfolding tick_each_link
 ticks_moment moment w n zero = refl
 ticks_moment moment w n (suc count) =
     ticks_moment moment (at_link w n (link_at w n) _).0 (n + 1) count ∙ at_link_moment w n (link_at w n) _
 
-ticked_moment : (w : World) (moment : ℕ) → w.moment ≤ moment → (ticked w moment).0.moment ≡ moment
+ticked_moment : (w : World) (moment : ℕ) → w.moment ≤ moment → (tick_world w moment).0.moment ≡ moment
 ticked_moment w moment le = rw (le-ltb moment w.moment le) (ticks_moment moment (record w { moment = moment }) 1 64)
 
 step_moment : (plan : Plan) (most : ℕ) (w : World) (s : Step) → IsGood most w.moment s → (world_step plan w s).0.moment ≡ moment_after w.moment s

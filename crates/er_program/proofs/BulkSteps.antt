@@ -13,8 +13,8 @@ use Rattle.er_scenario.specs.declared.level.Level.TheVariants as level
 use Rattle.er_scenario.specs.declared.step.Step.{Step}
 use Rattle.er_scenario.specs.declared.step.Step.TheVariants as does
 use Rattle.drill_model.specs.Steps.{FitsFields, AllFit}
-use Rattle.bulk_steps.specs.Draws.{words_drawn, seeded}
-use Rattle.bulk_steps.specs.Turns.{kmac, sender, message, mishap, turn, turns}
+use Rattle.drill_bulk.specs.Draws.{words_drawn, seeded}
+use Rattle.drill_bulk.specs.Turns.{kmac, sender, message, mishap, turn, turns}
 use Rattle.er_program.specs.BulkTexts.{steps_of_bulk}
 use Rattle.er_program.specs.BulkRuns.{IsDoable, AreDoable}
 
@@ -159,17 +159,12 @@ all_doable : (most m : ℕ) (steps : List Step) → most ≤ 1000000000000000 �
 all_doable most m [] le good = tt
 all_doable most m (s ∷ steps) le good = (good_doable most m s le good.0, all_doable most (moment_after m s) steps le good.1)
 
-take_fits : (steps : List Step) (k : ℕ) → AllFit steps → AllFit (take k steps)
-take_fits steps zero all = tt
-take_fits [] (suc k) all = tt
-take_fits (s ∷ steps) (suc k) all = (all.0, take_fits steps k all.1)
-
--- the first ones fit their fields
-pub first_steps_fit : (seed count k : ℕ) → AllFit (take k (steps_of_bulk seed count))
-first_steps_fit seed count k =
+-- all fit their fields
+pub bulk_fits : (seed count : ℕ) → AllFit (steps_of_bulk seed count)
+bulk_fits seed count =
     let later : AllFit (later_steps seed count) = all_fit (1000 * count) 0 (later_steps seed count) (later_good seed count) in
     let all : AllFit (first_step ∷ later_steps seed count) = (((omega arith, omega arith), (omega arith, omega arith)), later) in
-    take_fits (steps_of_bulk seed count) k (subst AllFit (sym (steps_are seed count)) all)
+    subst AllFit (sym (steps_are seed count)) all
 
 -- a world of level full takes them
 pub steps_doable : (seed count : ℕ) (steps : List Step) → count ≤ 10000 → steps ≡ steps_of_bulk seed count → AreDoable level.Full steps

@@ -13,11 +13,13 @@ use Rattle.drill_model.specs.Growth.{TextGrows}
 use Rattle.er_world.specs.Standing.{KeptWorld, Ran}
 use Rattle.link_trait.specs.Outside.{Grew, GrewPart}
 use Rattle.link_trait.specs.Growth.{grew_then, part_then, part_more}
-use Rattle.er_program.specs.Answers.{Answer, IsDrillAnswer, IsWhole, BreaksOff, first_steps, lines_of_first, fault_behind_first, fault_answer}
-use Rattle.er_program.specs.Writing.{Gives, TellsFault, Drills, Went, WentOne, FailedOne, HaltsOne}
-use Rattle.er_program.specs.declared.status.Status.{Status}
-use Rattle.er_program.specs.declared.stop.Stop.{Stop}
-use Rattle.er_program.specs.declared.stop.Stop.TheVariants as stop
+use Rattle.er_statuses.specs.Answers.{Answer}
+use Rattle.er_program.specs.Answers.{IsDrillAnswer, IsWhole, BreaksOff, first_steps, lines_of_first, fault_behind_first, fault_answer}
+use Rattle.er_statuses.specs.Writing.{Gives}
+use Rattle.er_program.specs.Writing.{TellsFault, Drills, Went, WentOne, FailedOne, HaltsOne}
+use Rattle.er_statuses.specs.declared.status.Status.{Status}
+use Rattle.er_statuses.specs.declared.stop.Stop.{Stop}
+use Rattle.er_statuses.specs.declared.stop.Stop.TheVariants as stop
 use Rattle.er_program.proofs.DrillSteps.{first_more, lines_more, all_steps, done_more, done_past, has_answer, answer_begins}
 
 -- one step more

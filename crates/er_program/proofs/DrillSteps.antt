@@ -17,7 +17,8 @@ use Rattle.drill_model.specs.Steps.{IsOfLevel, HasEtcsNumbers, HasMoment}
 use Rattle.drill_model.specs.Worlds.{plan_of, steps_of}
 use Rattle.drill_model.specs.Texts.{step_lines, first_lines, last_lines, drill_text}
 use Rattle.drill_model.specs.Growth.{TextGrows}
-use Rattle.er_program.specs.Answers.{Answer, AreDone, FirstFault, IsDrillAnswer, IsWhole, BreaksOff, first_steps, lines_of_first, fault_behind_first, fault_answer}
+use Rattle.er_statuses.specs.Answers.{Answer}
+use Rattle.er_program.specs.Answers.{AreDone, FirstFault, IsDrillAnswer, IsWhole, BreaksOff, first_steps, lines_of_first, fault_behind_first, fault_answer}
 
 -- ---- what is read of a step
 

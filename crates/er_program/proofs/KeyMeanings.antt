@@ -6,9 +6,10 @@ use Rattle.key_store.specs.declared.key_file_fault.KeyFileFault.TheVariants as k
 use Rattle.key_store.specs.KeyFiles.{keys_of}
 use Rattle.link_trait.specs.Outside.{Grew, HasFile}
 use Rattle.er_program.specs.Commands.{Migrate}
-use Rattle.er_program.specs.KeyLines.{keys_line}
-use Rattle.er_program.specs.LastLines.{memory_line}
-use Rattle.er_program.specs.Answers.{Answer, Files, HasFetched, IsKeyText, IsKeysAnswer, IsFetchedKeys, keys_answer}
+use Rattle.er_statuses.specs.KeyLines.{keys_line}
+use Rattle.er_statuses.specs.LastLines.{memory_line}
+use Rattle.er_statuses.specs.Answers.{Answer, Files, HasFetched, keys_answer}
+use Rattle.er_program.specs.Answers.{IsKeyText, IsKeysAnswer, IsFetchedKeys}
 use Rattle.er_program.specs.Runs.{HasKeysStatus}
 use Rattle.er_program.specs.FileMeans.{FileMeans}
 

@@ -8,13 +8,15 @@ use Rattle.key_store.specs.Answers.{Refuses}
 use Rattle.key_store.specs.KeyFiles.{keys_of}
 use Rattle.link_trait.specs.Outside.{Rose, HasFile}
 use Rattle.er_program.specs.Commands.{Migrate}
-use Rattle.er_program.specs.LastLines.{fetch_line}
-use Rattle.er_program.specs.Answers.{Answer, Files, IsKeyText, IsKeysAnswer, keys_answer}
+use Rattle.er_statuses.specs.LastLines.{fetch_line}
+use Rattle.er_statuses.specs.Answers.{Answer, Files, keys_answer}
+use Rattle.er_program.specs.Answers.{IsKeyText, IsKeysAnswer}
 use Rattle.er_program.specs.KeyWriting.{GivesOne}
-use Rattle.er_program.specs.Writing.{Gives, Ends}
-use Rattle.er_program.specs.declared.status.Status.{Status}
-use Rattle.er_program.specs.declared.stop.Stop.{Stop}
-use Rattle.er_program.specs.declared.stop.Stop.TheVariants as stop
+use Rattle.er_statuses.specs.Writing.{Gives, EndsUnfetched}
+use Rattle.er_program.specs.Writing.{Ends}
+use Rattle.er_statuses.specs.declared.status.Status.{Status}
+use Rattle.er_statuses.specs.declared.stop.Stop.{Stop}
+use Rattle.er_statuses.specs.declared.stop.Stop.TheVariants as stop
 
 -- one answer of its kind
 pub gives_one : (Is : Answer → Type 0) (a : Answer) (before now : Option (List ℕ)) (f g : ℕ) (r : Result Status Stop)
@@ -80,19 +82,19 @@ ends_migrated name file files c d before now f g (Err (stop.NoMemory want)) stan
     record { text = []; first = refl; printed = ends.0; later = ends.1 }
 
 pub ends_migrate_unfetched : (name : List ℕ) (files : Files) (c d : ℕ) (before now : Option (List ℕ)) (f g : ℕ) (r : Result Status Stop)
-    → Rose c d → Gives (record { status = 2; text = fetch_line name }) before now f g r → Ends (Migrate name) files c d before now f g r
-ends_migrate_unfetched name files c d before now f g (Ok status) rose ends = record {
+    → EndsUnfetched name c d before now f g r → Ends (Migrate name) files c d before now f g r
+ends_migrate_unfetched name files c d before now f g (Ok status) ends = record {
   answer = record { status = 2; text = fetch_line name };
-  is = record { fetched = None; stands = rose; is = refl };
-  stated = ends.0;
-  printed = ends.1;
-  later = ends.2;
+  is = record { fetched = None; stands = ends.0; is = refl };
+  stated = ends.1;
+  printed = ends.2;
+  later = ends.3;
 }
-ends_migrate_unfetched name files c d before now f g (Err stop.Sink) rose ends = record {
+ends_migrate_unfetched name files c d before now f g (Err stop.Sink) ends = record {
   answer = record { status = 2; text = fetch_line name };
-  is = record { fetched = None; stands = rose; is = refl };
-  part = ends.0;
-  rose = ends.1;
+  is = record { fetched = None; stands = ends.0; is = refl };
+  part = ends.1;
+  rose = ends.2;
 }
-ends_migrate_unfetched name files c d before now f g (Err (stop.NoMemory want)) rose ends =
+ends_migrate_unfetched name files c d before now f g (Err (stop.NoMemory want)) ends =
     record { text = []; first = refl; printed = ends.0; later = ends.1 }

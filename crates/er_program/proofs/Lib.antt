@@ -4,7 +4,6 @@ pub mod DrillSteps
 pub mod DrillRuns
 pub mod RunEndings
 pub mod RunMeanings
-pub mod SettingsFit
 pub mod HoldsAlways
 pub mod BitRuns
 pub mod BitMeanings
@@ -20,7 +19,4 @@ pub mod BulkSteps
 pub mod BulkSteady
 pub mod BulkRuns
 pub mod BulkMeanings
-pub mod LineEndings
-pub mod LineMeanings
 pub mod WholeRuns
-pub mod Recordings

@@ -16,9 +16,10 @@ use Rattle.trace_model.specs.Replays.{AreTaken, FirstRefused}
 use Rattle.link_trait.specs.Outside.{Grew, Rose, HasFile}
 use Rattle.er_program.specs.Asking.{Names, Asks}
 use Rattle.er_program.specs.Commands.{Replay}
-use Rattle.er_program.specs.KeyLines.{keys_line}
-use Rattle.er_program.specs.LastLines.{fault_line, refused_line, memory_line, why_word}
-use Rattle.er_program.specs.Answers.{Answer, Files, HasFetched, IsReplayAnswer, AllAreTaken, OneIsRefused, IsTraceAnswer, IsFetchedTrace, IsAnswerBehindKeys, IsFetchedReplay, keys_answer}
+use Rattle.er_statuses.specs.KeyLines.{keys_line}
+use Rattle.er_statuses.specs.LastLines.{fault_line, memory_line, why_word}
+use Rattle.er_program.specs.Answers.{refused_line, IsReplayAnswer, AllAreTaken, OneIsRefused, IsTraceAnswer, IsFetchedTrace, IsAnswerBehindKeys, IsFetchedReplay}
+use Rattle.er_statuses.specs.Answers.{Answer, Files, HasFetched, keys_answer}
 use Rattle.er_program.specs.Runs.{SpellTrace, HasTraceStatus, HasReplayStatus, IsStatusBehindKeys}
 use Rattle.er_program.specs.FileMeans.{FileMeans, IsUnfetched}
 

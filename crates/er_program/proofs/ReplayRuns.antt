@@ -4,11 +4,11 @@ use Rattle.er_base.specs.declared.no_memory.NoMemory.{NoMemory as Want}
 use Rattle.er_base.specs.declared.text_fault.TextFault.{TextFault}
 use Rattle.er_base.specs.declared.text_fault.TextFault.TheVariants as text
 use Rattle.er_base.specs.declared.why.Why.{Why}
-use Rattle.er_settings.specs.declared.settings.Settings.{Settings}
+use Rattle.er_settings.specs.Values.{Settings}
 use Rattle.er_trace.specs.declared.entry.Entry.{Entry as TraceEntry}
 use Rattle.er_trace.specs.declared.trace.Trace.{Trace}
 use Rattle.er_trace.specs.Files.{trace_of}
-use Rattle.end_model.specs.Steps.{Finds}
+use Rattle.er_end_model.specs.Steps.{Finds}
 use Rattle.safety_automaton.specs.Keys.{Entry, key_at}
 use Rattle.key_store.specs.declared.key_file_fault.KeyFileFault.{KeyFileFault}
 use Rattle.key_store.specs.declared.key_file_fault.KeyFileFault.TheVariants as keys
@@ -21,15 +21,17 @@ use Rattle.trace_model.specs.declared.replay_fault.ReplayFault.TheVariants as fa
 use Rattle.trace_model.specs.Printed.{printed}
 use Rattle.trace_model.specs.Replays.{WroteAll, WroteBefore, WrotePart, Replays}
 use Rattle.er_program.specs.Commands.{Replay}
-use Rattle.er_program.specs.LastLines.{fetch_line, fault_line, refused_line, why_word}
-use Rattle.er_program.specs.Answers.{Answer, Files, IsReplayAnswer, AllAreTaken, OneIsRefused, IsTraceAnswer, IsTraceFileAnswer, IsAnswerBehindKeys, HasFetched, keys_answer}
+use Rattle.er_statuses.specs.LastLines.{fetch_line, fault_line, why_word}
+use Rattle.er_program.specs.Answers.{refused_line, IsReplayAnswer, AllAreTaken, OneIsRefused, IsTraceAnswer, IsTraceFileAnswer, IsAnswerBehindKeys}
+use Rattle.er_statuses.specs.Answers.{Answer, Files, HasFetched, keys_answer}
 use Rattle.er_program.specs.KeyWriting.{GaveOne, BrokeOne}
 use Rattle.er_program.specs.ReplayWriting.{BeganOne, EndsOne, BeginsEvents, BeginsSpelled, BeginsTrace, BeginsTraceFile, BeginsGood, BeginsBehindKeys, TellsRefusal}
 use Rattle.er_program.specs.Runs.{FirstEventLines}
-use Rattle.er_program.specs.Writing.{Gives, Ends}
-use Rattle.er_program.specs.declared.status.Status.{Status}
-use Rattle.er_program.specs.declared.stop.Stop.{Stop}
-use Rattle.er_program.specs.declared.stop.Stop.TheVariants as stop
+use Rattle.er_statuses.specs.Writing.{Gives, EndsUnfetched}
+use Rattle.er_program.specs.Writing.{Ends}
+use Rattle.er_statuses.specs.declared.status.Status.{Status}
+use Rattle.er_statuses.specs.declared.stop.Stop.{Stop}
+use Rattle.er_statuses.specs.declared.stop.Stop.TheVariants as stop
 use Rattle.er_program.proofs.TraceTexts.{begins}
 
 -- ---- an answer of a kind
@@ -190,11 +192,15 @@ ends_fetched known name file files b c before now f g r stands ends =
 
 -- or not
 pub ends_lost : (known : List Entry) (name : List ℕ) (files : Files) (b c : ℕ) (before now : Option (List ℕ)) (f g : ℕ) (r : Result Status Stop)
-    → Rose b c → Gives (record { status = 2; text = fetch_line name }) before now f g r
+    → EndsUnfetched name b c before now f g r
     → EndsOne (IsTraceFileAnswer known name files b c) (BeginsTraceFile known name files) before now f g r
-ends_lost known name files b c before now f g r rose gives =
-    ends_gives (IsTraceFileAnswer known name files b c) (BeginsTraceFile known name files) (record { status = 2; text = fetch_line name }) before now f g r
-    (record { fetched = None; stands = rose; is = refl }) (inl refl) gives
+ends_lost known name files b c before now f g (Ok s) ends =
+    ends_gives (IsTraceFileAnswer known name files b c) (BeginsTraceFile known name files) (record { status = 2; text = fetch_line name }) before now f g (Ok s)
+    (record { fetched = None; stands = ends.0; is = refl }) (inl refl) (ends.1, ends.2, ends.3)
+ends_lost known name files b c before now f g (Err stop.Sink) ends =
+    ends_gives (IsTraceFileAnswer known name files b c) (BeginsTraceFile known name files) (record { status = 2; text = fetch_line name }) before now f g (Err stop.Sink)
+    (record { fetched = None; stands = ends.0; is = refl }) (inl refl) (ends.1, ends.2)
+ends_lost known name files b c before now f g (Err (stop.NoMemory want)) ends = record { text = []; begun = inl refl; written = ends.0; later = ends.1 }
 
 -- ---- behind the key file
 
@@ -313,19 +319,19 @@ ends_replayed keys_name name key_file files b c d before now f g (Err (stop.NoMe
 
 -- or not
 pub ends_replay_lost : (keys_name name : List ℕ) (files : Files) (c d : ℕ) (before now : Option (List ℕ)) (f g : ℕ) (r : Result Status Stop)
-    → Rose c d → Gives (record { status = 2; text = fetch_line keys_name }) before now f g r → Ends (Replay keys_name name) files c d before now f g r
-ends_replay_lost keys_name name files c d before now f g (Ok status) rose ends = record {
+    → EndsUnfetched keys_name c d before now f g r → Ends (Replay keys_name name) files c d before now f g r
+ends_replay_lost keys_name name files c d before now f g (Ok status) ends = record {
   answer = record { status = 2; text = fetch_line keys_name };
-  is = record { fetched = None; stands = rose; is = refl };
-  stated = ends.0;
-  printed = ends.1;
-  later = ends.2;
+  is = record { fetched = None; stands = ends.0; is = refl };
+  stated = ends.1;
+  printed = ends.2;
+  later = ends.3;
 }
-ends_replay_lost keys_name name files c d before now f g (Err stop.Sink) rose ends = record {
+ends_replay_lost keys_name name files c d before now f g (Err stop.Sink) ends = record {
   answer = record { status = 2; text = fetch_line keys_name };
-  is = record { fetched = None; stands = rose; is = refl };
-  part = ends.0;
-  rose = ends.1;
+  is = record { fetched = None; stands = ends.0; is = refl };
+  part = ends.1;
+  rose = ends.2;
 }
-ends_replay_lost keys_name name files c d before now f g (Err (stop.NoMemory want)) rose ends =
+ends_replay_lost keys_name name files c d before now f g (Err (stop.NoMemory want)) ends =
     record { text = []; first = inl refl; printed = ends.0; later = ends.1 }

@@ -8,19 +8,14 @@ use Rattle.er_scenario.specs.Files.{scenario_of}
 use Rattle.er_scenario.specs.Texts.{CanBeRead}
 use Rattle.link_trait.specs.Outside.{Rose, Kept, HasFile}
 use Rattle.er_program.specs.Commands.{Misused, Drill}
-use Rattle.er_program.specs.LastLines.{fetch_line, usage_line, fault_line, why_word}
-use Rattle.er_program.specs.Answers.{Files, lines_of_first}
-use Rattle.er_program.specs.Writing.{Gives, Drills, IsReadable, WritesFirst, EndsFile, Exhausted, Ends}
-use Rattle.er_program.specs.declared.stop.Stop.{Stop}
-use Rattle.er_program.specs.declared.stop.Stop.TheVariants as stop
-use Rattle.er_program.specs.declared.status.Status.{Status}
-
--- a file that was told before is told now, where anything is
-pub has_file_kept : (before now : Files) (name file : List ℕ) → HasFile before name file → Kept before now → HasFile now name file
-has_file_kept None None name file has kept = tt
-has_file_kept None (Some files) name file has kept = absurd kept
-has_file_kept (Some old) None name file has kept = tt
-has_file_kept (Some old) (Some files) name file has kept = rw kept has
+use Rattle.er_statuses.specs.LastLines.{fetch_line, usage_line, fault_line, why_word}
+use Rattle.er_statuses.specs.Answers.{Files}
+use Rattle.er_program.specs.Answers.{lines_of_first}
+use Rattle.er_statuses.specs.Writing.{Gives, EndsUnfetched}
+use Rattle.er_program.specs.Writing.{Drills, IsReadable, WritesFirst, EndsFile, Exhausted, Ends}
+use Rattle.er_statuses.specs.declared.stop.Stop.{Stop}
+use Rattle.er_statuses.specs.declared.stop.Stop.TheVariants as stop
+use Rattle.er_statuses.specs.declared.status.Status.{Status}
 
 -- memory ran out in the drill of a file
 exhausted : (name file : List ℕ) (files : Files) (read : Result Scenario TextFault) (before now : Option (List ℕ)) (f g : ℕ)
@@ -71,27 +66,27 @@ ends_file name file files c d before now f g (Err (stop.NoMemory want)) stands e
 
 -- the fetch failed
 pub ends_unfetched : (name : List ℕ) (files : Files) (c d : ℕ) (before now : Option (List ℕ)) (f g : ℕ) (r : Result Status Stop)
-    → Rose c d → Gives (record { status = 2; text = fetch_line name }) before now f g r → Ends (Drill name) files c d before now f g r
-ends_unfetched name files c d before now f g (Ok status) rose ends = record {
+    → EndsUnfetched name c d before now f g r → Ends (Drill name) files c d before now f g r
+ends_unfetched name files c d before now f g (Ok status) ends = record {
   answer = record { status = 2; text = fetch_line name };
   is = record {
-    answer = record { fetched = None; stands = rose; is = refl };
+    answer = record { fetched = None; stands = ends.0; is = refl };
     readable = tt;
   };
-  stated = ends.0;
-  printed = ends.1;
-  later = ends.2;
+  stated = ends.1;
+  printed = ends.2;
+  later = ends.3;
 }
-ends_unfetched name files c d before now f g (Err stop.Sink) rose ends = record {
+ends_unfetched name files c d before now f g (Err stop.Sink) ends = record {
   answer = record { status = 2; text = fetch_line name };
   is = record {
-    answer = record { fetched = None; stands = rose; is = refl };
+    answer = record { fetched = None; stands = ends.0; is = refl };
     readable = tt;
   };
-  part = ends.0;
-  rose = ends.1;
+  part = ends.1;
+  rose = ends.2;
 }
-ends_unfetched name files c d before now f g (Err (stop.NoMemory want)) rose ends =
+ends_unfetched name files c d before now f g (Err (stop.NoMemory want)) ends =
     record { text = []; first = inl refl; printed = ends.0; later = ends.1 }
 
 -- the words fit no command

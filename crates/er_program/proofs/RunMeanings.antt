@@ -14,12 +14,14 @@ use Rattle.link_trait.specs.Outside.{Grew, GrewPart, Rose, HasFile}
 use Rattle.link_trait.specs.Growth.{grew_then}
 use Rattle.er_program.specs.Asking.{Asks}
 use Rattle.er_program.specs.Commands.{Command, Misused, Drill, Bits, Migrate, Replay, Audit, Bulk, Serve, Call}
-use Rattle.er_program.specs.LastLines.{fault_line, why_word, fetch_line, usage_line, memory_line}
-use Rattle.er_program.specs.Answers.{Answer, IsAnswer, HasFetched, IsFetchedAnswer, Files, FirstFault, AreDone, IsDrillAnswer, IsWhole, BreaksOff, IsScenarioAnswer, lines_of_first, fault_answer}
-use Rattle.er_program.specs.Runs.{HoldsAlways, WorldsHold, BrokeOff, AreFirstLines, HasStatus, IsSpent}
+use Rattle.er_statuses.specs.LastLines.{fault_line, why_word, fetch_line, usage_line, memory_line}
+use Rattle.er_statuses.specs.Answers.{Answer, HasFetched, Files}
+use Rattle.er_program.specs.Answers.{IsAnswer, IsFetchedAnswer, FirstFault, AreDone, IsDrillAnswer, IsWhole, BreaksOff, IsScenarioAnswer, lines_of_first, fault_answer}
+use Rattle.er_program.specs.Runs.{HoldsInDrill, WorldsHold, BrokeOff, AreFirstLines, HasStatus, IsSpent}
 use Rattle.er_program.specs.FileMeans.{FileMeans, IsSinkFailed, IsComplete}
-use Rattle.er_program.specs.Writing.{HasReadable, IsReadable, IsGiven, IsBegun, Finished, Broken, Exhausted, Exhausts}
-use Rattle.er_program.specs.declared.status.Status.{Status}
+use Rattle.er_program.specs.Writing.{HasReadable, IsReadable, IsGiven, IsBegun, Finished, Broken, Exhausted}
+use Rattle.er_statuses.specs.Writing.{Exhausts}
+use Rattle.er_statuses.specs.declared.status.Status.{Status}
 use Rattle.er_program.proofs.BitMeanings.{means_bits}
 use Rattle.er_program.proofs.KeyMeanings.{means_migrate}
 use Rattle.er_program.proofs.AuditMeanings.{means_audit}
@@ -27,8 +29,8 @@ use Rattle.er_program.proofs.ReplayMeanings.{means_replay}
 use Rattle.er_program.proofs.BulkMeanings.{BulkHolds, means_bulk}
 
 -- what is claimed of the world holds at every moment of the steps that are done
-abbrev pub AlwaysHolds : Type 0
-AlwaysHolds = (s : Scenario) → CanBeRead s → (count : ℕ) → AreDone s count → HoldsAlways s count
+abbrev pub DrillsHold : Type 0
+DrillsHold = (s : Scenario) → CanBeRead s → (count : ℕ) → AreDone s count → HoldsInDrill s count
 
 -- names that were asked for
 abbrev pub Names : Type 0
@@ -149,7 +151,7 @@ means_out_of_form name file line why files p q c d f g before now status stands 
 
 -- all steps are done
 means_done : (name file : List ℕ) (s : Scenario) (files : Files) (p q : Names) (c d f g : ℕ) (before now : Option (List ℕ)) (status : ℕ)
-    → AlwaysHolds → HasFile files name file → scenario_of file ≡ Ok s → CanBeRead s → AreDone s (length s.steps)
+    → DrillsHold → HasFile files name file → scenario_of file ≡ Ok s → CanBeRead s → AreDone s (length s.steps)
     → status ≡ 0 → Grew before now (drill_text s) → HasStatus file status → FileMeans (Drill name) files p q c d f g before now status
 means_done name file s files p q c d f g before now status law stands spelled readable done is printed has = record {
   known = inl is;
@@ -203,7 +205,7 @@ means_overfull name file files p q c d f g before now status is broke stands has
 
 -- what a step that isn't done breaks off
 broke_off : (name file : List ℕ) (s : Scenario) (files : Files) (before now : Option (List ℕ)) (status : ℕ) (first : FirstFault s)
-    → AlwaysHolds → HasFile files name file → scenario_of file ≡ Ok s → CanBeRead s → status ≡ (fault_answer first.step.line first.fault).status
+    → DrillsHold → HasFile files name file → scenario_of file ≡ Ok s → CanBeRead s → status ≡ (fault_answer first.step.line first.fault).status
     → Grew before now (lines_of_first s first.count ++ (fault_answer first.step.line first.fault).text) → BrokeOff name files status before now
 broke_off name file s files before now status first law stands spelled readable stated printed = record {
   scenario = s;
@@ -217,7 +219,7 @@ broke_off name file s files before now status first law stands spelled readable 
 -- a step isn't done, by its fault
 means_fault : (name file : List ℕ) (s : Scenario) (files : Files) (p q : Names) (c d f g : ℕ) (before now : Option (List ℕ)) (status : ℕ)
     (fault : WorldFault) (first : FirstFault s) → first.fault ≡ fault
-    → AlwaysHolds → HasFile files name file → scenario_of file ≡ Ok s → CanBeRead s
+    → DrillsHold → HasFile files name file → scenario_of file ≡ Ok s → CanBeRead s
     → status ≡ (fault_answer first.step.line fault).status → Grew before now (lines_of_first s first.count ++ (fault_answer first.step.line fault).text)
     → HasStatus file status → FileMeans (Drill name) files p q c d f g before now status
 means_fault name file s files p q c d f g before now status (NoLink n) first same law stands spelled readable stated printed has =
@@ -261,7 +263,7 @@ has_status file status s a spelled answers stated zeroed = record {
 
 -- a scenario was drilled, to the end or to a step that isn't done
 means_drilled : (name file : List ℕ) (s : Scenario) (a : Answer) (files : Files) (p q : Names) (c d f g : ℕ) (before now : Option (List ℕ)) (status : ℕ)
-    → AlwaysHolds → HasFile files name file → scenario_of file ≡ Ok s → CanBeRead s → IsDrillAnswer s a
+    → DrillsHold → HasFile files name file → scenario_of file ≡ Ok s → CanBeRead s → IsDrillAnswer s a
     → status ≡ a.status → Grew before now a.text → FileMeans (Drill name) files p q c d f g before now status
 means_drilled name file s a files p q c d f g before now status law stands spelled readable (IsWhole done is) stated printed =
     let zero_is : status ≡ 0 = stated ∙ ap (λ (x : Answer). x.status) is in
@@ -278,7 +280,7 @@ means_drilled name file s a files p q c d f g before now status law stands spell
 
 -- the file of that name was read
 means_file : (name file : List ℕ) (read : Result Scenario TextFault) (a : Answer) (files : Files) (p q : Names) (c d f g : ℕ) (before now : Option (List ℕ)) (status : ℕ)
-    → AlwaysHolds → HasFile files name file → scenario_of file ≡ read → IsReadable read → IsScenarioAnswer read a
+    → DrillsHold → HasFile files name file → scenario_of file ≡ read → IsReadable read → IsScenarioAnswer read a
     → status ≡ a.status → Grew before now a.text → FileMeans (Drill name) files p q c d f g before now status
 means_file name file (Ok s) a files p q c d f g before now status law stands is readable answers stated printed =
     means_drilled name file s a files p q c d f g before now status law stands is readable answers stated printed
@@ -290,7 +292,7 @@ means_file name file (Err (text.NoMemory want)) a files p q c d f g before now s
 
 -- the name was fetched or not
 means_fetched : (name : List ℕ) (fetched : Option (List ℕ)) (a : Answer) (files : Files) (p q : Names) (c d f g : ℕ) (before now : Option (List ℕ)) (status : ℕ)
-    → Grew p q (name ∷ []) → AlwaysHolds → HasFetched name fetched files c d → HasReadable fetched → IsFetchedAnswer name fetched a
+    → Grew p q (name ∷ []) → DrillsHold → HasFetched name fetched files c d → HasReadable fetched → IsFetchedAnswer name fetched a
     → status ≡ a.status → Grew before now a.text → FileMeans (Drill name) files p q c d f g before now status
 means_fetched name None a files p q c d f g before now status asked law stands readable answers stated printed =
     means_unfetched name files p q c d f g before now status asked (stated ∙ ap (λ (x : Answer). x.status) answers) stands (rw answers at printed)
@@ -298,7 +300,7 @@ means_fetched name (Some file) a files p q c d f g before now status asked law s
     means_file name file (scenario_of file) a files p q c d f g before now status law stands refl readable answers stated printed
 
 -- the words were answered
-pub means_finished : AlwaysHolds → BulkHolds → (command : Command) (files : Files) (p q : Names) (c d : ℕ) (before now : Option (List ℕ)) (f g status : ℕ)
+pub means_finished : DrillsHold → BulkHolds → (command : Command) (files : Files) (p q : Names) (c d : ℕ) (before now : Option (List ℕ)) (f g status : ℕ)
     → Asks command status p q before now → Finished command files c d before now f g status → FileMeans command files p q c d f g before now status
 means_finished law bulk Misused files p q c d before now f g status asked ends =
     means_usage files p q c d f g before now status (ends.stated ∙ ap (λ (a : Answer). a.status) ends.is) (rw ends.is at ends.printed)
@@ -337,7 +339,7 @@ readable_of (Some other) file s readable is spelled =
     let same : scenario_of other ≡ Ok s = cc in subst IsReadable same readable
 
 -- what is claimed of the worlds of a command
-worlds_hold : AlwaysHolds → BulkHolds → (command : Command) (files : Files) (c d : ℕ) (a : Answer) → IsGiven command files c d a → WorldsHold command files c d
+worlds_hold : DrillsHold → BulkHolds → (command : Command) (files : Files) (c d : ℕ) (a : Answer) → IsGiven command files c d a → WorldsHold command files c d
 worlds_hold law bulk Misused files c d a given = tt
 worlds_hold law bulk (Drill name) files c d a given = record {
   fetched = given.answer.fetched;
@@ -353,7 +355,7 @@ worlds_hold law bulk (Serve keys address rbc turns) files c d a given = tt
 worlds_hold law bulk (Call keys address engine rbc turns) files c d a given = tt
 
 -- a write failed
-pub means_broken : AlwaysHolds → BulkHolds → (command : Command) (files : Files) (p q : Names) (c d : ℕ) (before now : Option (List ℕ)) (f g : ℕ)
+pub means_broken : DrillsHold → BulkHolds → (command : Command) (files : Files) (p q : Names) (c d : ℕ) (before now : Option (List ℕ)) (f g : ℕ)
     → Broken command files c d before now f g → FileMeans command files p q c d f g before now 5
 means_broken law bulk command files p q c d before now f g ends =
     means_sink command files p q c d f g before now 5 refl
@@ -368,7 +370,7 @@ means_broken law bulk command files p q c d before now f g ends =
     })
 
 -- the lines of first steps, and what holds of them
-first_lines_hold : AlwaysHolds → BulkHolds → (command : Command) (files : Files) (text : List ℕ) → IsBegun command files text → AreFirstLines command files text
+first_lines_hold : DrillsHold → BulkHolds → (command : Command) (files : Files) (text : List ℕ) → IsBegun command files text → AreFirstLines command files text
 first_lines_hold law bulk Misused files text begun = begun
 first_lines_hold law bulk (Drill name) files text begun =
     elim begun [
@@ -391,7 +393,7 @@ first_lines_hold law bulk (Serve keys address rbc turns) files text begun = absu
 first_lines_hold law bulk (Call keys address engine rbc turns) files text begun = absurd begun
 
 -- memory ran out, and the last line was written
-means_exhausted : AlwaysHolds → BulkHolds → (command : Command) (files : Files) (p q : Names) (c d : ℕ) (before mid now : Option (List ℕ)) (f g h : ℕ)
+means_exhausted : DrillsHold → BulkHolds → (command : Command) (files : Files) (p q : Names) (c d : ℕ) (before mid now : Option (List ℕ)) (f g h : ℕ)
     → Exhausted command files before mid f g → Grew mid now memory_line → FileMeans command files p q c d f h before now 7
 means_exhausted law bulk command files p q c d before mid now f g h ends printed =
     means_memory command files p q c d f h before now 7 refl
@@ -402,7 +404,7 @@ means_exhausted law bulk command files p q c d before mid now f g h ends printed
     })
 
 -- memory ran out, and the last line wasn't written whole
-means_interrupted : AlwaysHolds → BulkHolds → (command : Command) (files : Files) (p q : Names) (c d : ℕ) (before mid now : Option (List ℕ)) (f g h : ℕ)
+means_interrupted : DrillsHold → BulkHolds → (command : Command) (files : Files) (p q : Names) (c d : ℕ) (before mid now : Option (List ℕ)) (f g h : ℕ)
     → Exhausted command files before mid f g → GrewPart mid now memory_line → Rose g h → FileMeans command files p q c d f h before now 5
 means_interrupted law bulk command files p q c d before mid now f g h ends part rose =
     means_sink command files p q c d f h before now 5 refl
@@ -419,7 +421,7 @@ means_interrupted law bulk command files p q c d before mid now f g h ends part 
     })
 
 -- memory ran out
-pub means_spent : AlwaysHolds → BulkHolds → (command : Command) (files : Files) (p q : Names) (c d : ℕ) (before mid now : Option (List ℕ)) (f g h : ℕ) (s : Status)
+pub means_spent : DrillsHold → BulkHolds → (command : Command) (files : Files) (p q : Names) (c d : ℕ) (before mid now : Option (List ℕ)) (f g h : ℕ) (s : Status)
     → Exhausted command files before mid f g → Exhausts mid now g h s → FileMeans command files p q c d f h before now s.0
 means_spent law bulk command files p q c d before mid now f g h s ends last =
     elim last [

@@ -1,16 +1,16 @@
 -- The printed text of a trace grows event by event, and an answer goes on from the text of the events that are taken.
 use Rattle.std.proofs.Common.{◌≡◌, ℕ, inl, inr, ◌⊎◌, List, [], ◌∷◌, ◌++◌, length, Option, Some, None, refl, ap, sym, subst, ◌∙◌, append_assoc, append-nil, length-append, arith}
 use Rattle.er_base.specs.LineTexts.{line_text}
-use Rattle.er_settings.specs.declared.settings.Settings.{Settings}
+use Rattle.er_settings.specs.Values.{Settings}
 use Rattle.er_trace.specs.declared.entry.Entry.{Entry}
 use Rattle.er_trace.specs.Texts.{header_words}
-use Rattle.end_model.specs.Steps.{Finds}
+use Rattle.er_end_model.specs.Steps.{Finds}
 use Rattle.trace_model.specs.declared.replay_fault.ReplayFault.{ReplayFault}
 use Rattle.trace_model.specs.Checks.{fault_of}
 use Rattle.trace_model.specs.Printed.{entry_text, entries_text, printed}
 use Rattle.trace_model.specs.Replays.{AreTaken}
-use Rattle.er_program.specs.LastLines.{refused_line}
-use Rattle.er_program.specs.Answers.{Answer, IsReplayAnswer, AllAreTaken, OneIsRefused}
+use Rattle.er_program.specs.Answers.{refused_line, IsReplayAnswer, AllAreTaken, OneIsRefused}
+use Rattle.er_statuses.specs.Answers.{Answer}
 
 -- ---- the text
 

@@ -1,16 +1,13 @@
 -- What a run means by its status, for the command that it was: the facts of its parts, put together.
-use Rattle.std.proofs.Common.{◌≡◌, ◌≢◌, ◌⊎◌, inl, inr, ℕ, ◌≤◌, Bool, true, false, List, [], ◌∷◌, Option, refl, arith}
-use Rattle.link_trait.specs.Outside.{Grew, GrewPart, Kept}
-use Rattle.er_program.specs.Commands.{Command, Misused, Drill, Bits, Migrate, Replay, Audit, Bulk, Serve, Call, names_of, needs_wires}
-use Rattle.er_program.specs.Outsides.{Outside, Traffic, traffic_of, IsLeftAlone, IsSteady}
-use Rattle.er_program.specs.Answers.{Files}
-use Rattle.er_program.specs.LineRuns.{Given, key_file_of, RunsOut, with_sink}
-use Rattle.er_program.specs.LineWriting.{LineMeans}
+use Rattle.std.proofs.Common.{◌≡◌, ◌≢◌, ◌⊎◌, inl, inr, ℕ, Bool, false, List, [], Option, refl, arith}
+use Rattle.er_statuses.specs.Answers.{Files}
+use Rattle.er_serving.specs.LineCommands as line
+use Rattle.er_serving.specs.LineRuns.{Given, IsLineStatus}
+use Rattle.er_serving.specs.LineStatuses.{IsLineRun}
+use Rattle.er_serving.specs.Outsides.{Outside, Traffic, IsSteady}
+use Rattle.er_program.specs.Commands.{Command, Misused, Drill, Bits, Migrate, Replay, Audit, Bulk, Serve, Call, needs_wires}
 use Rattle.er_program.specs.FileMeans.{FileMeans, Names}
-use Rattle.er_program.specs.Writing.{Exhausts}
-use Rattle.er_program.specs.declared.status.Status.{Status}
-use Rattle.er_program.proofs.LineMeanings.{means_line_spent}
-use Rattle.er_program.specs.Statuses.{IsFileStatus, IsLineStatus, AreAsked, IsRun}
+use Rattle.er_program.specs.Statuses.{IsFileStatus, AreAsked, IsRun}
 
 -- ---- a command that needs no wires
 
@@ -205,18 +202,9 @@ apart_line s (inl x) known = no_line s known (omega (arith, x)) (omega (arith, x
 apart_line s (inr (inl x)) known = no_line s known (omega (arith, x)) (omega (arith, x)) (omega (arith, x)) (omega (arith, x)) (omega (arith, x)) (omega (arith, x))
 apart_line s (inr (inr x)) known = no_line s known (omega (arith, x)) (omega (arith, x)) (omega (arith, x)) (omega (arith, x)) (omega (arith, x)) (omega (arith, x))
 
-pub line_run : (command : Command) (g : Given) (before now : Outside) (status : ℕ)
-    → needs_wires command ≡ true → LineMeans command g before now status
-    → (status ≢ 5 → status ≢ 7 → Grew before.asked now.asked (key_file_of command ∷ [])) → GrewPart before.asked now.asked (key_file_of command ∷ [])
-    → IsSteady before now → IsRun command g before now status
-line_run Misused g before now status on m asked part steady = absurd cc
-line_run (Drill name) g before now status on m asked part steady = absurd cc
-line_run (Bits name) g before now status on m asked part steady = absurd cc
-line_run (Migrate keys) g before now status on m asked part steady = absurd cc
-line_run (Replay keys trace) g before now status on m asked part steady = absurd cc
-line_run (Audit keys tap) g before now status on m asked part steady = absurd cc
-line_run (Bulk seed count) g before now status on m asked part steady = absurd cc
-line_run (Serve keys address rbc turns) g before now status on m asked part steady = record {
+pub serve_run : (keys address : List ℕ) (rbc turns : ℕ) (g : Given) (before now : Outside) (status : ℕ)
+    → IsLineRun (line.Serve keys address rbc turns) g before now status → IsRun (Serve keys address rbc turns) g before now status
+serve_run keys address rbc turns g before now status m = record {
   known = m.known;
   means = record {
     done = m.served;
@@ -226,56 +214,48 @@ line_run (Serve keys address rbc turns) g before now status on m asked part stea
       name = keys;
       rest = [];
       is = refl;
-      asked_for = asked (λ x. omega (arith)) (λ x. omega (arith));
-      rose = (m.fetch is).rose;
-      printed = (m.fetch is).printed;
+      asked_for = (m.unfetched is).asked_for;
+      rose = (m.unfetched is).rose;
+      printed = (m.unfetched is).printed;
     };
     refused = λ is. apart_line status (inr (inl is)) m.known;
-    keyless = λ is. elim (m.keys is (asked (λ x. omega (arith)) (λ x. omega (arith)))) [ inl refused ↦ refused | inr keyless ↦ absurd keyless.lacks ];
-    sunk = λ is. record { rose = (m.sink is).rose; beginning = (m.sink is).beginning };
+    keyless = λ is. elim (m.keyless is) [ inl refused ↦ refused | inr keyless ↦ absurd keyless.lacks ];
+    sunk = λ is. record { rose = (m.sunk is).rose; beginning = (m.sunk is).beginning };
     wires = m.wires;
     memory = m.memory;
     overfull = λ is. apart_line status (inr (inr is)) m.known;
   };
   idle = m.idle;
-  asked = record { part = part; all = λ two four five seven. asked five seven };
+  asked = record { part = m.part; all = λ two four five seven. m.asked five seven };
   complete = m.complete;
-  steady = steady;
-}
-line_run (Call keys address engine rbc turns) g before now status on m asked part steady = record {
-  known = m.known;
-  means = record {
-    done = m.served;
-    misused = λ is. apart_line status (inl is) m.known;
-    unfetched = λ is. record {
-      first = [];
-      name = keys;
-      rest = [];
-      is = refl;
-      asked_for = asked (λ x. omega (arith)) (λ x. omega (arith));
-      rose = (m.fetch is).rose;
-      printed = (m.fetch is).printed;
-    };
-    refused = λ is. apart_line status (inr (inl is)) m.known;
-    keyless = λ is. m.keys is (asked (λ x. omega (arith)) (λ x. omega (arith)));
-    sunk = λ is. record { rose = (m.sink is).rose; beginning = (m.sink is).beginning };
-    wires = m.wires;
-    memory = m.memory;
-    overfull = λ is. apart_line status (inr (inr is)) m.known;
-  };
-  idle = m.idle;
-  asked = record { part = part; all = λ two four five seven. asked five seven };
-  complete = m.complete;
-  steady = steady;
+  steady = m.steady;
 }
 
--- memory ran out, and the last line was written, or a beginning of it
-pub spent_run : (command : Command) (g : Given) (before now : Outside) (held : Option (List ℕ)) (sunk : ℕ) (s : Status)
-    → needs_wires command ≡ true → before.sunk ≤ sunk → sunk ≤ now.sunk
-    → RunsOut command g now.files (traffic_of before) (with_sink (traffic_of now) held sunk) → Exhausts held now.held sunk now.sunk s
-    → GrewPart before.asked now.asked (key_file_of command ∷ []) → Kept before.files now.files → before.unfetched ≤ now.unfetched
-    → IsRun command g before now s.0
-spent_run command g before now held sunk s on later more out told part kept count =
-    line_run command g before now s.0 on (means_line_spent command g before now held sunk s later out told)
-    (λ five seven. elim told [ inl whole ↦ absurd (seven whole.0) | inr cut ↦ absurd (five cut.0) ])
-    part (record { files = kept; unfetched = count; sunk = omega (arith, later, more) })
+pub call_run : (keys address : List ℕ) (engine rbc turns : ℕ) (g : Given) (before now : Outside) (status : ℕ)
+    → IsLineRun (line.Call keys address engine rbc turns) g before now status → IsRun (Call keys address engine rbc turns) g before now status
+call_run keys address engine rbc turns g before now status m = record {
+  known = m.known;
+  means = record {
+    done = m.served;
+    misused = λ is. apart_line status (inl is) m.known;
+    unfetched = λ is. record {
+      first = [];
+      name = keys;
+      rest = [];
+      is = refl;
+      asked_for = (m.unfetched is).asked_for;
+      rose = (m.unfetched is).rose;
+      printed = (m.unfetched is).printed;
+    };
+    refused = λ is. apart_line status (inr (inl is)) m.known;
+    keyless = m.keyless;
+    sunk = λ is. record { rose = (m.sunk is).rose; beginning = (m.sunk is).beginning };
+    wires = m.wires;
+    memory = m.memory;
+    overfull = λ is. apart_line status (inr (inr is)) m.known;
+  };
+  idle = m.idle;
+  asked = record { part = m.part; all = λ two four five seven. m.asked five seven };
+  complete = m.complete;
+  steady = m.steady;
+}

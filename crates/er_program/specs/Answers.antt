@@ -1,5 +1,5 @@
 -- What a run of the program answers where no write fails and memory suffices: a status and a text (this profile).
-use Rattle.std.specs.Prelude.{◌≡◌, ◌<◌, ℕ, List, ◌++◌, take, length, slice_get, nat_lt, if◌then◌else◌, Option, Some, None, Result, Ok, Err, codes}
+use Rattle.std.specs.Prelude.{◌≡◌, ◌<◌, ℕ, List, [], ◌++◌, take, length, slice_get, nat_lt, if◌then◌else◌, Option, Some, None, Result, Ok, Err, codes}
 use Rattle.er_base.specs.declared.text_fault.TextFault.{TextFault}
 use Rattle.er_base.specs.declared.text_fault.TextFault.TheVariants as text
 use Rattle.er_scenario.specs.declared.step.Step.{Step}
@@ -9,35 +9,33 @@ use Rattle.er_scenario.specs.Files.{scenario_of}
 use Rattle.drill_model.specs.declared.world_fault.WorldFault.{WorldFault}
 use Rattle.drill_model.specs.declared.world_fault.WorldFault.TheVariants.{NoLink, LinkTwice, MomentBack, Overfull, NoMemory}
 use Rattle.drill_model.specs.Worlds.{plan_of, steps_of}
-use Rattle.drill_model.specs.Faults.{fault_behind}
+use Rattle.drill_model.specs.Faults.{fault_behind, AllDone}
 use Rattle.drill_model.specs.Texts.{first_lines, drill_text}
 use Rattle.link_trait.specs.Outside.{HasFile, Rose}
 use Rattle.er_program.specs.Commands.{Command, Misused, Drill, Bits, Migrate, Replay, Audit, Bulk, Serve, Call}
 use Rattle.er_program.specs.BitTexts.{most_line_octets, bits_text}
-use Rattle.er_program.specs.BulkTexts.{bulk_plan, steps_of_bulk, totals_of_bulk, totals_line, AllDone, FirstOverfull}
+use Rattle.er_program.specs.BulkTexts.{bulk_plan, steps_of_bulk, totals_of_bulk, totals_line, FirstOverfull}
 use Rattle.safety_automaton.specs.Keys.{Entry, key_at}
-use Rattle.er_settings.specs.declared.settings.Settings.{Settings}
+use Rattle.er_settings.specs.Values.{Settings}
 use Rattle.er_trace.specs.declared.entry.Entry.{Entry as TraceEntry}
 use Rattle.er_trace.specs.declared.trace.Trace.{Trace}
 use Rattle.er_trace.specs.Files.{trace_of}
-use Rattle.end_model.specs.Steps.{Finds}
+use Rattle.er_end_model.specs.Steps.{Finds}
 use Rattle.er_tap.specs.declared.tap.Tap.{Tap}
 use Rattle.er_tap.specs.declared.tap_line.TapLine.{TapLine}
 use Rattle.er_tap.specs.Files.{tap_of}
 use Rattle.tap_model.specs.Lines.{TapFault, NoLinkAt, TwiceAt, fault_of}
 use Rattle.tap_model.specs.Texts.{audit_text}
 use Rattle.trace_model.specs.declared.replay_fault.ReplayFault.{ReplayFault}
+use Rattle.trace_model.specs.declared.replay_fault.ReplayFault.TheVariants as refused
 use Rattle.trace_model.specs.Printed.{printed}
 use Rattle.trace_model.specs.Replays.{AreTaken, FirstRefused}
 use Rattle.key_store.specs.declared.key_file_fault.KeyFileFault.{KeyFileFault}
 use Rattle.key_store.specs.declared.key_file_fault.KeyFileFault.TheVariants as keys
 use Rattle.key_store.specs.KeyFiles.{keys_of}
-use Rattle.er_program.specs.KeyLines.{keys_line}
-use Rattle.er_program.specs.LastLines.{usage_line, fetch_line, fault_line, refused_line, memory_line, overfull_line, why_word}
-
-pub record Answer : Type 0 where
-  pub status : ℕ
-  pub text : List ℕ
+use Rattle.er_statuses.specs.Answers.{Answer, Files, HasFetched, keys_answer, AreKeysRefused}
+use Rattle.er_statuses.specs.KeyLines.{keys_line}
+use Rattle.er_statuses.specs.LastLines.{usage_line, fetch_line, fault_line, memory_line, overfull_line, why_word}
 
 -- ---- a drill
 
@@ -89,15 +87,6 @@ IsScenarioAnswer (Err (text.At line why)) a = a ≡ record { status = 3; text = 
 IsScenarioAnswer (Err (text.NoMemory want)) a = a ≡ record { status = 7; text = memory_line }
 IsScenarioAnswer (Ok s) a = IsDrillAnswer s a
 
--- files by their names, where they are told
-abbrev pub Files : Type 0
-Files = Option (List (List ℕ × List ℕ))
-
--- what the fetch of a name gave: no file only where the cabinet's count of faults rose, and else the file of that name, where it is told
-abbrev pub HasFetched : List ℕ → Option (List ℕ) → Files → ℕ → ℕ → Type 0
-HasFetched name None files c d = Rose c d
-HasFetched name (Some file) files c d = HasFile files name file
-
 abbrev pub IsFetchedAnswer : List ℕ → Option (List ℕ) → Answer → Type 0
 IsFetchedAnswer name None a = a ≡ record { status = 2; text = fetch_line name }
 IsFetchedAnswer name (Some file) a = IsScenarioAnswer (scenario_of file) a
@@ -129,17 +118,6 @@ pub record IsBitsAnswer (name : List ℕ) (files : Files) (c d : ℕ) (a : Answe
 
 -- ---- a key file
 
--- a key file that is refused
-abbrev pub keys_answer : KeyFileFault → Answer
-keys_answer keys.Document = record { status = 4; text = keys_line keys.Document }
-keys_answer (keys.Field entry name) = record { status = 4; text = keys_line (keys.Field entry name) }
-keys_answer (keys.Hex entry) = record { status = 4; text = keys_line (keys.Hex entry) }
-keys_answer (keys.Number entry) = record { status = 4; text = keys_line (keys.Number entry) }
-keys_answer (keys.Range entry) = record { status = 4; text = keys_line (keys.Range entry) }
-keys_answer (keys.Twice first second) = record { status = 4; text = keys_line (keys.Twice first second) }
-keys_answer (keys.Version n) = record { status = 4; text = keys_line (keys.Version n) }
-keys_answer (keys.NoMemory want) = record { status = 7; text = memory_line }
-
 -- entries are printed as a key file that has them one by one, in order; its octets are those that TOML's printer gives, and nothing is
 -- claimed of them
 pub record IsKeyText (entries : List Entry) (a : Answer) : Type 0 where
@@ -161,6 +139,16 @@ pub record IsMigrateAnswer (name : List ℕ) (files : Files) (c d : ℕ) (a : An
   pub is : IsFetchedKeys name fetched a
 
 -- ---- a key file and a trace
+
+-- the line of an event that isn't taken; no event is refused as the sink's failure or as want of memory
+abbrev pub refused_line : ReplayFault → List ℕ
+refused_line (refused.NoConn line conn) = fault_line line (codes "noconn")
+refused_line (refused.ConnTwice line conn) = fault_line line (codes "twice")
+refused_line (refused.MomentBack line was now) = fault_line line (codes "back")
+refused_line (refused.NoKey line engine rbc) = fault_line line (codes "nokey")
+refused_line (refused.Many line live) = fault_line line (codes "many")
+refused_line refused.Sink = []
+refused_line (refused.NoMemory want) = []
 
 -- events that are all taken give their printed text; where one is refused, the text of those before it is followed by its line
 pub data IsReplayAnswer (settings : Settings) (finds : Finds) (entries : List TraceEntry) (a : Answer) : Type 0 where

@@ -2,7 +2,7 @@
 use Rattle.std.specs.Prelude.{◌≡◌, ◌≢◌, ◌⊎◌, ℕ, List, [], ◌∷◌, Option}
 use Rattle.link_trait.specs.Outside.{Grew}
 use Rattle.er_program.specs.Commands.{Command, Misused, Drill, Bits, Migrate, Replay, Audit, Bulk, Serve, Call}
-use Rattle.er_program.specs.LastLines.{fetch_line}
+use Rattle.er_statuses.specs.LastLines.{fetch_line}
 
 -- names that were asked for
 abbrev pub Names : Type 0

@@ -11,8 +11,9 @@ use Rattle.key_store.specs.KeyFiles.{keys_of}
 use Rattle.link_trait.specs.Outside.{Grew, HasFile}
 use Rattle.tap_model.specs.Lines.{TapFault, NoLinkAt, TwiceAt, fault_of}
 use Rattle.tap_model.specs.Texts.{audit_text}
-use Rattle.er_program.specs.Answers.{Files, keys_answer, tap_answer}
-use Rattle.er_program.specs.LastLines.{fault_line, why_word}
+use Rattle.er_statuses.specs.Answers.{Files, keys_answer}
+use Rattle.er_program.specs.Answers.{tap_answer}
+use Rattle.er_statuses.specs.LastLines.{fault_line, why_word}
 
 -- the file of the first name is a key file with these entries, and that of the second one spells this tap
 pub record SpellTap (keys name : List ℕ) (files : Files) (entries : List Entry) (tap : Tap) : Type 0 where

@@ -4,7 +4,7 @@ use Rattle.er_base.specs.declared.text_fault.TextFault.{TextFault}
 use Rattle.er_tap.specs.declared.tap.Tap.{Tap}
 use Rattle.er_tap.specs.declared.tap_line.TapLine.{TapLine}
 use Rattle.er_tap.specs.Files.{tap_of}
-use Rattle.end_model.specs.Steps.{Finds}
+use Rattle.er_end_model.specs.Steps.{Finds}
 use Rattle.safety_automaton.specs.Keys.{Entry, key_at}
 use Rattle.key_store.specs.declared.key_file_fault.KeyFileFault.{KeyFileFault}
 use Rattle.link_trait.specs.Outside.{Grew, HasFile}
@@ -12,12 +12,13 @@ use Rattle.tap_model.specs.declared.audit_fault.AuditFault.{AuditFault}
 use Rattle.tap_model.specs.declared.audit_fault.AuditFault.TheVariants.{NoLink, LinkTwice, Sink, NoMemory}
 use Rattle.tap_model.specs.Lines.{fault_of}
 use Rattle.tap_model.specs.Texts.{audit_text}
-use Rattle.er_program.specs.LastLines.{fault_line}
-use Rattle.er_program.specs.Answers.{Answer, Files, lines_answer, tap_answer}
-use Rattle.er_program.specs.Writing.{Gives}
-use Rattle.er_program.specs.declared.status.Status.{Status}
-use Rattle.er_program.specs.declared.stop.Stop.{Stop}
-use Rattle.er_program.specs.declared.stop.Stop.TheVariants as stop
+use Rattle.er_statuses.specs.LastLines.{fault_line}
+use Rattle.er_statuses.specs.Answers.{Answer, Files}
+use Rattle.er_program.specs.Answers.{lines_answer, tap_answer}
+use Rattle.er_statuses.specs.Writing.{Gives}
+use Rattle.er_statuses.specs.declared.status.Status.{Status}
+use Rattle.er_statuses.specs.declared.stop.Stop.{Stop}
+use Rattle.er_statuses.specs.declared.stop.Stop.TheVariants as stop
 
 -- ---- the answers, as kinds of one
 

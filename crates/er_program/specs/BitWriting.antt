@@ -6,10 +6,10 @@ use Rattle.hdlc_bits.specs.Framing.{Verdict, frames_of_bits}
 use Rattle.hdlc_bits.specs.Keeping.{Kept, kept_of}
 use Rattle.er_program.specs.Answers.{bits_answer}
 use Rattle.er_program.specs.BitTexts.{verdict_lines, verdicts_in, is_frame, frame_count}
-use Rattle.er_program.specs.Writing.{Gives}
-use Rattle.er_program.specs.declared.status.Status.{Status}
-use Rattle.er_program.specs.declared.stop.Stop.{Stop}
-use Rattle.er_program.specs.declared.stop.Stop.TheVariants as stop
+use Rattle.er_statuses.specs.Writing.{Gives}
+use Rattle.er_statuses.specs.declared.status.Status.{Status}
+use Rattle.er_statuses.specs.declared.stop.Stop.{Stop}
+use Rattle.er_statuses.specs.declared.stop.Stop.TheVariants as stop
 
 -- how many frames one call found
 abbrev pub found_count : Option Verdict → ℕ

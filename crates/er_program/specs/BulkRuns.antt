@@ -7,7 +7,7 @@ use Rattle.drill_model.specs.declared.world_fault.WorldFault.{WorldFault}
 use Rattle.drill_model.specs.Steps.{IsOfLevel, HasEtcsNumbers, HasMoment}
 use Rattle.drill_model.specs.Worlds.{Plan}
 use Rattle.er_world.specs.Standing.{KeptWorld, Ran, IsFaultBehind}
-use Rattle.er_program.specs.BulkTexts.{AllDone}
+use Rattle.drill_model.specs.Faults.{AllDone}
 
 -- a step that a world of this level takes
 pub record IsDoable (level : Level) (s : Step) : Type 0 where

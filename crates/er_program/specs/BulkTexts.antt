@@ -11,7 +11,7 @@ use Rattle.drill_model.specs.declared.world_fault.WorldFault.TheVariants.{Overfu
 use Rattle.drill_model.specs.Worlds.{Plan, world_run}
 use Rattle.drill_model.specs.Faults.{fault_behind}
 use Rattle.drill_model.specs.Totals.{totals_of}
-use Rattle.bulk_steps.specs.Turns.{bulk_steps}
+use Rattle.drill_bulk.specs.Turns.{bulk_steps}
 
 -- the most messages of a bulk run
 abbrev pub most_messages : ℕ

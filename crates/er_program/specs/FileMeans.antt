@@ -3,11 +3,11 @@
 use Rattle.std.specs.Prelude.{◌≡◌, ◌⊎◌, ℕ, List, [], ◌++◌, ◌∷◌, false, Option, None}
 use Rattle.link_trait.specs.Outside.{Grew, Rose}
 use Rattle.er_program.specs.Commands.{Command, names_of}
-use Rattle.er_program.specs.Outsides.{Outside}
-use Rattle.er_program.specs.LastLines.{fetch_line}
-use Rattle.er_program.specs.Answers.{Files}
+use Rattle.er_serving.specs.Outsides.{Outside}
+use Rattle.er_statuses.specs.LastLines.{fetch_line}
+use Rattle.er_statuses.specs.Answers.{Files}
 use Rattle.er_program.specs.Runs.{IsSpent, IsTextBegun}
-use Rattle.er_program.specs.LineRuns.{Given, given}
+use Rattle.er_serving.specs.LineRuns.{Given, given}
 use Rattle.er_program.specs.Statuses as statuses
 
 -- names that were asked for

@@ -1,10 +1,10 @@
 -- Representation: what the answer to a key file writes to the sink, and how it ends; no claim rests on it.
 use Rattle.std.specs.Prelude.{◌≡◌, ℕ, ◌≤◌, List, [], Option, Result, Ok, Err}
 use Rattle.link_trait.specs.Outside.{Grew, GrewPart, Rose}
-use Rattle.er_program.specs.Answers.{Answer}
-use Rattle.er_program.specs.declared.status.Status.{Status}
-use Rattle.er_program.specs.declared.stop.Stop.{Stop}
-use Rattle.er_program.specs.declared.stop.Stop.TheVariants as stop
+use Rattle.er_statuses.specs.Answers.{Answer}
+use Rattle.er_statuses.specs.declared.status.Status.{Status}
+use Rattle.er_statuses.specs.declared.stop.Stop.{Stop}
+use Rattle.er_statuses.specs.declared.stop.Stop.TheVariants as stop
 
 -- an answer of this kind was given
 pub record GaveOne (Is : Answer → Type 0) (before now : Option (List ℕ)) (f g status : ℕ) : Type 0 where

@@ -1,11 +1,11 @@
 -- Representation: what the replay of a trace writes to the sink, and how it ends; no claim rests on it.
 use Rattle.std.specs.Prelude.{◌≡◌, ◌⊎◌, ℕ, ◌≤◌, List, [], ◌++◌, Option, Result, Ok, Err}
 use Rattle.er_base.specs.declared.text_fault.TextFault.{TextFault}
-use Rattle.er_settings.specs.declared.settings.Settings.{Settings}
+use Rattle.er_settings.specs.Values.{Settings}
 use Rattle.er_trace.specs.declared.entry.Entry.{Entry as TraceEntry}
 use Rattle.er_trace.specs.declared.trace.Trace.{Trace}
 use Rattle.er_trace.specs.Files.{trace_of}
-use Rattle.end_model.specs.Steps.{Finds}
+use Rattle.er_end_model.specs.Steps.{Finds}
 use Rattle.trace_model.specs.declared.replay_fault.ReplayFault.{ReplayFault}
 use Rattle.trace_model.specs.declared.replay_fault.ReplayFault.TheVariants.{NoConn, ConnTwice, MomentBack, NoKey, Many, Sink, NoMemory}
 use Rattle.trace_model.specs.Printed.{printed}
@@ -13,13 +13,13 @@ use Rattle.trace_model.specs.Replays.{AreTaken}
 use Rattle.safety_automaton.specs.Keys.{Entry, key_at}
 use Rattle.key_store.specs.declared.key_file_fault.KeyFileFault.{KeyFileFault}
 use Rattle.link_trait.specs.Outside.{Grew, HasFile}
-use Rattle.er_program.specs.LastLines.{refused_line}
-use Rattle.er_program.specs.Answers.{Answer, Files}
+use Rattle.er_program.specs.Answers.{refused_line}
+use Rattle.er_statuses.specs.Answers.{Answer, Files}
 use Rattle.er_program.specs.KeyWriting.{GaveOne, BrokeOne}
-use Rattle.er_program.specs.Writing.{Gives}
-use Rattle.er_program.specs.declared.status.Status.{Status}
-use Rattle.er_program.specs.declared.stop.Stop.{Stop}
-use Rattle.er_program.specs.declared.stop.Stop.TheVariants as stop
+use Rattle.er_statuses.specs.Writing.{Gives}
+use Rattle.er_statuses.specs.declared.status.Status.{Status}
+use Rattle.er_statuses.specs.declared.stop.Stop.{Stop}
+use Rattle.er_statuses.specs.declared.stop.Stop.TheVariants as stop
 
 -- ---- an answer of a kind
 

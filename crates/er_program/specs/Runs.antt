@@ -9,10 +9,12 @@ use Rattle.drill_model.specs.Texts.{drill_text}
 use Rattle.drill_model.specs.Headline.{Holds}
 use Rattle.link_trait.specs.Outside.{Grew, GrewPart, Rose, HasFile}
 use Rattle.er_program.specs.Commands.{Command, Misused, Drill, Bits, Migrate, Replay, Audit, Bulk, Serve, Call}
-use Rattle.er_program.specs.LastLines.{usage_line, memory_line, fetch_line, fault_line, refused_line, overfull_line, why_word}
-use Rattle.er_program.specs.Answers.{Answer, IsAnswer, IsScenarioAnswer, HasFetched, Files, FirstFault, AreDone, first_steps, lines_of_first, fault_answer, bits_answer, IsKeysAnswer, IsTraceAnswer, IsBulkAnswer, keys_answer}
+use Rattle.er_statuses.specs.LastLines.{usage_line, memory_line, fetch_line, fault_line, overfull_line, why_word}
+use Rattle.er_program.specs.Answers.{refused_line, IsAnswer, IsScenarioAnswer, FirstFault, AreDone, first_steps, lines_of_first, fault_answer, bits_answer, IsKeysAnswer, IsTraceAnswer, IsBulkAnswer}
+use Rattle.er_statuses.specs.Answers.{Answer, HasFetched, Files, keys_answer}
 use Rattle.er_program.specs.BitTexts.{most_line_octets, verdict_lines, verdicts_in, bits_text}
-use Rattle.er_program.specs.BulkTexts.{bulk_plan, steps_of_bulk, totals_of_bulk, totals_line, AllDone, FirstOverfull}
+use Rattle.er_program.specs.BulkTexts.{bulk_plan, steps_of_bulk, totals_of_bulk, totals_line, FirstOverfull}
+use Rattle.drill_model.specs.Faults.{AllDone}
 use Rattle.safety_automaton.specs.Keys.{Entry, key_at}
 use Rattle.er_trace.specs.declared.entry.Entry.{Entry as TraceEntry}
 use Rattle.er_trace.specs.declared.trace.Trace.{Trace}
@@ -22,14 +24,14 @@ use Rattle.trace_model.specs.Printed.{printed}
 use Rattle.trace_model.specs.Replays.{AreTaken, FirstRefused}
 use Rattle.key_store.specs.declared.key_file_fault.KeyFileFault.{KeyFileFault}
 use Rattle.key_store.specs.KeyFiles.{keys_of}
-use Rattle.er_program.specs.KeyLines.{keys_line}
+use Rattle.er_statuses.specs.KeyLines.{keys_line}
 use Rattle.er_program.specs.AuditRuns.{FirstAuditText}
 
 -- ---- what holds of a world
 
 -- at every moment of the first steps
-abbrev pub HoldsAlways : Scenario → ℕ → Type 0
-HoldsAlways s count = (k : ℕ) → k ≤ count → Holds (plan_of s) (first_steps s k)
+abbrev pub HoldsInDrill : Scenario → ℕ → Type 0
+HoldsInDrill s count = (k : ℕ) → k ≤ count → Holds (plan_of s) (first_steps s k)
 
 -- the file of that name spells this scenario
 pub record Spells (name : List ℕ) (files : Files) (scenario : Scenario) : Type 0 where
@@ -45,7 +47,7 @@ pub record Drilled (name : List ℕ) (files : Files) (before now : Option (List 
   pub spells : Spells name files scenario
   pub are_done : AreDone scenario (length scenario.steps)
   pub printed : Grew before now (drill_text scenario)
-  pub holds : HoldsAlways scenario (length scenario.steps)
+  pub holds : HoldsInDrill scenario (length scenario.steps)
 
 -- the file of that name is short enough, and what it is read as was written
 pub record BitsRead (name : List ℕ) (files : Files) (before now : Option (List ℕ)) : Type 0 where
@@ -114,7 +116,7 @@ pub record BrokeOff (name : List ℕ) (files : Files) (status : ℕ) (before now
   pub first : FirstFault scenario
   pub stated : status ≡ (fault_answer first.step.line first.fault).status
   pub printed : Grew before now (lines_of_first scenario first.count ++ (fault_answer first.step.line first.fault).text)
-  pub holds : HoldsAlways scenario first.count
+  pub holds : HoldsInDrill scenario first.count
 
 -- the file of that name has too many octets for a recorded line, which is printed alone
 pub record BitsTooLong (name : List ℕ) (files : Files) (before now : Option (List ℕ)) : Type 0 where
@@ -151,17 +153,6 @@ pub record IsBulkOverfull (seed count : ℕ) (before now : Option (List ℕ)) : 
   pub written : Grew before now (overfull_line first.link first.side first.most)
   pub holds : HoldsInBulk seed count first.count
 
--- ---- status 4
-
--- the file of that name, which was asked for last, is a key file that is refused: its first fault, which is printed alone
-pub record AreKeysRefused (name : List ℕ) (files : Files) (asked asked_now : Option (List (List ℕ))) (before now : Option (List ℕ)) : Type 0 where
-  pub asked_for : Grew asked asked_now (name ∷ [])
-  pub file : List ℕ
-  pub stands : HasFile files name file
-  pub fault : KeyFileFault
-  pub refused : keys_of file ≡ Err fault
-  pub printed : Grew before now (keys_line fault)
-
 -- ---- status 7
 
 -- the lines of some first steps of the drill that the file spells
@@ -171,7 +162,7 @@ pub record FirstLines (name : List ℕ) (files : Files) (text : List ℕ) : Type
   pub count : ℕ
   pub are_done : AreDone scenario count
   pub is : text ≡ lines_of_first scenario count
-  pub holds : HoldsAlways scenario count
+  pub holds : HoldsInDrill scenario count
 
 -- the lines of some first verdicts on the file
 pub record FirstVerdictLines (name : List ℕ) (files : Files) (text : List ℕ) : Type 0 where
@@ -217,7 +208,7 @@ pub record HoldsInFile (name : List ℕ) (files : Files) (c d : ℕ) : Type 0 wh
   pub fetched : Option (List ℕ)
   pub stands : HasFetched name fetched files c d
   pub holds : (file : List ℕ) (scenario : Scenario) (count : ℕ) → fetched ≡ Some file → scenario_of file ≡ Ok scenario
-      → AreDone scenario count → HoldsAlways scenario count
+      → AreDone scenario count → HoldsInDrill scenario count
 
 abbrev pub WorldsHold : Command → Files → ℕ → ℕ → Type 0
 WorldsHold Misused files c d = Unit {0}

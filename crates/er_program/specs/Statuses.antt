@@ -3,22 +3,20 @@
 use Rattle.std.specs.Prelude.{◌≡◌, ◌≢◌, ◌⊎◌, ℕ, List, [], ◌∷◌, ◌++◌}
 use Rattle.link_trait.specs.Outside.{Grew, GrewPart, Rose, HasFile}
 use Rattle.er_program.specs.Commands.{Command, Misused, Drill, Bits, Migrate, Replay, Audit, Bulk, Serve, Call, names_of}
-use Rattle.er_program.specs.Outsides.{Outside, traffic_of, IsLeftAlone, IsSteady}
-use Rattle.er_program.specs.LastLines.{usage_line, fetch_line, memory_line}
+use Rattle.er_serving.specs.Outsides.{Outside, traffic_of, IsUnasked, IsLeftAlone, IsSteady}
+use Rattle.er_serving.specs.LineCommands as line
+use Rattle.er_statuses.specs.LastLines.{usage_line, fetch_line, memory_line}
 use Rattle.er_program.specs.Answers.{bits_answer}
-use Rattle.er_program.specs.Runs.{Drilled, BitsRead, Migrated, Replayed, BulkCounted, IsOutOfForm, BrokeOff, BitsTooLong, IsTraceOutOfForm, IsEventRefused, IsBulkOverfull, AreKeysRefused, IsSpent, IsTextBegun, HasStatus, HasKeysStatus, HasReplayStatus, HasBulkStatus}
+use Rattle.er_program.specs.Runs.{Drilled, BitsRead, Migrated, Replayed, BulkCounted, IsOutOfForm, BrokeOff, BitsTooLong, IsTraceOutOfForm, IsEventRefused, IsBulkOverfull, IsSpent, IsTextBegun, HasStatus, HasKeysStatus, HasReplayStatus, HasBulkStatus}
+use Rattle.er_statuses.specs.Answers.{AreKeysRefused}
 use Rattle.er_program.specs.AuditRuns.{Audited, IsTapOutOfForm, IsTapLineRefused, HasAuditStatus}
-use Rattle.er_program.specs.LineRuns.{Given, IsServed, IsPairKeyless, IsLineBegun, IsLoopFailed, IsMemoryTold, HasLineStatus}
+use Rattle.er_serving.specs.LineRuns.{IsLineStatus, Given, IsServed, IsPairKeyless, IsLineBegun, IsLoopFailed, IsMemoryTold, IsLineIdle, HasLineStatus}
 
 -- ---- the closed list of statuses
 
 -- of a command that needs no wires
 abbrev pub IsFileStatus : ℕ → Type 0
 IsFileStatus s = (s ≡ 0) ⊎ (s ≡ 1) ⊎ (s ≡ 2) ⊎ (s ≡ 3) ⊎ (s ≡ 4) ⊎ (s ≡ 5) ⊎ (s ≡ 7) ⊎ (s ≡ 8)
-
--- of one that runs the readiness loop
-abbrev pub IsLineStatus : ℕ → Type 0
-IsLineStatus s = (s ≡ 0) ⊎ (s ≡ 2) ⊎ (s ≡ 4) ⊎ (s ≡ 5) ⊎ (s ≡ 6) ⊎ (s ≡ 7)
 
 -- of a command
 abbrev pub IsStatusOf : Command → ℕ → Type 0
@@ -43,8 +41,8 @@ IsDone (Migrate keys) g before now = Migrated keys now.files before.held now.hel
 IsDone (Replay keys trace) g before now = Replayed keys trace now.files before.held now.held
 IsDone (Audit keys tap) g before now = Audited keys tap now.files before.held now.held
 IsDone (Bulk seed count) g before now = BulkCounted seed count before.held now.held
-IsDone (Serve keys address rbc turns) g before now = IsServed (Serve keys address rbc turns) g before now
-IsDone (Call keys address engine rbc turns) g before now = IsServed (Call keys address engine rbc turns) g before now
+IsDone (Serve keys address rbc turns) g before now = IsServed (line.Serve keys address rbc turns) g before now
+IsDone (Call keys address engine rbc turns) g before now = IsServed (line.Call keys address engine rbc turns) g before now
 
 -- status 1: the words fit no command
 abbrev pub IsMisused : Command → Outside → Outside → Type 0
@@ -90,7 +88,7 @@ IsKeyless (Replay keys trace) before now = AreKeysRefused keys now.files before.
 IsKeyless (Audit keys tap) before now = AreKeysRefused keys now.files before.asked now.asked before.held now.held
 IsKeyless (Bulk seed count) before now = ⊥
 IsKeyless (Serve keys address rbc turns) before now = AreKeysRefused keys now.files before.asked now.asked before.held now.held
-IsKeyless (Call keys address engine rbc turns) before now = AreKeysRefused keys now.files before.asked now.asked before.held now.held ⊎ IsPairKeyless (Call keys address engine rbc turns) before now
+IsKeyless (Call keys address engine rbc turns) before now = AreKeysRefused keys now.files before.asked now.asked before.held now.held ⊎ IsPairKeyless (line.Call keys address engine rbc turns) before now
 
 -- a beginning of what the run would have printed
 abbrev pub IsBegun : Command → Given → Outside → Outside → Type 0
@@ -101,8 +99,8 @@ IsBegun (Migrate keys) g before now = IsTextBegun (Migrate keys) now.files befor
 IsBegun (Replay keys trace) g before now = IsTextBegun (Replay keys trace) now.files before.unfetched now.unfetched before.held now.held
 IsBegun (Audit keys tap) g before now = IsTextBegun (Audit keys tap) now.files before.unfetched now.unfetched before.held now.held
 IsBegun (Bulk seed count) g before now = IsTextBegun (Bulk seed count) now.files before.unfetched now.unfetched before.held now.held
-IsBegun (Serve keys address rbc turns) g before now = IsLineBegun (Serve keys address rbc turns) g before now
-IsBegun (Call keys address engine rbc turns) g before now = IsLineBegun (Call keys address engine rbc turns) g before now
+IsBegun (Serve keys address rbc turns) g before now = IsLineBegun (line.Serve keys address rbc turns) g before now
+IsBegun (Call keys address engine rbc turns) g before now = IsLineBegun (line.Call keys address engine rbc turns) g before now
 
 -- status 5: a write of the sink failed
 pub record IsSinkFailed (command : Command) (g : Given) (before now : Outside) : Type 0 where
@@ -118,8 +116,8 @@ AreWiresFailed (Migrate keys) g before now = ⊥
 AreWiresFailed (Replay keys trace) g before now = ⊥
 AreWiresFailed (Audit keys tap) g before now = ⊥
 AreWiresFailed (Bulk seed count) g before now = ⊥
-AreWiresFailed (Serve keys address rbc turns) g before now = IsLoopFailed (Serve keys address rbc turns) g before now
-AreWiresFailed (Call keys address engine rbc turns) g before now = IsLoopFailed (Call keys address engine rbc turns) g before now
+AreWiresFailed (Serve keys address rbc turns) g before now = IsLoopFailed (line.Serve keys address rbc turns) g before now
+AreWiresFailed (Call keys address engine rbc turns) g before now = IsLoopFailed (line.Call keys address engine rbc turns) g before now
 
 -- status 7: memory ran out
 abbrev pub IsOutOfMemory : Command → Given → Outside → Outside → Type 0
@@ -130,8 +128,8 @@ IsOutOfMemory (Migrate keys) g before now = IsSpent (Migrate keys) now.files bef
 IsOutOfMemory (Replay keys trace) g before now = IsSpent (Replay keys trace) now.files before.held now.held
 IsOutOfMemory (Audit keys tap) g before now = IsSpent (Audit keys tap) now.files before.held now.held
 IsOutOfMemory (Bulk seed count) g before now = IsSpent (Bulk seed count) now.files before.held now.held
-IsOutOfMemory (Serve keys address rbc turns) g before now = IsMemoryTold (Serve keys address rbc turns) g before now (λ held held_now. Grew held held_now memory_line)
-IsOutOfMemory (Call keys address engine rbc turns) g before now = IsMemoryTold (Call keys address engine rbc turns) g before now (λ held held_now. Grew held held_now memory_line)
+IsOutOfMemory (Serve keys address rbc turns) g before now = IsMemoryTold (line.Serve keys address rbc turns) g before now (λ held held_now. Grew held held_now memory_line)
+IsOutOfMemory (Call keys address engine rbc turns) g before now = IsMemoryTold (line.Call keys address engine rbc turns) g before now (λ held held_now. Grew held held_now memory_line)
 
 -- status 8: a frame would be one more than may wait in one direction
 abbrev pub IsOverfull : Command → Outside → Outside → Type 0
@@ -158,23 +156,18 @@ pub record Means (command : Command) (g : Given) (before now : Outside) (status 
 
 -- ---- what the outside got
 
--- `serve` and `call` leave the wires alone where the key file can't be fetched or isn't good, or the pair has no key
-pub record IsLineIdle (command : Command) (before now : Outside) (status : ℕ) : Type 0 where
-  pub unfetched : status ≡ 2 → IsLeftAlone command (traffic_of before) (traffic_of now)
-  pub keyless : status ≡ 4 → IsLeftAlone command (traffic_of before) (traffic_of now)
-
 -- the wires of a command that needs none get no call, whatever its status; of `serve` and `call` the statuses 5, 6 and 7 tell what the loop
 -- called, or that it didn't begin and the wires were left alone
 abbrev pub IsIdle : Command → Outside → Outside → ℕ → Type 0
-IsIdle Misused before now status = IsLeftAlone Misused (traffic_of before) (traffic_of now)
-IsIdle (Drill name) before now status = IsLeftAlone (Drill name) (traffic_of before) (traffic_of now)
-IsIdle (Bits name) before now status = IsLeftAlone (Bits name) (traffic_of before) (traffic_of now)
-IsIdle (Migrate keys) before now status = IsLeftAlone (Migrate keys) (traffic_of before) (traffic_of now)
-IsIdle (Replay keys trace) before now status = IsLeftAlone (Replay keys trace) (traffic_of before) (traffic_of now)
-IsIdle (Audit keys tap) before now status = IsLeftAlone (Audit keys tap) (traffic_of before) (traffic_of now)
-IsIdle (Bulk seed count) before now status = IsLeftAlone (Bulk seed count) (traffic_of before) (traffic_of now)
-IsIdle (Serve keys address rbc turns) before now status = IsLineIdle (Serve keys address rbc turns) before now status
-IsIdle (Call keys address engine rbc turns) before now status = IsLineIdle (Call keys address engine rbc turns) before now status
+IsIdle Misused before now status = IsLeftAlone IsUnasked (traffic_of before) (traffic_of now)
+IsIdle (Drill name) before now status = IsLeftAlone IsUnasked (traffic_of before) (traffic_of now)
+IsIdle (Bits name) before now status = IsLeftAlone IsUnasked (traffic_of before) (traffic_of now)
+IsIdle (Migrate keys) before now status = IsLeftAlone IsUnasked (traffic_of before) (traffic_of now)
+IsIdle (Replay keys trace) before now status = IsLeftAlone IsUnasked (traffic_of before) (traffic_of now)
+IsIdle (Audit keys tap) before now status = IsLeftAlone IsUnasked (traffic_of before) (traffic_of now)
+IsIdle (Bulk seed count) before now status = IsLeftAlone IsUnasked (traffic_of before) (traffic_of now)
+IsIdle (Serve keys address rbc turns) before now status = IsLineIdle (line.Serve keys address rbc turns) before now status
+IsIdle (Call keys address engine rbc turns) before now status = IsLineIdle (line.Call keys address engine rbc turns) before now status
 
 -- the file words are asked for in their order, each once, and nothing else is; at statuses 2 and 4 these tell up to which one
 pub record AreAsked (command : Command) (before now : Outside) (status : ℕ) : Type 0 where
@@ -197,9 +190,9 @@ IsComplete (Replay keys trace) before now status = (Rose before.unfetched now.un
 IsComplete (Audit keys tap) before now status = (Rose before.unfetched now.unfetched → ⊥) → (Rose before.sunk now.sunk → ⊥) → HasAuditStatus keys tap now.files status ⊎ (status ≡ 7)
 IsComplete (Bulk seed count) before now status = (Rose before.sunk now.sunk → ⊥) → HasBulkStatus seed count status ⊎ (status ≡ 7)
 IsComplete (Serve keys address rbc turns) before now status = (Rose before.unfetched now.unfetched → ⊥) → (Rose before.sunk now.sunk → ⊥) → (Rose before.turns_failed now.turns_failed → ⊥)
-    → HasLineStatus (Serve keys address rbc turns) before now status ⊎ (status ≡ 7)
+    → HasLineStatus (line.Serve keys address rbc turns) before now status ⊎ (status ≡ 7)
 IsComplete (Call keys address engine rbc turns) before now status = (Rose before.unfetched now.unfetched → ⊥) → (Rose before.sunk now.sunk → ⊥) → (Rose before.turns_failed now.turns_failed → ⊥)
-    → HasLineStatus (Call keys address engine rbc turns) before now status ⊎ (status ≡ 7)
+    → HasLineStatus (line.Call keys address engine rbc turns) before now status ⊎ (status ≡ 7)
 
 -- ---- a run
 

@@ -14,28 +14,19 @@ use Rattle.drill_model.specs.Faults.{fault_behind}
 use Rattle.link_trait.specs.Outside.{Grew, GrewPart, Rose}
 use Rattle.link_trait.specs.declared.sink.Failed.{Failed}
 use Rattle.er_program.specs.Commands.{Command, Misused, Drill, Bits, Migrate, Replay, Audit, Bulk, Serve, Call}
-use Rattle.er_program.specs.LastLines.{usage_line, memory_line}
-use Rattle.er_program.specs.Answers.{Answer, IsDrillAnswer, IsScenarioAnswer, IsFileAnswer, IsBitsAnswer, Files, AreDone, first_steps, lines_of_first, fault_answer, IsMigrateAnswer, IsReplayWordsAnswer, IsAuditWordsAnswer, IsBulkAnswer}
+use Rattle.er_statuses.specs.LastLines.{usage_line, memory_line}
+use Rattle.er_statuses.specs.Answers.{Answer, Files}
+use Rattle.er_statuses.specs.Writing.{Gives}
+use Rattle.er_program.specs.Answers.{IsDrillAnswer, IsScenarioAnswer, IsFileAnswer, IsBitsAnswer, AreDone, first_steps, lines_of_first, fault_answer, IsMigrateAnswer, IsReplayWordsAnswer, IsAuditWordsAnswer, IsBulkAnswer}
 use Rattle.er_program.specs.AuditRuns.{FirstAuditText}
 use Rattle.er_program.specs.Runs.{Spells, FirstVerdictLines, FirstEventLines}
-use Rattle.er_program.specs.declared.status.Status.{Status}
+use Rattle.er_statuses.specs.declared.status.Status.{Status}
 use Rattle.er_program.specs.declared.halt.Halt.{Halt}
 use Rattle.er_program.specs.declared.halt.Halt.TheVariants as halt
-use Rattle.er_program.specs.declared.stop.Stop.{Stop}
-use Rattle.er_program.specs.declared.stop.Stop.TheVariants as stop
+use Rattle.er_statuses.specs.declared.stop.Stop.{Stop}
+use Rattle.er_statuses.specs.declared.stop.Stop.TheVariants as stop
 
--- ---- a text, an answer
-
--- a text was written, or a beginning of it where the sink failed
-abbrev pub Writes : List ℕ → Option (List ℕ) → Option (List ℕ) → ℕ → ℕ → Result (Unit {0}) Failed → Type 0
-Writes text before now f g (Ok done) = Grew before now text × (f ≤ g)
-Writes text before now f g (Err failed) = GrewPart before now text × Rose f g
-
--- an answer was given: its text was written, or a beginning of it where the sink failed, or nothing where memory ran out
-abbrev pub Gives : Answer → Option (List ℕ) → Option (List ℕ) → ℕ → ℕ → Result Status Stop → Type 0
-Gives a before now f g (Ok s) = (s.0 ≡ a.status) × Grew before now a.text × (f ≤ g)
-Gives a before now f g (Err stop.Sink) = GrewPart before now a.text × Rose f g
-Gives a before now f g (Err (stop.NoMemory want)) = Grew before now [] × (f ≤ g)
+-- ---- a fault
 
 -- the fault of a step that isn't done was told; where it is want of memory, nothing was written
 abbrev pub TellsFault : ℕ → WorldFault → Option (List ℕ) → Option (List ℕ) → ℕ → ℕ → Result Status Stop → Type 0
@@ -214,7 +205,3 @@ abbrev pub Ends : Command → Files → ℕ → ℕ → Option (List ℕ) → Op
 Ends command files c d before now f g (Ok s) = Finished command files c d before now f g s.0
 Ends command files c d before now f g (Err stop.Sink) = Broken command files c d before now f g
 Ends command files c d before now f g (Err (stop.NoMemory want)) = Exhausted command files before now f g
-
--- the last line of a run for which memory didn't suffice: written, or a beginning of it where the sink failed
-abbrev pub Exhausts : Option (List ℕ) → Option (List ℕ) → ℕ → ℕ → Status → Type 0
-Exhausts before now f g s = ((s.0 ≡ 7) × Grew before now memory_line × (f ≤ g)) ⊎ ((s.0 ≡ 5) × GrewPart before now memory_line × Rose f g)

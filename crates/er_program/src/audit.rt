@@ -6,24 +6,21 @@ ghost use Rattle.er_tap.specs.Files.{tap_of};
 ghost use Rattle.er_tap.specs.Ranges.{CanBeRead};
 ghost use Rattle.key_store.specs.KeyFiles.{keys_of};
 ghost use Rattle.link_trait.specs.Outside.{Grew, GrewPart, Kept};
-ghost use Rattle.er_program.specs.LastLines.{fault_line};
+ghost use Rattle.er_statuses.specs.LastLines.{fault_line};
 ghost use Rattle.er_program.specs.Answers.{IsTapFileAnswer, IsTapAnswerBehindKeys};
 ghost use Rattle.er_program.specs.Asking.{Asks, AsksLast, AsksBehindKeys};
 ghost use Rattle.er_program.specs.AuditWriting.{IsLinesAnswer, IsTapAnswer, BeginsLines, BeginsTap, BeginsTapFile, BeginsTapBehindKeys, TellsTapFault};
 ghost use Rattle.er_program.specs.Commands.{Audit};
 ghost use Rattle.er_program.specs.ReplayWriting.{EndsOne};
-ghost use Rattle.er_program.specs.Writing.{Gives, Ends};
+ghost use Rattle.er_statuses.specs.Writing.{Gives};
+ghost use Rattle.er_program.specs.Writing.{Ends};
 
-use crate::endings::{last, out_of_form, unfetched};
-use crate::key_lines::keys_refused;
-use crate::last_lines::fault_line;
-use crate::status::Status;
-use crate::stop::Stop;
 use er_base::TextFault;
+use er_statuses::{Status, Stop, fault_line, fetched, keys_refused, last, out_of_form};
 use er_tap::{Tap, read};
 use key_store::KeyStore;
 use link_audit::audit;
-use link_trait::{Cabinet, FetchFault, Sink};
+use link_trait::{Cabinet, Sink};
 use std::alloc::Global;
 use tap_model::AuditFault;
 
@@ -105,10 +102,9 @@ fn audit_tap<F: Cabinet, K: Sink>(
     ensures count { (F.state cabinet.old).faults ≤ (F.state cabinet.new).faults }
     ensures sink_count { (K.state sink.old).faults ≤ (K.state sink.new).faults }
 {
-    match cabinet.fetch(alloc, name) {
+    match fetched(alloc, name, cabinet, sink) {
         Ok(octets) => audit_file(alloc, store, octets.as_slice(), sink),
-        Err(FetchFault::Failed) => unfetched(alloc, name, sink),
-        Err(FetchFault::NoMemory(want)) => Err(Stop::NoMemory(want)),
+        Err(ended) => ended,
     }
 }
 
@@ -153,9 +149,8 @@ pub fn audit_run<F: Cabinet, K: Sink>(
     ensures count { (F.state cabinet.old).faults ≤ (F.state cabinet.new).faults }
     ensures sink_count { (K.state sink.old).faults ≤ (K.state sink.new).faults }
 {
-    match cabinet.fetch(alloc, keys) {
+    match fetched(alloc, keys, cabinet, sink) {
         Ok(octets) => audit_with(alloc, octets.as_slice(), tap, cabinet, sink),
-        Err(FetchFault::Failed) => unfetched(alloc, keys, sink),
-        Err(FetchFault::NoMemory(want)) => Err(Stop::NoMemory(want)),
+        Err(ended) => ended,
     }
 }

@@ -9,15 +9,14 @@ ghost use Rattle.er_program.specs.Answers.{bits_answer};
 ghost use Rattle.er_program.specs.BitTexts.{verdict_words, verdict_lines, counts_line};
 ghost use Rattle.er_program.specs.BitWriting.{found_count, Tells, EndsBits};
 ghost use Rattle.er_program.specs.Commands.{Bits};
-ghost use Rattle.er_program.specs.Writing.{Gives, Ends};
+ghost use Rattle.er_statuses.specs.Writing.{Gives};
+ghost use Rattle.er_program.specs.Writing.{Ends};
 
-use crate::endings::{last, out_of_form, say, unfetched};
-use crate::status::Status;
-use crate::stop::Stop;
 use er_base::{NoMemory, PrintedWord, Why, put_line};
+use er_statuses::{Status, Stop, fetched, last, out_of_form, say};
 use hdlc_bits::laws::{frames_grow, nothing_is_read, reading_goes_on};
 use hdlc_bits::{BitDeframer, BitFound};
-use link_trait::{Cabinet, FetchFault, Sink};
+use link_trait::{Cabinet, Sink};
 use std::alloc::Global;
 
 /// The greatest number of octets that a recorded line may have (this profile).
@@ -150,9 +149,8 @@ pub fn bits_run<F: Cabinet, K: Sink>(
     ensures count { (F.state cabinet.old).faults ≤ (F.state cabinet.new).faults }
     ensures sink_count { (K.state sink.old).faults ≤ (K.state sink.new).faults }
 {
-    match cabinet.fetch(alloc, name) {
+    match fetched(alloc, name, cabinet, sink) {
         Ok(octets) => bits_file(alloc, octets.as_slice(), sink),
-        Err(FetchFault::Failed) => unfetched(alloc, name, sink),
-        Err(FetchFault::NoMemory(want)) => Err(Stop::NoMemory(want)),
+        Err(ended) => ended,
     }
 }

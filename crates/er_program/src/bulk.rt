@@ -10,16 +10,16 @@ ghost use Rattle.er_program.specs.Answers.{IsBulkAnswer};
 ghost use Rattle.er_program.specs.BulkTexts.{bulk_plan, steps_of_bulk, totals_line};
 ghost use Rattle.er_program.specs.BulkRuns.{AreDoable, DoesAll};
 ghost use Rattle.er_program.specs.KeyWriting.{GivesOne};
-ghost use Rattle.er_program.specs.Writing.{Gives};
+ghost use Rattle.er_statuses.specs.Writing.{Gives};
 
-use crate::endings::{last, not_done};
-use crate::status::Status;
-use crate::stop::Stop;
-use bulk_steps::steps;
+use crate::endings::not_done;
+use crate::message_count::MessageCount;
+use drill_bulk::steps;
 use er_base::PrintedWord::{Decimal, Plain};
 use er_base::{NoMemory, put_line};
 use er_scenario::{Level, Step};
 use er_settings::Settings;
+use er_statuses::{Status, Stop, last};
 use er_world::{Totals, World, WorldFault};
 use link_trait::Sink;
 use std::alloc::Global;
@@ -102,17 +102,20 @@ fn counted<K: Sink>(
 
 // The steps of a bulk run, which are opaque above.
 #[tactic(auto, unfolding(crate::specs::BulkTexts::steps_of_bulk))]
-fn drawn(alloc: Global, seed: u64, count: u32) -> Result<Vec<Step>, NoMemory>
-    requires { count ≤ 10000 }
+fn drawn(alloc: Global, seed: u64, count: MessageCount) -> Result<Vec<Step>, NoMemory>
     ensures steps { IfOk result (λ steps. steps.items ≡ steps_of_bulk seed count) }
     ensures doable { IfOk result (λ steps. AreDoable bulk_plan.level steps.items) }
 {
-    steps(alloc, seed, count)
+    steps(alloc, seed, count.get())
 }
 
 /// `bulk SEED COUNT`: does the steps of a bulk run, and prints their totals.
-pub fn bulk_run<K: Sink>(alloc: Global, seed: u64, count: u32, sink: &mut K) -> Result<Status, Stop>
-    requires { count ≤ 10000 }
+pub fn bulk_run<K: Sink>(
+    alloc: Global,
+    seed: u64,
+    count: MessageCount,
+    sink: &mut K,
+) -> Result<Status, Stop>
     ensures ends { GivesOne (IsBulkAnswer seed count) (K.state sink.old).held (K.state sink.new).held (K.state sink.old).faults
         (K.state sink.new).faults result }
     ensures sink_count { (K.state sink.old).faults ≤ (K.state sink.new).faults }
@@ -121,7 +124,7 @@ pub fn bulk_run<K: Sink>(alloc: Global, seed: u64, count: u32, sink: &mut K) -> 
     let steps = drawn(alloc, seed, count)?;
     let mut world = World::new(alloc, Level::Full, Settings::usual(), false)?;
     match do_all(alloc, steps.as_slice(), &mut world) {
-        Ok(()) => counted(alloc, seed, count, &world.totals(), sink),
+        Ok(()) => counted(alloc, seed, count.get(), &world.totals(), sink),
         Err(fault) => not_done(alloc, 0, fault, sink),
     }
 }

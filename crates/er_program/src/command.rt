@@ -1,20 +1,18 @@
 //! The commands of the program, and the words that fit them.
 
-ghost use Rattle.std.specs.Prelude.{◌≡◌, ◌≤◌, ◌<◌, IfSome};
+ghost use Rattle.std.specs.Prelude.{◌≡◌, ◌≤◌, IfSome};
 ghost use Rattle.er_program.specs.Commands.{command_of, command_of_two, bulk_of, command_of_three, at_most, etcs_number, turns_number, serve_of, command_of_five, call_of, command_of_six, needs_wires, texts};
-ghost use Rattle.er_program.specs.CommandViews.{command_view, IsInRange};
+ghost use Rattle.er_program.specs.CommandViews.{command_view};
 
-use bulk_steps::MOST_MESSAGES;
-use er_base::decimal;
+use crate::message_count::MessageCount;
+use drill_bulk::MOST_MESSAGES;
+use er_base::{EtcsNumber, MOST_ETCS_NUMBER, decimal};
 
 /// The most turns that a loop can be asked for (this profile).
 const MOST_TURNS: u64 = 1_000_000_000;
 
 /// The turns of a loop without a bound: more than can ever be done.
 const NO_BOUND: u64 = u64::MAX;
-
-/// The greatest ETCS number.
-const MOST_ETCS_NUMBER: u64 = 16_777_215;
 
 /// A command, as the words of the program spell it.
 #[derive(Clone, Copy)]
@@ -55,7 +53,7 @@ pub enum Command<'a> {
         /// The seed of what is drawn.
         seed: u64,
         /// The number of messages.
-        count: u32,
+        count: MessageCount,
     },
     /// `serve KEYS ADDRESS RBC TURNS`.
     Serve {
@@ -64,7 +62,7 @@ pub enum Command<'a> {
         /// The address to listen at.
         address: &'a str,
         /// The radio block centre.
-        rbc: u32,
+        rbc: EtcsNumber,
         /// How many turns are done at the most: to 10^9, or 2^64 - 1 where no bound was asked for.
         turns: u64,
     },
@@ -75,9 +73,9 @@ pub enum Command<'a> {
         /// The address to dial.
         address: &'a str,
         /// The engine that calls.
-        engine: u32,
+        engine: EtcsNumber,
         /// The radio block centre that is called.
-        rbc: u32,
+        rbc: EtcsNumber,
         /// How many turns are done at the most: to 10^9, or 2^64 - 1 where no bound was asked for.
         turns: u64,
     },
@@ -102,8 +100,7 @@ impl Command<'_> {
 }
 
 fn command_of_two<'a>(command: &str, name: &'a str) -> Command<'a>
-    ensures fits { command_view result ≡ command_of_two command.now name.now }
-    ensures range { IsInRange (command_view result) }
+    ensures { command_view result ≡ command_of_two command.now name.now }
 {
     if command == "drill" {
         Command::Drill { name }
@@ -117,8 +114,7 @@ fn command_of_two<'a>(command: &str, name: &'a str) -> Command<'a>
 }
 
 fn bulk_of<'a>(seed: Option<u64>, count: Option<u64>) -> Command<'a>
-    ensures fits { command_view result ≡ bulk_of seed count }
-    ensures range { IsInRange (command_view result) }
+    ensures { command_view result ≡ bulk_of seed count }
 {
     let Some(seed) = seed else {
         return Command::Misused;
@@ -131,13 +127,12 @@ fn bulk_of<'a>(seed: Option<u64>, count: Option<u64>) -> Command<'a>
     }
     Command::Bulk {
         seed,
-        count: count as u32,
+        count: MessageCount::new(count as u32),
     }
 }
 
 fn command_of_three<'a>(command: &str, first: &'a str, second: &'a str) -> Command<'a>
-    ensures fits { command_view result ≡ command_of_three command.now first.now second.now }
-    ensures range { IsInRange (command_view result) }
+    ensures { command_view result ≡ command_of_three command.now first.now second.now }
 {
     if command == "replay" {
         Command::Replay {
@@ -164,12 +159,11 @@ fn at_most(most: u64, number: Option<u64>) -> Option<u64>
     if number <= most { Some(number) } else { None }
 }
 
-fn etcs_number(word: &str) -> Option<u32>
-    ensures fits { result ≡ etcs_number word.now }
-    ensures range { IfSome result (λ n. n < 16777216) }
+fn etcs_number(word: &str) -> Option<EtcsNumber>
+    ensures { result ≡ etcs_number word.now }
 {
-    match at_most(MOST_ETCS_NUMBER, decimal(word.as_bytes())) {
-        Some(number) => Some(number as u32),
+    match at_most(MOST_ETCS_NUMBER as u64, decimal(word.as_bytes())) {
+        Some(number) => Some(EtcsNumber::new(number as u32)),
         None => None,
     }
 }
@@ -186,12 +180,10 @@ fn turns_number(word: &str) -> Option<u64>
 fn serve_of<'a>(
     keys: &'a str,
     address: &'a str,
-    rbc: Option<u32>,
+    rbc: Option<EtcsNumber>,
     turns: Option<u64>,
 ) -> Command<'a>
-    requires rbc { IfSome rbc (λ n. n < 16777216) }
-    ensures fits { command_view result ≡ serve_of keys.now address.now rbc turns }
-    ensures range { IsInRange (command_view result) }
+    ensures { command_view result ≡ serve_of keys.now address.now rbc turns }
 {
     let Some(rbc) = rbc else {
         return Command::Misused;
@@ -214,8 +206,7 @@ fn command_of_five<'a>(
     rbc: &str,
     turns: &str,
 ) -> Command<'a>
-    ensures fits { command_view result ≡ command_of_five command.now keys.now address.now rbc.now turns.now }
-    ensures range { IsInRange (command_view result) }
+    ensures { command_view result ≡ command_of_five command.now keys.now address.now rbc.now turns.now }
 {
     if command == "serve" {
         serve_of(keys, address, etcs_number(rbc), turns_number(turns))
@@ -227,14 +218,11 @@ fn command_of_five<'a>(
 fn call_of<'a>(
     keys: &'a str,
     address: &'a str,
-    engine: Option<u32>,
-    rbc: Option<u32>,
+    engine: Option<EtcsNumber>,
+    rbc: Option<EtcsNumber>,
     turns: Option<u64>,
 ) -> Command<'a>
-    requires engine { IfSome engine (λ n. n < 16777216) }
-    requires rbc { IfSome rbc (λ n. n < 16777216) }
-    ensures fits { command_view result ≡ call_of keys.now address.now engine rbc turns }
-    ensures range { IsInRange (command_view result) }
+    ensures { command_view result ≡ call_of keys.now address.now engine rbc turns }
 {
     let Some(engine) = engine else {
         return Command::Misused;
@@ -262,8 +250,7 @@ fn command_of_six<'a>(
     rbc: &str,
     turns: &str,
 ) -> Command<'a>
-    ensures fits { command_view result ≡ command_of_six command.now keys.now address.now engine.now rbc.now turns.now }
-    ensures range { IsInRange (command_view result) }
+    ensures { command_view result ≡ command_of_six command.now keys.now address.now engine.now rbc.now turns.now }
 {
     if command == "call" {
         call_of(
@@ -280,8 +267,7 @@ fn command_of_six<'a>(
 
 /// The command that these words fit. They leave out the program's name.
 pub fn command_from(words: &[String]) -> Command<'_>
-    ensures fits { command_view result ≡ command_of (texts words.now) }
-    ensures range { IsInRange (command_view result) }
+    ensures { command_view result ≡ command_of (texts words.now) }
 {
     match words {
         [command, name] => command_of_two(command.as_str(), name.as_str()),

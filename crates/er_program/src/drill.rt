@@ -8,11 +8,10 @@ ghost use Rattle.drill_model.specs.Worlds.{Plan};
 ghost use Rattle.er_world.specs.Standing.{Ran};
 ghost use Rattle.er_program.specs.Writing.{Drills, StepsOne};
 
-use crate::endings::{closed, not_done, say};
+use crate::endings::{closed, not_done};
 use crate::halt::Halt;
-use crate::status::Status;
-use crate::stop::Stop;
 use er_scenario::{Scenario, Step};
+use er_statuses::{Status, Stop, say};
 use er_world::World;
 use link_trait::Sink;
 use std::alloc::Global;

@@ -1,4 +1,5 @@
-// The files of the file system.
+//! The files of the file system.
+
 ghost use Rattle.std.specs.Prelude.{◌≡◌, ◌≤◌, ◌-◌, ◌^◌, IfOk, IfSome, None, vec_len};
 ghost use Rattle.link_trait.specs.Outside.{faults_after_fetch};
 ghost use Rattle.er_program.specs.FileFaults.{IsFaultOf};

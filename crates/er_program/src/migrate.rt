@@ -8,12 +8,9 @@ ghost use Rattle.er_program.specs.Commands.{Migrate};
 ghost use Rattle.er_program.specs.KeyWriting.{GivesOne};
 ghost use Rattle.er_program.specs.Writing.{Ends};
 
-use crate::endings::{last, unfetched};
-use crate::key_lines::keys_refused;
-use crate::status::Status;
-use crate::stop::Stop;
+use er_statuses::{Status, Stop, fetched, keys_refused, last};
 use key_store::KeyStore;
-use link_trait::{Cabinet, FetchFault, Sink};
+use link_trait::{Cabinet, Sink};
 use std::alloc::Global;
 
 // Prints the entries of a store.
@@ -53,9 +50,8 @@ pub fn migrate_run<F: Cabinet, K: Sink>(
     ensures count { (F.state cabinet.old).faults ≤ (F.state cabinet.new).faults }
     ensures sink_count { (K.state sink.old).faults ≤ (K.state sink.new).faults }
 {
-    match cabinet.fetch(alloc, name) {
+    match fetched(alloc, name, cabinet, sink) {
         Ok(octets) => migrate_file(alloc, octets.as_slice(), sink),
-        Err(FetchFault::Failed) => unfetched(alloc, name, sink),
-        Err(FetchFault::NoMemory(want)) => Err(Stop::NoMemory(want)),
+        Err(ended) => ended,
     }
 }

@@ -6,22 +6,19 @@ ghost use Rattle.er_trace.specs.Files.{trace_of};
 ghost use Rattle.er_trace.specs.Texts.{CanBeRead};
 ghost use Rattle.key_store.specs.KeyFiles.{keys_of};
 ghost use Rattle.link_trait.specs.Outside.{Grew, GrewPart, Kept};
-ghost use Rattle.er_program.specs.LastLines.{fault_line};
+ghost use Rattle.er_statuses.specs.LastLines.{fault_line};
 ghost use Rattle.er_program.specs.Answers.{IsReplayAnswer, IsTraceAnswer, IsTraceFileAnswer, IsAnswerBehindKeys};
 ghost use Rattle.er_program.specs.Asking.{Asks, AsksLast, AsksBehindKeys};
 ghost use Rattle.er_program.specs.Commands.{Replay};
 ghost use Rattle.er_program.specs.ReplayWriting.{EndsOne, BeginsEvents, BeginsTrace, BeginsTraceFile, BeginsBehindKeys, TellsRefusal};
-ghost use Rattle.er_program.specs.Writing.{Gives, Ends};
+ghost use Rattle.er_statuses.specs.Writing.{Gives};
+ghost use Rattle.er_program.specs.Writing.{Ends};
 
-use crate::endings::{last, out_of_form, unfetched};
-use crate::key_lines::keys_refused;
-use crate::last_lines::fault_line;
-use crate::status::Status;
-use crate::stop::Stop;
 use er_base::TextFault;
+use er_statuses::{Status, Stop, fault_line, fetched, keys_refused, last, out_of_form};
 use er_trace::{Trace, read};
 use key_store::KeyStore;
-use link_trait::{Cabinet, FetchFault, Sink};
+use link_trait::{Cabinet, Sink};
 use std::alloc::Global;
 use trace_replay::{ReplayFault, replay};
 
@@ -107,10 +104,9 @@ fn replay_trace<F: Cabinet, K: Sink>(
     ensures count { (F.state cabinet.old).faults ≤ (F.state cabinet.new).faults }
     ensures sink_count { (K.state sink.old).faults ≤ (K.state sink.new).faults }
 {
-    match cabinet.fetch(alloc, name) {
+    match fetched(alloc, name, cabinet, sink) {
         Ok(octets) => replay_file(alloc, store, octets.as_slice(), sink),
-        Err(FetchFault::Failed) => unfetched(alloc, name, sink),
-        Err(FetchFault::NoMemory(want)) => Err(Stop::NoMemory(want)),
+        Err(ended) => ended,
     }
 }
 
@@ -155,9 +151,8 @@ pub fn replay_run<F: Cabinet, K: Sink>(
     ensures count { (F.state cabinet.old).faults ≤ (F.state cabinet.new).faults }
     ensures sink_count { (K.state sink.old).faults ≤ (K.state sink.new).faults }
 {
-    match cabinet.fetch(alloc, keys) {
+    match fetched(alloc, keys, cabinet, sink) {
         Ok(octets) => replay_with(alloc, octets.as_slice(), trace, cabinet, sink),
-        Err(FetchFault::Failed) => unfetched(alloc, keys, sink),
-        Err(FetchFault::NoMemory(want)) => Err(Stop::NoMemory(want)),
+        Err(ended) => ended,
     }
 }

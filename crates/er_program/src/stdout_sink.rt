@@ -1,4 +1,5 @@
-// The standard output, or any other writer, as a sink.
+//! The standard output, or any other writer, as a sink.
+
 ghost use Rattle.std.specs.Prelude.{◌≡◌, ◌≤◌, ◌-◌, ◌^◌, length, take, None};
 ghost use Rattle.std.specs.Io.KnownBytes.{Appends};
 ghost use Rattle.link_trait.specs.Outside.{faults_after_write};

@@ -5,33 +5,26 @@ ghost use Rattle.er_scenario.specs.Files.{scenario_of};
 ghost use Rattle.link_trait.specs.Outside.{Grew, GrewPart, Kept};
 ghost use Rattle.er_program.specs.Asking.{Asks};
 ghost use Rattle.er_program.specs.Commands.{Drill, command_of, names_of, needs_wires, texts};
-ghost use Rattle.er_program.specs.CommandViews.{command_view, IsInRange};
+ghost use Rattle.er_program.specs.CommandViews.{command_view};
 ghost use Rattle.er_program.specs.FileMeans.{FileMeans};
-ghost use Rattle.er_program.specs.LineRuns.{Given, given, key_file_of};
-ghost use Rattle.er_program.specs.LineWriting.{LineEnds};
-ghost use Rattle.er_program.specs.Outsides.{Traffic, outside_of, beside, IsSteady};
-ghost use Rattle.er_program.specs.OutsideViews.{AsksOne};
+ghost use Rattle.er_serving.specs.LineRuns.{Given, given};
+ghost use Rattle.er_serving.specs.Outsides.{Traffic, outside_of, beside, IsSteady};
 ghost use Rattle.er_program.specs.Statuses.{IsStatusOf, Means, IsIdle, AreAsked, IsComplete, IsRun};
 ghost use Rattle.er_program.specs.Writing.{EndsFile, Ends};
 
 use crate::audit::audit_run;
 use crate::bits::bits_run;
 use crate::bulk::bulk_run;
-use crate::calling::call_run;
 use crate::command::{Command, command_from};
 use crate::drill::drill;
-use crate::endings::{misused, out_of_form, out_of_memory, unfetched};
 use crate::migrate::migrate_run;
-use crate::outside::Outside;
-use crate::pair::Pair;
 use crate::replay::replay_run;
-use crate::serving::serve_run;
-use crate::status::Status;
-use crate::stop::Stop;
 use er_base::TextFault;
 use er_scenario::read;
+use er_serving::{LineCommand, Outside, run_on_line};
+use er_statuses::{Status, Stop, fetched, misused, out_of_form, out_of_memory};
 use er_users::SafeUser;
-use link_trait::{Cabinet, Clock, FetchFault, Sink, Wires};
+use link_trait::{Cabinet, Clock, Sink, Wires};
 use rand_core::Rng;
 use std::alloc::Global;
 
@@ -62,10 +55,9 @@ fn drill_run<F: Cabinet, K: Sink>(
     ensures count { (F.state cabinet.old).faults ≤ (F.state cabinet.new).faults }
     ensures sink_count { (K.state sink.old).faults ≤ (K.state sink.new).faults }
 {
-    match cabinet.fetch(alloc, name) {
+    match fetched(alloc, name, cabinet, sink) {
         Ok(octets) => drill_file(alloc, octets.as_slice(), sink),
-        Err(FetchFault::Failed) => unfetched(alloc, name, sink),
-        Err(FetchFault::NoMemory(want)) => Err(Stop::NoMemory(want)),
+        Err(ended) => ended,
     }
 }
 
@@ -77,7 +69,6 @@ fn answered<F: Cabinet, K: Sink>(
     sink: &mut K,
 ) -> Result<Status, Stop>
     requires off_line { needs_wires (command_view command.now) ≡ false }
-    requires range { IsInRange (command_view command.now) }
     ensures ends { Ends (command_view command.now) (F.state cabinet.new).files (F.state cabinet.old).faults (F.state cabinet.new).faults
         (K.state sink.old).held (K.state sink.new).held (K.state sink.old).faults (K.state sink.new).faults result }
     ensures asks { IfOk result (λ s. Asks (command_view command.now) s.0 (F.state cabinet.old).asked (F.state cabinet.new).asked
@@ -107,7 +98,6 @@ fn ran<F: Cabinet, K: Sink>(
     sink: &mut K,
 ) -> Status
     requires off_line { needs_wires (command_view command.now) ≡ false }
-    requires range { IsInRange (command_view command.now) }
     ensures means { FileMeans (command_view command.now) (F.state cabinet.new).files (F.state cabinet.old).asked (F.state cabinet.new).asked
         (F.state cabinet.old).faults (F.state cabinet.new).faults (K.state sink.old).faults (K.state sink.new).faults (K.state sink.old).held (K.state sink.new).held result.0 }
     ensures asked { result.0 ≢ 2 → result.0 ≢ 4 → result.0 ≢ 5 → result.0 ≢ 7
@@ -117,16 +107,7 @@ fn ran<F: Cabinet, K: Sink>(
     ensures count { (F.state cabinet.old).faults ≤ (F.state cabinet.new).faults }
     ensures sink_count { (K.state sink.old).faults ≤ (K.state sink.new).faults }
 {
-    drill_laws::laws::worlds();
-    drill_laws::laws::steps();
-    drill_laws::laws::lawful();
-    drill_laws::laws::heard();
-    drill_laws::laws::takes();
-    drill_laws::laws::in_order();
-    drill_laws::laws::losing_line_reasons();
-    drill_laws::laws::order_is_unforged();
-    drill_laws::laws::delivery();
-    drill_laws::laws::recovery();
+    drill_laws::laws::holds();
     match answered(alloc, command, cabinet, sink) {
         Ok(status) => status,
         Err(Stop::Sink) => Status(5),
@@ -142,7 +123,6 @@ pub fn run_off_line<F: Cabinet, K: Sink>(
     sink: &mut K,
 ) -> Status
     requires off_line { needs_wires (command_view command.now) ≡ false }
-    requires range { IsInRange (command_view command.now) }
     // Whatever wires, clock and random words there are beside its cabinet and sink, they are left alone.
     ensures run { (g : Given) (rest : Traffic) → IsRun (command_view command.now) g (beside rest F.Cabinet K.Sink cabinet.old sink.old)
         (beside rest F.Cabinet K.Sink cabinet.new sink.new) result.0 }
@@ -150,18 +130,17 @@ pub fn run_off_line<F: Cabinet, K: Sink>(
     ran(alloc, command, cabinet, sink)
 }
 
-// What `serve` or `call` asks for, done and answered, or why it broke off.
-fn line_answered<F: Cabinet, K: Sink, W: Wires, C: Clock, R: Rng>(
+// What `serve` or `call` asks for.
+fn ran_on_line<F: Cabinet, K: Sink, W: Wires, C: Clock, R: Rng>(
     alloc: Global,
     command: &Command<'_>,
     users: Vec<Box<dyn SafeUser>>,
     outside: &mut Outside<F, K, W, C, R>,
-) -> Result<Status, Stop>
+) -> Status
     requires on_line { needs_wires (command_view command.now) ≡ true }
-    requires range { IsInRange (command_view command.now) }
-    ensures ends { LineEnds (command_view command.now) (given (length users.items) (map mind users.items) (R.stream outside.old.randoms)) outside.old.seen outside.new.seen
-        result }
-    ensures asks { AsksOne (key_file_of (command_view command.now)) outside.old outside.new result }
+    ensures run { IsRun (command_view command.now) (given (length users.items) (map mind users.items) (R.stream outside.old.randoms)) outside.old.seen outside.new.seen
+        result.0 }
+    ensures names { outside.new.names ≡ outside.old.names }
 {
     match *command {
         Command::Serve {
@@ -169,22 +148,31 @@ fn line_answered<F: Cabinet, K: Sink, W: Wires, C: Clock, R: Rng>(
             address,
             rbc,
             turns,
-        } => serve_run(alloc, keys, address, rbc, turns, users, outside),
+        } => {
+            let line = LineCommand::Serve {
+                keys,
+                address,
+                rbc,
+                turns,
+            };
+            run_on_line(alloc, &line, users, outside)
+        }
         Command::Call {
             keys,
             address,
             engine,
             rbc,
             turns,
-        } => call_run(
-            alloc,
-            keys,
-            Pair { engine, rbc },
-            address,
-            turns,
-            users,
-            outside,
-        ),
+        } => {
+            let line = LineCommand::Call {
+                keys,
+                address,
+                engine,
+                rbc,
+                turns,
+            };
+            run_on_line(alloc, &line, users, outside)
+        }
         Command::Misused
         | Command::Drill { .. }
         | Command::Bits { .. }
@@ -195,26 +183,6 @@ fn line_answered<F: Cabinet, K: Sink, W: Wires, C: Clock, R: Rng>(
     }
 }
 
-// The same with its status, whatever it broke off for.
-fn line_ran<F: Cabinet, K: Sink, W: Wires, C: Clock, R: Rng>(
-    alloc: Global,
-    command: &Command<'_>,
-    users: Vec<Box<dyn SafeUser>>,
-    outside: &mut Outside<F, K, W, C, R>,
-) -> Status
-    requires on_line { needs_wires (command_view command.now) ≡ true }
-    requires range { IsInRange (command_view command.now) }
-    ensures run { IsRun (command_view command.now) (given (length users.items) (map mind users.items) (R.stream outside.old.randoms)) outside.old.seen outside.new.seen
-        result.0 }
-    ensures names { outside.new.names ≡ outside.old.names }
-{
-    match line_answered(alloc, command, users, outside) {
-        Ok(status) => status,
-        Err(Stop::Sink) => Status(5),
-        Err(Stop::NoMemory(want)) => out_of_memory(want, outside.sink),
-    }
-}
-
 // A command of the loop is run over wires, and any other without them.
 fn dispatched<F: Cabinet, K: Sink, W: Wires, C: Clock, R: Rng>(
     alloc: Global,
@@ -222,13 +190,12 @@ fn dispatched<F: Cabinet, K: Sink, W: Wires, C: Clock, R: Rng>(
     users: Vec<Box<dyn SafeUser>>,
     outside: &mut Outside<F, K, W, C, R>,
 ) -> Status
-    requires range { IsInRange (command_view command.now) }
     ensures run { IsRun (command_view command.now) (given (length users.items) (map mind users.items) (R.stream outside.old.randoms)) outside.old.seen outside.new.seen
         result.0 }
     ensures names { outside.new.names ≡ outside.old.names }
 {
     if command.needs_wires() {
-        line_ran(alloc, command, users, outside)
+        ran_on_line(alloc, command, users, outside)
     } else {
         run_off_line(alloc, command, outside.cabinet, outside.sink)
     }

@@ -1,5 +1,6 @@
 pub mod KeptLines
 pub mod BodyLines
+pub mod SaidSteps
 pub mod LineTexts
 pub mod PrintedArguments
 pub mod PrintedSteps

@@ -6,7 +6,7 @@ use Rattle.std.proofs.lemmas.Fmt.{decimal_digit}
 use Rattle.er_base.specs.LineTexts.{IsSolid, AreLines, rows_from}
 use Rattle.er_base.specs.Numbers.{decimal_of}
 use Rattle.er_settings.specs.declared.setting_name.SettingName.TheVariants.{Window, Credit, Size, T1, N2, Setup}
-use Rattle.er_settings.specs.declared.settings.Settings.{Settings}
+use Rattle.er_settings.specs.Values.{Settings}
 use Rattle.er_settings.specs.Laws.{AreBounded}
 use Rattle.er_settings.specs.Names.{setting_word}
 use Rattle.er_settings.specs.Ranges.{IsModulo, AllAllowed}

@@ -6,7 +6,7 @@ use Rattle.er_base.specs.declared.why.Why.{Why}
 use Rattle.er_base.specs.declared.why.Why.TheVariants.{Number, Value}
 use Rattle.er_base.specs.Arguments.{◌>>=◌, some_or}
 use Rattle.er_base.specs.Numbers.{decimal_of}
-use Rattle.er_settings.specs.declared.settings.Settings.{Settings}
+use Rattle.er_settings.specs.Values.{Settings}
 use Rattle.er_settings.specs.declared.setting_name.SettingName.{SettingName}
 use Rattle.er_settings.specs.declared.setting_name.SettingName.TheVariants.{Window, Credit, Size, T1, N2, Setup}
 use Rattle.er_settings.specs.Names.{setting_named}

@@ -7,7 +7,7 @@ use Rattle.er_base.specs.LineTexts.{lines_text}
 use Rattle.er_base.specs.Octets.{eight}
 use Rattle.er_base.specs.Sides.{side_word}
 use Rattle.des_block.specs.declared.triple_key.TripleKey.{TripleKey}
-use Rattle.er_settings.specs.declared.settings.Settings.{Settings}
+use Rattle.er_settings.specs.Values.{Settings}
 use Rattle.er_settings.specs.declared.setting_name.SettingName.TheVariants.{Window, Credit, Size, T1, N2, Setup}
 use Rattle.er_settings.specs.Names.{setting_word}
 use Rattle.er_settings.specs.Ranges.{AllAllowed}

@@ -1,20 +1,19 @@
 //! The arguments that drill files alone have.
 
-ghost use Rattle.std.specs.Prelude.{◌≡◌, ◌<◌, ◌≤◌, length, IfOk};
-ghost use Rattle.er_base.specs.Octets.{number_in};
+ghost use Rattle.std.specs.Prelude.{◌≡◌, ◌<◌, ◌≤◌, IfOk};
 ghost use Rattle.er_base.specs.Rows.{Gives};
 ghost use Rattle.er_scenario.specs.Table.{three_keys, key_argument, optional_key_argument, mask_from, mask_argument};
 ghost use Rattle.er_scenario.specs.StepRanges.{IsLink, IsEtcsNumber, IsKey, IsOptionalKey, IsText};
 ghost use Rattle.er_base.specs.Arguments.{number_argument, text_argument};
 
 use des_block::TripleKey;
-use er_base::{LineFault, Octets, Why, number_of, read_exact, read_number, read_text};
+use er_base::{
+    LineFault, MOST_ETCS_NUMBER, Octets, Why, number_of, read_exact, read_number, read_text,
+};
 use std::alloc::Global;
 
 /// The greatest link.
 const MOST_LINKS: u64 = 64;
-/// The greatest ETCS number.
-const GREATEST_NUMBER: u64 = 16_777_215;
 /// The most octets of a HEX word.
 const MOST_TEXT_OCTETS: usize = 4_096;
 /// The octets of three keys.
@@ -33,7 +32,7 @@ pub fn read_etcs_number(word: &[u8]) -> Result<u32, Why>
     ensures value { result ≡ number_argument 0 16777215 word.now }
     ensures range { IfOk result (λ n. IsEtcsNumber n) }
 {
-    Ok(read_number(word, 0, GREATEST_NUMBER)? as u32)
+    Ok(read_number(word, 0, MOST_ETCS_NUMBER as u64)? as u32)
 }
 
 /// The octets of a message or a frame, at most 4,096.
@@ -46,25 +45,18 @@ pub fn read_octets(alloc: Global, word: &[u8]) -> Result<Octets, LineFault>
 
 // Three keys of eight octets.
 #[tactic(auto, unfolding(crate::specs::Table::three_keys))]
-fn keys(octets: &[u8]) -> Result<TripleKey, Why>
-    requires { length octets.now ≡ 24 }
-    ensures value { result ≡ Ok (three_keys octets.now) }
-    ensures range { IfOk result (λ k. IsKey k) }
+fn keys(octets: &[u8; KEY_OCTETS]) -> TripleKey
+    ensures value { result ≡ three_keys octets.now }
+    ensures range { IsKey result }
 {
-    let Some((first, rest)) = octets.split_first_chunk::<8>() else {
-        return Err(Why::Hex);
-    };
-    let Some((second, rest)) = rest.split_first_chunk::<8>() else {
-        return Err(Why::Hex);
-    };
-    let Some((third, _)) = rest.split_first_chunk::<8>() else {
-        return Err(Why::Hex);
-    };
-    Ok(TripleKey {
+    let (first, rest) = octets.as_slice().split_first_chunk::<8>().unwrap();
+    let (second, rest) = rest.split_first_chunk::<8>().unwrap();
+    let (third, _) = rest.split_first_chunk::<8>().unwrap();
+    TripleKey {
         first: number_of(first),
         second: number_of(second),
         third: number_of(third),
-    })
+    }
 }
 
 /// Three keys, 48 hexadecimal digits.
@@ -74,7 +66,10 @@ pub fn read_key(alloc: Global, word: &[u8]) -> Result<TripleKey, LineFault>
     ensures range { IfOk result (λ k. IsKey k) }
 {
     let octets = read_exact(alloc, word, KEY_OCTETS)?;
-    Ok(keys(octets.as_slice())?)
+    let Some((octets, _)) = octets.as_slice().split_first_chunk::<KEY_OCTETS>() else {
+        return Err(LineFault::Refused(Why::Hex));
+    };
+    Ok(keys(octets))
 }
 
 /// Three keys, or `-` where there are none.

@@ -1,6 +1,6 @@
 //! The lines `set NAME VALUE`.
 
-ghost use Rattle.std.specs.Prelude.{◌≡◌, true, IfOk};
+ghost use Rattle.std.specs.Prelude.{◌≡◌, if◌then◌else◌, Some, None, IfOk};
 ghost use Rattle.er_settings.specs.Ranges.{AllAllowed};
 ghost use Rattle.er_scenario.specs.Choices.{choice_named, may_choose, IsNarrow, with_setting, with_choice, chosen_by, default_settings, default_choices};
 
@@ -44,17 +44,6 @@ impl ChoiceName {
             None => None,
         }
     }
-
-    // Whether it may have this value where these settings were chosen before.
-    fn allows(self, settings: &Settings, value: u64) -> bool
-        ensures { result ≡ may_choose settings.now self value }
-    {
-        match self {
-            ChoiceName::Modulo => (value == 8 && settings.window <= 7) || value == 128,
-            ChoiceName::Setting(name) => name.allows(settings.modulo, value),
-            ChoiceName::Show => value <= 1,
-        }
-    }
 }
 
 /// The settings at a level where no line chooses: with selective reject the window is 4.
@@ -82,15 +71,22 @@ pub fn defaults(level: Level) -> Choices
     }
 }
 
-// The settings with one value changed.
-fn changed(settings: &Settings, name: SettingName, value: u64) -> Settings
-    requires allowed { AllAllowed settings.now }
-    requires may { may_choose settings.now (ChoiceName.Setting name) value ≡ true }
-    ensures value { result ≡ with_setting settings.now name value }
-    ensures allowed { AllAllowed result }
+// Whether links of these settings may have this modulo.
+fn may_be_modulo(settings: &Settings, value: u64) -> bool
+    ensures { result ≡ may_choose settings.now ChoiceName.Modulo value }
 {
+    (value == 8 && settings.window <= 7) || value == 128
+}
+
+// The settings with one value changed, where the setting may have it.
+fn changed(settings: &Settings, name: SettingName, value: u64) -> Option<Settings>
+    ensures { result ≡ (if may_choose settings.now (ChoiceName.Setting name) value then Some (with_setting settings.now name value) else None) }
+{
+    if !name.allows(settings.modulo, value) {
+        return None;
+    }
     let settings = *settings;
-    match name {
+    Some(match name {
         SettingName::Window => Settings {
             window: value as u8,
             ..settings
@@ -115,40 +111,44 @@ fn changed(settings: &Settings, name: SettingName, value: u64) -> Settings
             setup: value,
             ..settings
         },
-    }
+    })
 }
 
-// The choices with one changed.
-fn with(choices: &Choices, name: ChoiceName, value: u64) -> Choices
-    requires allowed { AllAllowed choices.now.settings }
-    requires may { may_choose choices.now.settings name value ≡ true }
-    ensures value { result ≡ with_choice choices.now name value }
-    ensures allowed { AllAllowed result.settings }
+// The choices with one changed, where it may be chosen so.
+fn with(choices: &Choices, name: ChoiceName, value: u64) -> Option<Choices>
+    ensures { result ≡ (if may_choose choices.now.settings name value then Some (with_choice choices.now name value) else None) }
 {
     let Choices { settings, show } = *choices;
     match name {
-        ChoiceName::Modulo => Choices {
-            settings: Settings {
+        ChoiceName::Modulo => {
+            if !may_be_modulo(&settings, value) {
+                return None;
+            }
+            let settings = Settings {
                 modulo: value as u8,
                 ..settings
-            },
-            show,
-        },
-        ChoiceName::Setting(name) => Choices {
-            settings: changed(&settings, name, value),
-            show,
-        },
-        ChoiceName::Show => Choices {
-            settings,
-            show: value == 1,
-        },
+            };
+            Some(Choices { settings, show })
+        }
+        ChoiceName::Setting(name) => {
+            let settings = changed(&settings, name, value)?;
+            Some(Choices { settings, show })
+        }
+        ChoiceName::Show => {
+            if value > 1 {
+                return None;
+            }
+            Some(Choices {
+                settings,
+                show: value == 1,
+            })
+        }
     }
 }
 
 /// The choices at a level after one more `set` line, from its NAME and VALUE.
 #[tactic(auto, unfolding(crate::specs::Choices::chosen_by))]
 pub fn choose(level: Level, choices: &Choices, name: &[u8], value: &[u8]) -> Result<Choices, Why>
-    requires { AllAllowed choices.now.settings }
     ensures value { result ≡ chosen_by level choices.now name.now value.now }
     ensures allowed { IfOk result (λ made. AllAllowed made.settings) }
     ensures narrow { IfOk result (λ made. IsNarrow level made.settings) }
@@ -159,10 +159,9 @@ pub fn choose(level: Level, choices: &Choices, name: &[u8], value: &[u8]) -> Res
     let Some(value) = decimal(value) else {
         return Err(Why::Number);
     };
-    if !name.allows(&choices.settings, value) {
+    let Some(made) = with(choices, name, value) else {
         return Err(Why::Value);
-    }
-    let made = with(choices, name, value);
+    };
     if !level.allows(&made.settings) {
         return Err(Why::Value);
     }

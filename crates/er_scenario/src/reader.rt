@@ -1,6 +1,7 @@
 //! Reads a drill file, line by line.
 
-ghost use Rattle.std.specs.Prelude.{◌≡◌, ◌≤◌, ◌+◌, false, length, map, IfOk};
+ghost use Rattle.std.specs.Prelude.{◌≡◌, ◌≤◌, ◌+◌, false, length, map, codes, IfOk};
+ghost use Rattle.std.specs.Str.{bytes_eq};
 ghost use Rattle.er_base.specs.Lines.{lines_of, rows_of};
 ghost use Rattle.er_base.specs.Rows.{Gives};
 ghost use Rattle.er_settings.specs.Ranges.{AllAllowed};
@@ -34,6 +35,13 @@ fn at(line: usize, fault: LineFault) -> TextFault
     }
 }
 
+// Whether a line that this word begins chooses settings.
+fn is_set(word: &[u8]) -> bool
+    ensures { result ≡ bytes_eq word.now (codes "set") }
+{
+    word == b"set".as_slice()
+}
+
 // What a line behind the header says, from its words.
 #[tactic(auto, unfolding(crate::specs::Files::line_says))]
 fn read_line(
@@ -43,14 +51,13 @@ fn read_line(
     choices: &Choices,
     words: &[&[u8]],
 ) -> Result<Said, LineFault>
-    requires { AllAllowed choices.now.settings }
     ensures said { Gives result (line_says level is_late choices.now (map (λ w. w.now) words.now)) }
     ensures range { IfOk result (λ said. IsWellSaid level said) }
 {
     let Some((first, arguments)) = words.split_first() else {
         return Err(LineFault::Refused(Why::Word));
     };
-    if *first == b"set".as_slice() {
+    if is_set(first) {
         let [name, value] = arguments else {
             return Err(LineFault::Refused(Why::Count));
         };
@@ -62,13 +69,7 @@ fn read_line(
     let Some(name) = StepName::named(first) else {
         return Err(LineFault::Refused(Why::Word));
     };
-    if arguments.len() != name.arguments() {
-        return Err(LineFault::Refused(Why::Count));
-    }
-    if !name.is_of(level) {
-        return Err(LineFault::Refused(Why::Level));
-    }
-    Ok(Said::Does(read_step(alloc, name, arguments)?))
+    Ok(Said::Does(read_step(alloc, level, name, arguments)?))
 }
 
 // The scenario of the lines behind the header, whose number is `header`.

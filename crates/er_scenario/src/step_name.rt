@@ -1,7 +1,10 @@
-ghost use Rattle.std.specs.Prelude.{◌≡◌, length};
-ghost use Rattle.er_scenario.specs.Table.{step_word, step_named, kinds_of, levels_of, has_level};
+ghost use Rattle.std.specs.Prelude.{◌≡◌};
+ghost use Rattle.er_base.specs.declared.why.Why.TheVariants as why;
+ghost use Rattle.er_base.specs.LineFaults.{demand};
+ghost use Rattle.er_scenario.specs.Table.{step_word, step_named, levels_of, has_level};
 
 use crate::level::Level;
+use er_base::Why;
 
 /// The lines of a drill file that are steps.
 #[derive(Clone, Copy, Debug, PartialEq, Eq)]
@@ -83,23 +86,8 @@ impl StepName {
         ALL_STEPS.iter().copied().find(|name| word == name.word())
     }
 
-    /// How many words stand behind the first one.
-    pub fn arguments(self) -> usize
-        ensures { result ≡ length (kinds_of self) }
-    {
-        match self {
-            StepName::Wire | StepName::Tick => 1,
-            StepName::Pass | StepName::Lose | StepName::Repeat => 2,
-            StepName::Take | StepName::Drain => 2,
-            StepName::Send | StepName::Put | StepName::Release => 3,
-            StepName::Alter | StepName::Copy => 4,
-            StepName::Fixed => 5,
-            StepName::Link => 7,
-        }
-    }
-
-    /// Whether the line is one of a level.
-    pub fn is_of(self, level: Level) -> bool
+    // Whether the line is one of a level.
+    fn is_of(self, level: Level) -> bool
         ensures { result ≡ has_level (levels_of self) level }
     {
         match self {
@@ -111,6 +99,17 @@ impl StepName {
             StepName::Send | StepName::Pass | StepName::Lose | StepName::Repeat => true,
             StepName::Alter | StepName::Put | StepName::Copy => true,
             StepName::Release | StepName::Drain => true,
+        }
+    }
+
+    /// `Level` where the line isn't one of this level.
+    pub fn check(self, level: Level) -> Result<(), Why>
+        ensures { result ≡ demand (has_level (levels_of self) level) why.Level }
+    {
+        if self.is_of(level) {
+            Ok(())
+        } else {
+            Err(Why::Level)
         }
     }
 }

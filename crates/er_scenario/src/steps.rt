@@ -1,31 +1,30 @@
-//! The lines that are steps: each reads the words behind its first one.
+//! The lines that are steps: each tests how many words stand behind its first one, and its level, and reads them.
 
-ghost use Rattle.std.specs.Prelude.{◌≡◌, length, map, IfOk};
+ghost use Rattle.std.specs.Prelude.{◌≡◌, map, IfOk};
 ghost use Rattle.er_base.specs.Rows.{Gives};
-ghost use Rattle.er_scenario.specs.Table.{kinds_of};
-ghost use Rattle.er_scenario.specs.Readings.{step_said, IsStepOf};
+ghost use Rattle.er_scenario.specs.Readings.{step_of};
+ghost use Rattle.er_scenario.specs.Texts.{IsReadable};
 
 use crate::arguments::{
     read_etcs_number, read_key, read_link, read_mask, read_octets, read_optional_key,
 };
+use crate::level::Level;
 use crate::step::Step;
 use crate::step_name::StepName;
-use er_base::{LineFault, Side, Why, read_number, read_number16, read_side};
+use er_base::{LineFault, MOST_MOMENT, Why, read_number, read_number16, read_side};
 use std::alloc::Global;
 
 /// The most passes of a drain.
 const MOST_PASSES: u64 = 100_000;
-/// The greatest moment.
-const GREATEST_MOMENT: u64 = 1_000_000_000_000_000;
 
-fn fixed(alloc: Global, words: &[&[u8]]) -> Result<Step, LineFault>
-    requires { length words.now ≡ 5 }
-    ensures step { Gives result (step_said StepName.Fixed (map (λ w. w.now) words.now)) }
-    ensures range { IfOk result (λ step. IsStepOf StepName.Fixed step) }
+fn fixed(alloc: Global, level: Level, words: &[&[u8]]) -> Result<Step, LineFault>
+    ensures step { Gives result (step_of level StepName.Fixed (map (λ w. w.now) words.now)) }
+    ensures range { IfOk result (λ step. IsReadable level step) }
 {
     let [link, engine, rbc, ke, kr] = words else {
         return Err(LineFault::Refused(Why::Count));
     };
+    StepName::Fixed.check(level)?;
     Ok(Step::Fixed {
         link: read_link(link)?,
         engine: read_etcs_number(engine)?,
@@ -35,14 +34,14 @@ fn fixed(alloc: Global, words: &[&[u8]]) -> Result<Step, LineFault>
     })
 }
 
-fn link(alloc: Global, words: &[&[u8]]) -> Result<Step, LineFault>
-    requires { length words.now ≡ 7 }
-    ensures step { Gives result (step_said StepName.Link (map (λ w. w.now) words.now)) }
-    ensures range { IfOk result (λ step. IsStepOf StepName.Link step) }
+fn link(alloc: Global, level: Level, words: &[&[u8]]) -> Result<Step, LineFault>
+    ensures step { Gives result (step_of level StepName.Link (map (λ w. w.now) words.now)) }
+    ensures range { IfOk result (λ step. IsReadable level step) }
 {
     let [link, engine, rbc, ke, kr, ra, rb] = words else {
         return Err(LineFault::Refused(Why::Count));
     };
+    StepName::Link.check(level)?;
     Ok(Step::Link {
         link: read_link(link)?,
         engine: read_etcs_number(engine)?,
@@ -54,27 +53,27 @@ fn link(alloc: Global, words: &[&[u8]]) -> Result<Step, LineFault>
     })
 }
 
-fn wire(words: &[&[u8]]) -> Result<Step, LineFault>
-    requires { length words.now ≡ 1 }
-    ensures step { Gives result (step_said StepName.Wire (map (λ w. w.now) words.now)) }
-    ensures range { IfOk result (λ step. IsStepOf StepName.Wire step) }
+fn wire(level: Level, words: &[&[u8]]) -> Result<Step, LineFault>
+    ensures step { Gives result (step_of level StepName.Wire (map (λ w. w.now) words.now)) }
+    ensures range { IfOk result (λ step. IsReadable level step) }
 {
     let [link] = words else {
         return Err(LineFault::Refused(Why::Count));
     };
+    StepName::Wire.check(level)?;
     Ok(Step::Wire {
         link: read_link(link)?,
     })
 }
 
-fn send(alloc: Global, words: &[&[u8]]) -> Result<Step, LineFault>
-    requires { length words.now ≡ 3 }
-    ensures step { Gives result (step_said StepName.Send (map (λ w. w.now) words.now)) }
-    ensures range { IfOk result (λ step. IsStepOf StepName.Send step) }
+fn send(alloc: Global, level: Level, words: &[&[u8]]) -> Result<Step, LineFault>
+    ensures step { Gives result (step_of level StepName.Send (map (λ w. w.now) words.now)) }
+    ensures range { IfOk result (λ step. IsReadable level step) }
 {
     let [link, side, text] = words else {
         return Err(LineFault::Refused(Why::Count));
     };
+    StepName::Send.check(level)?;
     Ok(Step::Send {
         link: read_link(link)?,
         side: read_side(side)?,
@@ -82,56 +81,56 @@ fn send(alloc: Global, words: &[&[u8]]) -> Result<Step, LineFault>
     })
 }
 
-fn pass(words: &[&[u8]]) -> Result<Step, LineFault>
-    requires { length words.now ≡ 2 }
-    ensures step { Gives result (step_said StepName.Pass (map (λ w. w.now) words.now)) }
-    ensures range { IfOk result (λ step. IsStepOf StepName.Pass step) }
+fn pass(level: Level, words: &[&[u8]]) -> Result<Step, LineFault>
+    ensures step { Gives result (step_of level StepName.Pass (map (λ w. w.now) words.now)) }
+    ensures range { IfOk result (λ step. IsReadable level step) }
 {
     let [link, side] = words else {
         return Err(LineFault::Refused(Why::Count));
     };
+    StepName::Pass.check(level)?;
     Ok(Step::Pass {
         link: read_link(link)?,
         side: read_side(side)?,
     })
 }
 
-fn lose(words: &[&[u8]]) -> Result<Step, LineFault>
-    requires { length words.now ≡ 2 }
-    ensures step { Gives result (step_said StepName.Lose (map (λ w. w.now) words.now)) }
-    ensures range { IfOk result (λ step. IsStepOf StepName.Lose step) }
+fn lose(level: Level, words: &[&[u8]]) -> Result<Step, LineFault>
+    ensures step { Gives result (step_of level StepName.Lose (map (λ w. w.now) words.now)) }
+    ensures range { IfOk result (λ step. IsReadable level step) }
 {
     let [link, side] = words else {
         return Err(LineFault::Refused(Why::Count));
     };
+    StepName::Lose.check(level)?;
     Ok(Step::Lose {
         link: read_link(link)?,
         side: read_side(side)?,
     })
 }
 
-fn repeat(words: &[&[u8]]) -> Result<Step, LineFault>
-    requires { length words.now ≡ 2 }
-    ensures step { Gives result (step_said StepName.Repeat (map (λ w. w.now) words.now)) }
-    ensures range { IfOk result (λ step. IsStepOf StepName.Repeat step) }
+fn repeat(level: Level, words: &[&[u8]]) -> Result<Step, LineFault>
+    ensures step { Gives result (step_of level StepName.Repeat (map (λ w. w.now) words.now)) }
+    ensures range { IfOk result (λ step. IsReadable level step) }
 {
     let [link, side] = words else {
         return Err(LineFault::Refused(Why::Count));
     };
+    StepName::Repeat.check(level)?;
     Ok(Step::Repeat {
         link: read_link(link)?,
         side: read_side(side)?,
     })
 }
 
-fn alter(alloc: Global, words: &[&[u8]]) -> Result<Step, LineFault>
-    requires { length words.now ≡ 4 }
-    ensures step { Gives result (step_said StepName.Alter (map (λ w. w.now) words.now)) }
-    ensures range { IfOk result (λ step. IsStepOf StepName.Alter step) }
+fn alter(alloc: Global, level: Level, words: &[&[u8]]) -> Result<Step, LineFault>
+    ensures step { Gives result (step_of level StepName.Alter (map (λ w. w.now) words.now)) }
+    ensures range { IfOk result (λ step. IsReadable level step) }
 {
     let [link, side, place, mask] = words else {
         return Err(LineFault::Refused(Why::Count));
     };
+    StepName::Alter.check(level)?;
     Ok(Step::Alter {
         link: read_link(link)?,
         side: read_side(side)?,
@@ -140,14 +139,14 @@ fn alter(alloc: Global, words: &[&[u8]]) -> Result<Step, LineFault>
     })
 }
 
-fn put(alloc: Global, words: &[&[u8]]) -> Result<Step, LineFault>
-    requires { length words.now ≡ 3 }
-    ensures step { Gives result (step_said StepName.Put (map (λ w. w.now) words.now)) }
-    ensures range { IfOk result (λ step. IsStepOf StepName.Put step) }
+fn put(alloc: Global, level: Level, words: &[&[u8]]) -> Result<Step, LineFault>
+    ensures step { Gives result (step_of level StepName.Put (map (λ w. w.now) words.now)) }
+    ensures range { IfOk result (λ step. IsReadable level step) }
 {
     let [link, side, text] = words else {
         return Err(LineFault::Refused(Why::Count));
     };
+    StepName::Put.check(level)?;
     Ok(Step::Put {
         link: read_link(link)?,
         side: read_side(side)?,
@@ -155,14 +154,14 @@ fn put(alloc: Global, words: &[&[u8]]) -> Result<Step, LineFault>
     })
 }
 
-fn copy(words: &[&[u8]]) -> Result<Step, LineFault>
-    requires { length words.now ≡ 4 }
-    ensures step { Gives result (step_said StepName.Copy (map (λ w. w.now) words.now)) }
-    ensures range { IfOk result (λ step. IsStepOf StepName.Copy step) }
+fn copy(level: Level, words: &[&[u8]]) -> Result<Step, LineFault>
+    ensures step { Gives result (step_of level StepName.Copy (map (λ w. w.now) words.now)) }
+    ensures range { IfOk result (λ step. IsReadable level step) }
 {
     let [link, side, to_link, to_side] = words else {
         return Err(LineFault::Refused(Why::Count));
     };
+    StepName::Copy.check(level)?;
     Ok(Step::Copy {
         link: read_link(link)?,
         side: read_side(side)?,
@@ -171,28 +170,28 @@ fn copy(words: &[&[u8]]) -> Result<Step, LineFault>
     })
 }
 
-fn take(words: &[&[u8]]) -> Result<Step, LineFault>
-    requires { length words.now ≡ 2 }
-    ensures step { Gives result (step_said StepName.Take (map (λ w. w.now) words.now)) }
-    ensures range { IfOk result (λ step. IsStepOf StepName.Take step) }
+fn take(level: Level, words: &[&[u8]]) -> Result<Step, LineFault>
+    ensures step { Gives result (step_of level StepName.Take (map (λ w. w.now) words.now)) }
+    ensures range { IfOk result (λ step. IsReadable level step) }
 {
     let [link, side] = words else {
         return Err(LineFault::Refused(Why::Count));
     };
+    StepName::Take.check(level)?;
     Ok(Step::Take {
         link: read_link(link)?,
         side: read_side(side)?,
     })
 }
 
-fn release(words: &[&[u8]]) -> Result<Step, LineFault>
-    requires { length words.now ≡ 3 }
-    ensures step { Gives result (step_said StepName.Release (map (λ w. w.now) words.now)) }
-    ensures range { IfOk result (λ step. IsStepOf StepName.Release step) }
+fn release(level: Level, words: &[&[u8]]) -> Result<Step, LineFault>
+    ensures step { Gives result (step_of level StepName.Release (map (λ w. w.now) words.now)) }
+    ensures range { IfOk result (λ step. IsReadable level step) }
 {
     let [link, side, sub] = words else {
         return Err(LineFault::Refused(Why::Count));
     };
+    StepName::Release.check(level)?;
     Ok(Step::Release {
         link: read_link(link)?,
         side: read_side(side)?,
@@ -200,53 +199,57 @@ fn release(words: &[&[u8]]) -> Result<Step, LineFault>
     })
 }
 
-fn tick(words: &[&[u8]]) -> Result<Step, LineFault>
-    requires { length words.now ≡ 1 }
-    ensures step { Gives result (step_said StepName.Tick (map (λ w. w.now) words.now)) }
-    ensures range { IfOk result (λ step. IsStepOf StepName.Tick step) }
+fn tick(level: Level, words: &[&[u8]]) -> Result<Step, LineFault>
+    ensures step { Gives result (step_of level StepName.Tick (map (λ w. w.now) words.now)) }
+    ensures range { IfOk result (λ step. IsReadable level step) }
 {
     let [moment] = words else {
         return Err(LineFault::Refused(Why::Count));
     };
+    StepName::Tick.check(level)?;
     Ok(Step::Tick {
-        moment: read_number(moment, 0, GREATEST_MOMENT)?,
+        moment: read_number(moment, 0, MOST_MOMENT)?,
     })
 }
 
-fn drain(words: &[&[u8]]) -> Result<Step, LineFault>
-    requires { length words.now ≡ 2 }
-    ensures step { Gives result (step_said StepName.Drain (map (λ w. w.now) words.now)) }
-    ensures range { IfOk result (λ step. IsStepOf StepName.Drain step) }
+fn drain(level: Level, words: &[&[u8]]) -> Result<Step, LineFault>
+    ensures step { Gives result (step_of level StepName.Drain (map (λ w. w.now) words.now)) }
+    ensures range { IfOk result (λ step. IsReadable level step) }
 {
     let [link, most] = words else {
         return Err(LineFault::Refused(Why::Count));
     };
+    StepName::Drain.check(level)?;
     Ok(Step::Drain {
         link: read_link(link)?,
         most: read_number(most, 1, MOST_PASSES)? as u32,
     })
 }
 
-/// The step of a line whose first word names it, from the words behind it, as many as it wants.
-pub fn read_step(alloc: Global, name: StepName, words: &[&[u8]]) -> Result<Step, LineFault>
-    requires { length words.now ≡ length (kinds_of name) }
-    ensures step { Gives result (step_said name (map (λ w. w.now) words.now)) }
-    ensures range { IfOk result (λ step. IsStepOf name step) }
+/// The step of a line of a level whose first word names it, from the words behind it.
+pub fn read_step(
+    alloc: Global,
+    level: Level,
+    name: StepName,
+    words: &[&[u8]],
+) -> Result<Step, LineFault>
+    ensures step { Gives result (step_of level name (map (λ w. w.now) words.now)) }
+    ensures range { IfOk result (λ step. IsReadable level step) }
 {
     match name {
-        StepName::Fixed => fixed(alloc, words),
-        StepName::Link => link(alloc, words),
-        StepName::Wire => wire(words),
-        StepName::Send => send(alloc, words),
-        StepName::Pass => pass(words),
-        StepName::Lose => lose(words),
-        StepName::Repeat => repeat(words),
-        StepName::Alter => alter(alloc, words),
-        StepName::Put => put(alloc, words),
-        StepName::Copy => copy(words),
-        StepName::Take => take(words),
-        StepName::Release => release(words),
-        StepName::Tick => tick(words),
-        StepName::Drain => drain(words),
+        StepName::Fixed => fixed(alloc, level, words),
+        StepName::Link => link(alloc, level, words),
+        StepName::Wire => wire(level, words),
+        StepName::Send => send(alloc, level, words),
+        StepName::Pass => pass(level, words),
+        StepName::Lose => lose(level, words),
+        StepName::Repeat => repeat(level, words),
+        StepName::Alter => alter(alloc, level, words),
+        StepName::Put => put(alloc, level, words),
+        StepName::Copy => copy(level, words),
+        StepName::Take => take(level, words),
+        StepName::Release => release(level, words),
+        StepName::Tick => tick(level, words),
+        StepName::Drain => drain(level, words),
     }
 }

@@ -1,6 +1,6 @@
 -- What the ranges of the settings imply, as bounds.
 use Rattle.std.specs.Prelude.{◌≡◌, ◌≤◌, ◌<◌, ◌⊎◌, Some}
-use Rattle.er_settings.specs.declared.settings.Settings.{Settings}
+use Rattle.er_settings.specs.Values.{Settings}
 use Rattle.er_settings.specs.declared.setting_name.SettingName.{SettingName}
 use Rattle.er_settings.specs.Ranges.{AllAllowed, greatest_window}
 use Rattle.er_settings.specs.Names.{setting_word, setting_named}

@@ -1,7 +1,7 @@
 -- The ranges and the defaults of the settings of a link. They are this profile's. The modulo is that of the numbers of I frames
 -- (ISO/IEC 13239): 8, or 128 in the extended form.
 use Rattle.std.specs.Prelude.{◌≡◌, ℕ, ◌==◌, ◌&&◌, ◌||◌, nat_le, Bool, if◌then◌else◌, IsTrue, ◌⊎◌}
-use Rattle.er_settings.specs.declared.settings.Settings.{Settings}
+use Rattle.er_settings.specs.Values.{Settings}
 use Rattle.er_settings.specs.declared.setting_name.SettingName.{SettingName}
 use Rattle.er_settings.specs.declared.setting_name.SettingName.TheVariants.{Window, Credit, Size, T1, N2, Setup}
 

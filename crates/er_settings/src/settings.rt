@@ -2,6 +2,7 @@ ghost use Rattle.std.specs.Prelude.{◌≡◌, MatchResult, IfOk};
 ghost use Rattle.er_settings.specs.Ranges.{Allows, IsModulo, AllAllowed, FirstRefused, settings_of, usual_settings};
 
 use crate::setting_name::SettingName;
+use std::marker::Model;
 use thiserror::Error;
 
 /// The modulo of the numbers of I frames, ISO/IEC 13239.
@@ -27,6 +28,43 @@ pub struct Settings {
     pub setup: u64,
     /// The modulo of the numbers of I frames: 8, or 128 in the extended form.
     pub modulo: u8,
+}
+
+impl Model for Settings {
+    ghost use Rattle.er_settings.specs.Values.{Settings};
+    ghost use Rattle.er_settings.specs.Ranges.{AllAllowed};
+
+    ghost Value = { Settings };
+
+    ghost view = { λ s. record {
+      window = s.window;
+      credit = s.credit;
+      size = s.size;
+      t1 = s.t1;
+      n2 = s.n2;
+      setup = s.setup;
+      modulo = s.modulo;
+    } };
+
+    ghost inverse = { λ s. record {
+      window = s.window;
+      credit = s.credit;
+      size = s.size;
+      t1 = s.t1;
+      n2 = s.n2;
+      setup = s.setup;
+      modulo = s.modulo;
+    } };
+
+    ghost invariant = { λ s. AllAllowed (record {
+      window = s.window;
+      credit = s.credit;
+      size = s.size;
+      t1 = s.t1;
+      n2 = s.n2;
+      setup = s.setup;
+      modulo = s.modulo;
+    }) };
 }
 
 /// A setting that is out of its range: which one, and the value that it was to have.

@@ -1,6 +1,6 @@
 -- A line of octets that is written as lines are printed.
-use Rattle.std.proofs.Common.{arith, ◌≡◌, ℕ, zero, suc, ◌+◌, ◌-◌, ◌*◌, ◌/◌, ◌%◌, ◌==◌, ◌<◌, ◌≤◌, nat_lt, inl, inr, true, false, List, [], ◌∷◌, ◌++◌, length, map, take, drop, get_or, Some, Ok, codes, refl, ap, sym, subst, ◌∙◌, append_assoc, append-nil}
-use Rattle.std.proofs.lemmas.Bool.{agree_below_at, cases_lt, cases_Bool, false_from_ne_true, le-ltb, lt-ltb, ne_eqb, eqb-true}
+use Rattle.std.proofs.Common.{arith, ◌≡◌, ℕ, suc, ◌+◌, ◌-◌, ◌*◌, ◌/◌, ◌%◌, ◌==◌, ◌<◌, ◌≤◌, nat_lt, inl, inr, true, false, List, [], ◌∷◌, ◌++◌, length, map, take, drop, get_or, Some, Ok, codes, refl, ap, sym, ◌∙◌, append_assoc, append-nil}
+use Rattle.std.proofs.lemmas.Bool.{agree_below_at, cases_lt, cases_Bool, false_from_ne_true, le-ltb, lt-ltb, eqb-true}
 use Rattle.std.proofs.lemmas.List.{take_all, drop_more, take-append-drop, get_or-take, length-take-le, length-drop}
 use Rattle.std.proofs.lemmas.List.Elements.{All-head, All-tail}
 use Rattle.std.proofs.lemmas.Fmt.{decimal_digit, decimal_step}
@@ -10,13 +10,12 @@ use Rattle.er_base.specs.declared.side.Side.{Side}
 use Rattle.er_base.specs.Arguments.{number_argument, side_argument, octets_argument, text_argument}
 use Rattle.er_base.specs.Hexadecimal.{octets_spelled, WordsSpellOctets}
 use Rattle.er_base.specs.Lines.{Row, lines_of, rows_of, is_skipped}
-use Rattle.er_base.specs.LineTexts.{line_text, line_end, lines_text, AreSolid, IsSolid, IsLine, LinesAreReadBack, WordsAreReadBack}
+use Rattle.er_base.specs.LineTexts.{line_text, line_end, lines_text, AreSolid, IsLine, LinesAreReadBack, WordsAreReadBack}
 use Rattle.er_base.specs.Sides.{side_word}
 use Rattle.er_base.specs.Words.{words_of}
-use Rattle.er_tap.specs.declared.tap_step.TapStep.{TapStep}
 use Rattle.er_tap.specs.declared.tap_step.TapStep.TheVariants.{Octets}
 use Rattle.er_tap.specs.Digits.{value_of, AreDigits}
-use Rattle.er_tap.specs.Files.{line_says, lines_said, with_line}
+use Rattle.er_tap.specs.Files.{line_says, lines_said}
 use Rattle.er_tap.specs.Ranges.{IsLink}
 use Rattle.er_tap.specs.Readings.{SaysFirst}
 
@@ -157,7 +156,9 @@ module _ (lines_back : LinesAreReadBack) (words_back : WordsAreReadBack) (octets
 
   pub says_first : (before : ℕ) (text : List ℕ) (end n : ℕ) (side : Side) (digits octets : List ℕ) → IsFirstByte (is_byte 10) text (Some end)
       → take end text ≡ line_by n side digits → IsLink n → 0 < length digits → AreDigits digits → octets_spelled digits ≡ Some octets
-      → length octets ≤ 4096 → SaysFirst before text (record { line = before + 1; step = Octets n side octets }) (drop (end + 1) text)
+      → length octets ≤ 4096
+      → SaysFirst (record { before = before; text = text }) (record { line = before + 1; step = Octets n side octets })
+      (record { before = before + 1; text = drop (end + 1) text })
   unfolding lines_said
   says_first before text end n side digits octets found is link some all spelled short =
       let says = line_read n side octets (decimal n) (side_word side) digits (words_back.number 1 64 n link.0 link.1 (omega (arith, link.1)))
@@ -168,5 +169,4 @@ module _ (lines_back : LinesAreReadBack) (words_back : WordsAreReadBack) (octets
         said = rw (first_row before text end n side digits found is link.1 some all, says) refl;
         range = (link, (short, octets_back digits octets spelled));
         less = omega (arith, left, within);
-        count = omega (arith, left, within);
       }

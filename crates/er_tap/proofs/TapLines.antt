@@ -1,11 +1,11 @@
 -- The lines so far, before what those that are left say.
-use Rattle.std.proofs.Common.{arith, ◌≡◌, ℕ, List, length, [], ◌∷◌, ◌++◌, Result, Ok, Err, refl, ap, sym, ◌∙◌, append_assoc, append-nil}
+use Rattle.std.proofs.Common.{◌≡◌, List, [], ◌∷◌, ◌++◌, Result, Ok, Err, refl, ap, sym, ◌∙◌, append_assoc, append-nil}
 use Rattle.er_base.specs.declared.why.Why.{Why}
 use Rattle.er_base.specs.declared.line_fault.LineFault.{LineFault}
 use Rattle.er_base.specs.declared.line_fault.LineFault.TheVariants as line
 use Rattle.er_base.specs.declared.text_fault.TextFault.{TextFault}
 use Rattle.er_base.specs.declared.text_fault.TextFault.TheVariants.{At, NoMemory}
-use Rattle.er_base.specs.Lines.{Row, lines_of, rows_of}
+use Rattle.er_base.specs.Lines.{Row}
 use Rattle.er_base.specs.Rows.{Refuses}
 use Rattle.er_tap.specs.declared.tap.Tap.{Tap}
 use Rattle.er_tap.specs.declared.tap_line.TapLine.{TapLine}
@@ -49,22 +49,11 @@ pub refused_answers : (front : List TapLine) (fault : TextFault) (said all : Res
 refused_answers front (At number why) said all refused read = ap tap_from (sym read ∙ ap (behind front) refused)
 refused_answers front (NoMemory want) said all refused read = tt
 
--- a text without octets has no row
-pub no_rows : (before : ℕ) → rows_of before (lines_of []) ≡ []
-unfolding rows_of lines_of
-no_rows before = refl
-
 -- no line is left
-none_left : (front : List TapLine) (read : Result (List TapLine) TextFault) → behind front (lines_said []) ≡ read
+pub none_left : (front : List TapLine) (read : Result (List TapLine) TextFault) → behind front (lines_said []) ≡ read
     → tap_from read ≡ Ok (record { lines = front })
 unfolding lines_said
 none_left front read all = ap tap_from (sym all ∙ ap (λ (l : List TapLine). Ok l) (append-nil front))
-
--- no octet is left
-pub all_read : (front : List TapLine) (before : ℕ) (rest : List ℕ) (read : Result (List TapLine) TextFault) → length rest ≡ 0
-    → behind front (lines_said (rows_of before (lines_of rest))) ≡ read → tap_from read ≡ Ok (record { lines = front })
-all_read front before [] read none all = none_left front read (ap (λ (rows : List Row). behind front (lines_said rows)) (sym (no_rows before)) ∙ all)
-all_read front before (x ∷ rest) read none all = absurd (omega arith)
 
 -- one line more whose numbers are in their ranges
 pub ranged_more : (front : List TapLine) (x : TapLine) → AreInRange front → IsInRange x.step → AreInRange (front ++ x ∷ [])

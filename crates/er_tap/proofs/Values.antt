@@ -1,5 +1,5 @@
 -- The values of digits, and the octets of pairs of values.
-use Rattle.std.proofs.Common.{arith, ◌≡◌, ℕ, suc, ◌+◌, ◌*◌, ◌/◌, ◌%◌, ◌==◌, ◌<◌, ◌≤◌, nat_lt, if◌then◌else◌, true, List, [], ◌∷◌, ◌++◌, length, map, take, drop, get_or, set, Option, Some, None, Result, Ok, unwrap_or, bit_or, codes, inl, inr, false, refl, ap, sym, ◌∙◌, append_assoc, append-nil}
+use Rattle.std.proofs.Common.{arith, ◌≡◌, ℕ, ◌+◌, ◌*◌, ◌/◌, ◌%◌, ◌==◌, ◌<◌, ◌≤◌, nat_lt, if◌then◌else◌, true, List, [], ◌∷◌, ◌++◌, length, map, take, drop, get_or, set, Option, Some, None, Ok, unwrap_or, bit_or, codes, inl, inr, false, refl, ap, sym, ◌∙◌, append_assoc, append-nil}
 use Rattle.std.proofs.lemmas.Bool.{agree_below_at, eqb-true, lt-ltb, le-ltb, cases_Bool, ne_eqb, cond-true, cond-false}
 use Rattle.std.proofs.lemmas.List.{map-append, length-map, take_at, take_more, take_more_set, take_all, drop_more, drop_all}
 use Rattle.std.proofs.lemmas.List.Elements.{All-head, All-tail, All-more, All-weaker, All-append, All-take}

@@ -1,13 +1,14 @@
 -- Representation: what the reading calls answer, want of memory aside; no claim rests on it.
-use Rattle.std.specs.Prelude.{ℕ, ◌≡◌, ◌+◌, ◌<◌, ◌≤◌, List, length, Result, Ok, Err}
+use Rattle.std.specs.Prelude.{ℕ, ◌≡◌, ◌==◌, ◌<◌, List, length, Result, Ok, Err}
 use Rattle.er_base.specs.declared.why.Why.{Why}
+use Rattle.er_base.specs.declared.why.Why.TheVariants as why
 use Rattle.er_base.specs.declared.line_fault.LineFault.{LineFault}
 use Rattle.er_base.specs.declared.line_fault.LineFault.TheVariants as line
 use Rattle.er_base.specs.declared.text_fault.TextFault.{TextFault}
 use Rattle.er_base.specs.declared.text_fault.TextFault.TheVariants as text
 use Rattle.er_base.specs.Arguments.{◌>>=◌}
 use Rattle.er_base.specs.Lines.{lines_of, rows_of}
-use Rattle.er_base.specs.LineFaults.{values_of}
+use Rattle.er_base.specs.LineFaults.{demand, values_of}
 use Rattle.er_tap.specs.declared.line_name.LineName.{LineName}
 use Rattle.er_tap.specs.declared.tap_step.TapStep.{TapStep}
 use Rattle.er_tap.specs.declared.tap_line.TapLine.{TapLine}
@@ -19,17 +20,25 @@ use Rattle.er_tap.specs.Table.{argument_of, line_kinds, step_made}
 abbrev pub step_said : LineName → List (List ℕ) → Result TapStep Why
 step_said name words = values_of argument_of (line_kinds name) words >>= λ values. Ok (step_made name values)
 
+-- what a line says whose first word names it: as many words as it wants, then its arguments
+abbrev pub step_of : LineName → List (List ℕ) → Result TapStep Why
+step_of name words = demand (length words == length (line_kinds name)) why.Count >>= λ _. step_said name words
+
 -- where the text is faulty, where its line was
 abbrev pub fault_at : ℕ → LineFault → TextFault
 fault_at number (line.Refused why) = text.At number why
 fault_at number (line.NoMemory want) = text.NoMemory want
 
--- the first line that isn't skipped, of a text behind so many lines, says this, and this follows it
-pub record SaysFirst (before : ℕ) (text : List ℕ) (line : TapLine) (rest : List ℕ) : Type 0 where
-  pub said : lines_said (rows_of before (lines_of text)) ≡ with_line line (lines_said (rows_of line.line (lines_of rest)))
+-- what is left of a tap, behind so many lines
+pub record KRest : Type 0 where
+  pub before : ℕ
+  pub text : List ℕ
+
+-- the first line that isn't skipped, of what was left, says this, and this is left behind it
+pub record SaysFirst (old : KRest) (line : TapLine) (new : KRest) : Type 0 where
+  pub said : lines_said (rows_of old.before (lines_of old.text)) ≡ with_line line (lines_said (rows_of new.before (lines_of new.text)))
   pub range : IsInRange line.step
-  pub less : length rest < length text
-  pub count : line.line + length rest ≤ before + length text
+  pub less : length new.text < length old.text
 
 -- the lines are refused so, but for want of memory
 abbrev pub RefusesLines : {A : Type 0} → TextFault → Result A TextFault → Type 0

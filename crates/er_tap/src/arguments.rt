@@ -5,15 +5,11 @@ ghost use Rattle.er_base.specs.Arguments.{number_argument, text_argument};
 ghost use Rattle.er_base.specs.Rows.{Gives};
 ghost use Rattle.er_tap.specs.Ranges.{IsLink, IsEtcsNumber, IsMoment, IsText};
 
-use er_base::{LineFault, Octets, Why, read_number, read_text};
+use er_base::{LineFault, MOST_ETCS_NUMBER, MOST_MOMENT, Octets, Why, read_number, read_text};
 use std::alloc::Global;
 
 /// The greatest link.
 const MOST_LINKS: u64 = 64;
-/// The greatest ETCS number.
-const GREATEST_NUMBER: u64 = 16_777_215;
-/// The greatest moment.
-const GREATEST_MOMENT: u64 = 1_000_000_000_000_000;
 /// The most octets of a HEX word.
 pub(crate) const MOST_TEXT_OCTETS: usize = 4_096;
 
@@ -30,7 +26,7 @@ pub fn read_etcs_number(word: &[u8]) -> Result<u32, Why>
     ensures value { result ≡ number_argument 0 16777215 word.now }
     ensures range { IfOk result (λ n. IsEtcsNumber n) }
 {
-    Ok(read_number(word, 0, GREATEST_NUMBER)? as u32)
+    Ok(read_number(word, 0, MOST_ETCS_NUMBER as u64)? as u32)
 }
 
 /// A moment, at most 10^15 milliseconds.
@@ -38,7 +34,7 @@ pub fn read_moment(word: &[u8]) -> Result<u64, Why>
     ensures value { result ≡ number_argument 0 1000000000000000 word.now }
     ensures range { IfOk result (λ n. IsMoment n) }
 {
-    read_number(word, 0, GREATEST_MOMENT)
+    read_number(word, 0, MOST_MOMENT)
 }
 
 /// Octets, at most 4,096.

@@ -8,6 +8,7 @@ mod digits;
 mod line_name;
 mod plain_line;
 mod reader;
+mod rest;
 mod steps;
 mod tap;
 mod tap_line;

@@ -1,5 +1,5 @@
-ghost use Rattle.std.specs.Prelude.{◌≡◌, length};
-ghost use Rattle.er_tap.specs.Table.{line_word, line_named, line_kinds};
+ghost use Rattle.std.specs.Prelude.{◌≡◌};
+ghost use Rattle.er_tap.specs.Table.{line_word, line_named};
 
 /// The lines of a tap behind its header.
 #[derive(Clone, Copy, Debug, PartialEq, Eq)]
@@ -28,15 +28,5 @@ impl LineName {
         ensures { result ≡ line_named word.now }
     {
         ALL.iter().copied().find(|name| word == name.word())
-    }
-
-    /// How many words stand behind the first one.
-    pub fn arguments(self) -> usize
-        ensures { result ≡ length (line_kinds self) }
-    {
-        match self {
-            LineName::Link => 4,
-            LineName::Octets => 3,
-        }
     }
 }

@@ -3,7 +3,7 @@
 //! Nearly all lines of a tap are such, and most octets of a tap stand in their HEX words. So they are known at once, and any other line is
 //! read word by word.
 
-ghost use Rattle.std.specs.Prelude.{ℕ, ◌≡◌, ◌+◌, ◌≤◌, ◌++◌, codes, length, IfOk, IfSome};
+ghost use Rattle.std.specs.Prelude.{◌≡◌, ◌++◌, codes, IfOk, IfSome, IsNone};
 ghost use Rattle.std.specs.Fmt.{decimal};
 ghost use Rattle.er_base.specs.Sides.{side_word};
 ghost use Rattle.er_tap.specs.Ranges.{IsLink};
@@ -11,6 +11,7 @@ ghost use Rattle.er_tap.specs.Readings.{SaysFirst};
 
 use crate::arguments::MOST_TEXT_OCTETS;
 use crate::digits::octets_in;
+use crate::rest::Rest;
 use crate::tap_line::TapLine;
 use crate::tap_step::TapStep;
 use er_base::{NoMemory, Octets, Side};
@@ -101,22 +102,18 @@ fn parts_of(line: &[u8]) -> Option<(u8, Side, &[u8])>
     Some((link, side, digits))
 }
 
-/// What the first line of a text says, where it is such a line, and what follows it. So many lines stand before this text.
-pub fn plain_line(
-    alloc: Global,
-    before: usize,
-    text: &[u8],
-) -> Result<Option<(TapLine, &[u8])>, NoMemory>
-    requires { before + length text.now ≤ 16777216 }
-    ensures { IfOk result (λ found. IfSome found (λ p. SaysFirst before text.now p.0 p.1.now)) }
+/// Takes the first line, where it is such a line, and answers what it says; else nothing changes.
+pub fn plain_line(alloc: Global, rest: &mut Rest<'_>) -> Result<Option<TapLine>, NoMemory>
+    ensures says { IfOk result (λ found. IfSome found (λ line. SaysFirst rest.old line rest.new)) }
+    ensures rests { IfOk result (λ found. IsNone found → rest.new ≡ rest.old) }
 {
     er_base::laws::printed_lines();
     er_base::laws::printed_words();
     er_base::laws::spelled_octets();
-    let Some(end) = memchr(LINE_FEED, text) else {
+    let Some(end) = memchr(LINE_FEED, rest.text) else {
         return Ok(None);
     };
-    let Some((link, side, digits)) = parts_of(&text[..end]) else {
+    let Some((link, side, digits)) = parts_of(&rest.text[..end]) else {
         return Ok(None);
     };
     let Some(octets) = octets_in(alloc, digits)? else {
@@ -125,13 +122,15 @@ pub fn plain_line(
     if octets.len() > MOST_TEXT_OCTETS {
         return Ok(None);
     }
-    let line = TapLine {
-        line: before + 1,
-        step: TapStep::Octets {
-            link,
-            side,
-            text: Octets::new(octets),
-        },
+    rest.before += 1;
+    rest.text = &rest.text[end + 1..];
+    let step = TapStep::Octets {
+        link,
+        side,
+        text: Octets::new(octets),
     };
-    Ok(Some((line, &text[end + 1..])))
+    Ok(Some(TapLine {
+        line: rest.before,
+        step,
+    }))
 }

@@ -1,6 +1,6 @@
 //! Reads a tap, line by line.
 
-ghost use Rattle.std.specs.Prelude.{◌≡◌, ◌≤◌, ◌+◌, [], length, map, IfOk, IfErr, MatchOption};
+ghost use Rattle.std.specs.Prelude.{◌≡◌, [], map, IfOk, IfErr, MatchOption};
 ghost use Rattle.er_base.specs.Lines.{lines_of, rows_of};
 ghost use Rattle.er_base.specs.Rows.{Gives};
 ghost use Rattle.er_tap.specs.Answers.{Answers};
@@ -10,16 +10,14 @@ ghost use Rattle.er_tap.specs.Readings.{fault_at, RefusesLines, SaysFirst};
 
 use crate::line_name::LineName;
 use crate::plain_line::plain_line;
+use crate::rest::Rest;
 use crate::steps::read_step;
 use crate::tap::Tap;
 use crate::tap_line::TapLine;
 use crate::tap_list::TapList;
 use crate::tap_step::TapStep;
-use er_base::{LineFault, TextFault, Why, next_row};
+use er_base::{LineFault, TextFault, Why};
 use std::alloc::Global;
-
-/// The most octets that a tap has.
-const MOST_OCTETS: usize = 16_777_216;
 
 fn at(line: usize, fault: LineFault) -> TextFault
     ensures { result ≡ fault_at line fault }
@@ -56,79 +54,55 @@ fn read_line(alloc: Global, words: &[&[u8]]) -> Result<TapStep, LineFault>
     let Some(name) = LineName::named(first) else {
         return Err(LineFault::Refused(Why::Word));
     };
-    if arguments.len() != name.arguments() {
-        return Err(LineFault::Refused(Why::Count));
-    }
     read_step(alloc, name, arguments)
 }
 
-// What the first line that isn't skipped says, read word by word, and what follows it; None where no such line is left. So many lines
-// stand before this text.
-fn any_line(
-    alloc: Global,
-    before: usize,
-    text: &[u8],
-) -> Result<Option<(TapLine, &[u8])>, TextFault>
-    requires { before + length text.now ≤ 16777216 }
-    ensures line { IfOk result (λ found. MatchOption found (rows_of before (lines_of text.now) ≡ []) (λ p. SaysFirst before text.now p.0 p.1.now)) }
-    ensures fault { IfErr result (λ fault. RefusesLines fault (lines_said (rows_of before (lines_of text.now)))) }
+// Takes the first line that isn't skipped, read word by word, and answers what it says; None where no such line is left.
+fn any_line(alloc: Global, rest: &mut Rest<'_>) -> Result<Option<TapLine>, TextFault>
+    ensures line { IfOk result (λ found. MatchOption found (rows_of rest.old.before (lines_of rest.old.text) ≡ []) (λ line. SaysFirst rest.old line rest.new)) }
+    ensures fault { IfErr result (λ fault. RefusesLines fault (lines_said (rows_of rest.old.before (lines_of rest.old.text)))) }
 {
-    let Some((row, behind)) = next_row(before, text) else {
+    let Some(row) = rest.next_row() else {
         return Ok(None);
     };
     match read_line(alloc, row.words.as_slice()) {
-        Ok(step) => {
-            let line = TapLine {
-                line: row.number,
-                step,
-            };
-            Ok(Some((line, behind)))
-        }
+        Ok(step) => Ok(Some(TapLine {
+            line: row.number,
+            step,
+        })),
         Err(fault) => Err(at(row.number, fault)),
     }
 }
 
 // The same, at once where the line is one of octets that is written as lines are printed.
-fn next_line(
-    alloc: Global,
-    before: usize,
-    text: &[u8],
-) -> Result<Option<(TapLine, &[u8])>, TextFault>
-    requires { before + length text.now ≤ 16777216 }
-    ensures line { IfOk result (λ found. MatchOption found (rows_of before (lines_of text.now) ≡ []) (λ p. SaysFirst before text.now p.0 p.1.now)) }
-    ensures fault { IfErr result (λ fault. RefusesLines fault (lines_said (rows_of before (lines_of text.now)))) }
+fn next_line(alloc: Global, rest: &mut Rest<'_>) -> Result<Option<TapLine>, TextFault>
+    ensures line { IfOk result (λ found. MatchOption found (rows_of rest.old.before (lines_of rest.old.text) ≡ []) (λ line. SaysFirst rest.old line rest.new)) }
+    ensures fault { IfErr result (λ fault. RefusesLines fault (lines_said (rows_of rest.old.before (lines_of rest.old.text)))) }
 {
-    match plain_line(alloc, before, text) {
-        Ok(Some(found)) => Ok(Some(found)),
-        Ok(None) => any_line(alloc, before, text),
+    match plain_line(alloc, rest) {
+        Ok(Some(line)) => Ok(Some(line)),
+        Ok(None) => any_line(alloc, rest),
         Err(want) => Err(TextFault::NoMemory(want)),
     }
 }
 
-// The tap of the lines behind the header, whose number is `header`.
-fn read_behind(alloc: Global, header: usize, text: &[u8]) -> Result<Tap, TextFault>
-    requires { header + length text.now ≤ 16777216 }
-    ensures exact { Answers result (tap_from (lines_said (rows_of header (lines_of text.now)))) }
+// The tap of the lines behind the header.
+fn read_behind(alloc: Global, rest: &mut Rest<'_>) -> Result<Tap, TextFault>
+    ensures exact { Answers result (tap_from (lines_said (rows_of rest.old.before (lines_of rest.old.text)))) }
     ensures range { IfOk result (λ tap. CanBeRead tap) }
 {
     let mut lines = Vec::new(alloc);
-    let mut number = header;
-    let mut rest = text;
-    while !rest.is_empty() {
-        match next_line(alloc, number, rest) {
-            Ok(Some((line, behind))) => {
-                number = line.line;
-                lines.push(line)?;
-                rest = behind;
+    loop {
+        match next_line(alloc, rest) {
+            Ok(Some(line)) => lines.push(line)?,
+            Ok(None) => {
+                return Ok(Tap {
+                    lines: TapList::new(lines),
+                });
             }
-            // lines that are skipped are all that is left
-            Ok(None) => rest = &[],
             Err(fault) => return Err(fault),
         }
     }
-    Ok(Tap {
-        lines: TapList::new(lines),
-    })
 }
 
 /// Reads a tap: the header `tap 1`, then lines `link N E R MOMENT` and `octets N S HEX`.
@@ -141,13 +115,13 @@ pub fn read(alloc: Global, bytes: &[u8]) -> Result<Tap, TextFault>
     ensures exact { Answers result (tap_of bytes.now) }
     ensures range { IfOk result (λ tap. CanBeRead tap) }
 {
-    if bytes.len() > MOST_OCTETS {
+    let Some(mut rest) = Rest::of(bytes) else {
         return Err(TextFault::At {
             line: 0,
             why: Why::Long,
         });
-    }
-    let Some((header, rest)) = next_row(0, bytes) else {
+    };
+    let Some(header) = rest.next_row() else {
         return Err(TextFault::At {
             line: 1,
             why: Why::Header,
@@ -159,5 +133,5 @@ pub fn read(alloc: Global, bytes: &[u8]) -> Result<Tap, TextFault>
             why: Why::Header,
         });
     }
-    read_behind(alloc, header.number, rest)
+    read_behind(alloc, &mut rest)
 }

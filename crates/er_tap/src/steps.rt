@@ -1,10 +1,9 @@
-//! The lines behind the header: each reads the words behind its first one.
+//! The lines behind the header: each tests how many words stand behind its first one, and reads them.
 
-ghost use Rattle.std.specs.Prelude.{◌≡◌, length, map, IfOk};
+ghost use Rattle.std.specs.Prelude.{◌≡◌, map, IfOk};
 ghost use Rattle.er_base.specs.Rows.{Gives};
 ghost use Rattle.er_tap.specs.Ranges.{IsInRange};
-ghost use Rattle.er_tap.specs.Readings.{step_said};
-ghost use Rattle.er_tap.specs.Table.{line_kinds};
+ghost use Rattle.er_tap.specs.Readings.{step_of};
 
 use crate::arguments::{read_etcs_number, read_link, read_moment, read_octets};
 use crate::line_name::LineName;
@@ -13,8 +12,7 @@ use er_base::{LineFault, Why, read_side};
 use std::alloc::Global;
 
 fn link(words: &[&[u8]]) -> Result<TapStep, LineFault>
-    requires { length words.now ≡ 4 }
-    ensures step { Gives result (step_said LineName.Link (map (λ w. w.now) words.now)) }
+    ensures step { Gives result (step_of LineName.Link (map (λ w. w.now) words.now)) }
     ensures range { IfOk result (λ step. IsInRange step) }
 {
     let [link, engine, rbc, moment] = words else {
@@ -29,8 +27,7 @@ fn link(words: &[&[u8]]) -> Result<TapStep, LineFault>
 }
 
 fn octets(alloc: Global, words: &[&[u8]]) -> Result<TapStep, LineFault>
-    requires { length words.now ≡ 3 }
-    ensures step { Gives result (step_said LineName.Octets (map (λ w. w.now) words.now)) }
+    ensures step { Gives result (step_of LineName.Octets (map (λ w. w.now) words.now)) }
     ensures range { IfOk result (λ step. IsInRange step) }
 {
     let [link, side, text] = words else {
@@ -43,10 +40,9 @@ fn octets(alloc: Global, words: &[&[u8]]) -> Result<TapStep, LineFault>
     })
 }
 
-/// What a line says whose first word names it, from the words behind it, as many as it wants.
+/// What a line says whose first word names it, from the words behind it.
 pub fn read_step(alloc: Global, name: LineName, words: &[&[u8]]) -> Result<TapStep, LineFault>
-    requires { length words.now ≡ length (line_kinds name) }
-    ensures step { Gives result (step_said name (map (λ w. w.now) words.now)) }
+    ensures step { Gives result (step_of name (map (λ w. w.now) words.now)) }
     ensures range { IfOk result (λ step. IsInRange step) }
 {
     match name {

@@ -9,7 +9,7 @@ use Rattle.er_base.specs.declared.line_fault.LineFault.TheVariants as line
 use Rattle.er_base.specs.LineFaults.{Table, line_read}
 use Rattle.er_base.specs.Lines.{Row, lines_of, rows_of}
 use Rattle.er_base.specs.Rows.{Refuses}
-use Rattle.er_settings.specs.declared.settings.Settings.{Settings}
+use Rattle.er_settings.specs.Values.{Settings}
 use Rattle.er_trace.specs.declared.said.Said.{Said}
 use Rattle.er_trace.specs.declared.event_name.EventName.{EventName}
 use Rattle.er_trace.specs.declared.event_name.EventName.TheVariants.{Call, Answer, Octets, Send, Take, Release, Tick, Ended, Fault, Stalled, Full, Unserved}

@@ -5,7 +5,7 @@ use Rattle.std.specs.Fmt.{decimal}
 use Rattle.std.proofs.lemmas.Bool.{cases_Bool, ltb-true, le-ltb}
 use Rattle.er_base.specs.LineTexts.{AreSolid, IsSolid, IsLine, AreLines, LinesAreReadBack, WordsAreReadBack, rows_from}
 use Rattle.er_base.specs.Numbers.{decimal_of, NamesWhatIsPrinted}
-use Rattle.er_settings.specs.declared.settings.Settings.{Settings}
+use Rattle.er_settings.specs.Values.{Settings}
 use Rattle.er_settings.specs.Laws.{AllowedAreBounded}
 use Rattle.er_settings.specs.Ranges.{AllAllowed, settings_of}
 use Rattle.er_trace.specs.declared.event.Event.{Event}

@@ -9,7 +9,7 @@ use Rattle.er_base.specs.declared.text_fault.TextFault.TheVariants.{At}
 use Rattle.er_base.specs.Arguments.{◌>>=◌}
 use Rattle.er_base.specs.LineFaults.{Table, Values, line_read}
 use Rattle.er_base.specs.Lines.{Row, rows_of, lines_of}
-use Rattle.er_settings.specs.declared.settings.Settings.{Settings}
+use Rattle.er_settings.specs.Values.{Settings}
 use Rattle.er_trace.specs.declared.argument_kind.ArgumentKind.{ArgumentKind}
 use Rattle.er_trace.specs.declared.entry.Entry.{Entry}
 use Rattle.er_trace.specs.declared.event_name.EventName.{EventName}

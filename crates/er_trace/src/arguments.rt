@@ -6,13 +6,9 @@ ghost use Rattle.er_base.specs.Rows.{Gives};
 ghost use Rattle.er_trace.specs.Ranges.{IsMoment, IsEtcsNumber, IsOctet, IsText};
 ghost use Rattle.er_trace.specs.Table.{releaser_argument};
 
-use er_base::{LineFault, Octets, Why, read_number, read_text};
+use er_base::{LineFault, MOST_ETCS_NUMBER, MOST_MOMENT, Octets, Why, read_number, read_text};
 use std::alloc::Global;
 
-/// The greatest moment.
-const GREATEST_MOMENT: u64 = 1_000_000_000_000_000;
-/// The greatest ETCS number.
-const GREATEST_NUMBER: u64 = 16_777_215;
 /// The most octets of a HEX word.
 const MOST_TEXT_OCTETS: usize = 4_096;
 
@@ -21,7 +17,7 @@ pub fn read_moment(word: &[u8]) -> Result<u64, Why>
     ensures value { result ≡ number_argument 0 1000000000000000 word.now }
     ensures range { IfOk result (λ n. IsMoment n) }
 {
-    read_number(word, 0, GREATEST_MOMENT)
+    read_number(word, 0, MOST_MOMENT)
 }
 
 /// A number of 64 bits.
@@ -37,7 +33,7 @@ pub fn read_etcs_number(word: &[u8]) -> Result<u32, Why>
     ensures value { result ≡ number_argument 0 16777215 word.now }
     ensures range { IfOk result (λ n. IsEtcsNumber n) }
 {
-    Ok(read_number(word, 0, GREATEST_NUMBER)? as u32)
+    Ok(read_number(word, 0, MOST_ETCS_NUMBER as u64)? as u32)
 }
 
 /// An octet: a reason or a sub-reason.

@@ -1,7 +1,6 @@
 //! The header of a trace.
 
 ghost use Rattle.std.specs.Prelude.{◌≡◌, map, IfSome};
-ghost use Rattle.er_settings.specs.Ranges.{AllAllowed};
 ghost use Rattle.er_trace.specs.Headers.{settings_allowed, settings_of_six, settings_spelled, header_settings};
 
 use er_base::decimal;
@@ -10,7 +9,7 @@ use er_settings::Settings;
 // The settings of modulo 8 with these values, or None where one is out of its range.
 fn allowed(window: u64, credit: u64, size: u64, t1: u64, n2: u64, setup: u64) -> Option<Settings>
     ensures value { result ≡ settings_allowed window credit size t1 n2 setup }
-    ensures allowed { IfSome result (λ settings. AllAllowed settings × (settings.modulo ≡ 8)) }
+    ensures modulo { IfSome result (λ settings. settings.modulo ≡ 8) }
 {
     match Settings::new(window, credit, size, t1, n2, setup) {
         Ok(settings) => Some(settings),
@@ -29,7 +28,7 @@ fn six(
     setup: &[u8],
 ) -> Option<Settings>
     ensures value { result ≡ settings_of_six window.now credit.now size.now t1.now n2.now setup.now }
-    ensures allowed { IfSome result (λ settings. AllAllowed settings × (settings.modulo ≡ 8)) }
+    ensures modulo { IfSome result (λ settings. settings.modulo ≡ 8) }
 {
     let Some(window) = decimal(window) else {
         return None;
@@ -56,7 +55,7 @@ fn six(
 #[tactic(auto, unfolding(crate::specs::Headers::settings_spelled))]
 fn spelled(words: &[&[u8]]) -> Option<Settings>
     ensures value { result ≡ settings_spelled (map (λ w. w.now) words.now) }
-    ensures allowed { IfSome result (λ settings. AllAllowed settings × (settings.modulo ≡ 8)) }
+    ensures modulo { IfSome result (λ settings. settings.modulo ≡ 8) }
 {
     let [window, credit, size, t1, n2, setup] = words else {
         return None;
@@ -68,7 +67,7 @@ fn spelled(words: &[&[u8]]) -> Option<Settings>
 #[tactic(auto, unfolding(crate::specs::Headers::header_settings))]
 pub fn read_settings(words: &[&[u8]]) -> Option<Settings>
     ensures value { result ≡ header_settings (map (λ w. w.now) words.now) }
-    ensures allowed { IfSome result (λ settings. AllAllowed settings × (settings.modulo ≡ 8)) }
+    ensures modulo { IfSome result (λ settings. settings.modulo ≡ 8) }
 {
     let (trace, behind) = words.split_first()?;
     let (version, values) = behind.split_first()?;

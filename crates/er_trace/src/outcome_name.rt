@@ -2,6 +2,7 @@ ghost use Rattle.std.specs.Prelude.{◌≡◌};
 ghost use Rattle.er_trace.specs.Table.{outcome_word, outcome_named, outcome_kinds};
 
 use crate::argument_kind::ArgumentKind;
+use er_base::MOST_ETCS_NUMBER;
 
 /// The lines of a trace that are outcomes, refusals aside.
 #[derive(Clone, Copy, Debug, PartialEq, Eq)]
@@ -56,7 +57,7 @@ impl OutcomeName {
         ensures { result.now ≡ outcome_kinds self }
     {
         match self {
-            OutcomeName::Connected => &[ArgumentKind::Decimal(16_777_215)],
+            OutcomeName::Connected => &[ArgumentKind::Decimal(MOST_ETCS_NUMBER as u64)],
             OutcomeName::Accepted | OutcomeName::Taken => &[ArgumentKind::Hex],
             OutcomeName::Empty => &[],
             OutcomeName::Released => &[

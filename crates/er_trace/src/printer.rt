@@ -4,7 +4,6 @@ ghost use Rattle.std.specs.Prelude.{◌≡◌, ◌++◌, ◌∷◌, [], codes, O
 ghost use Rattle.std.specs.Fmt.{decimal};
 ghost use Rattle.er_base.specs.Hexadecimal.{hex_of};
 ghost use Rattle.er_base.specs.LineTexts.{line_text};
-ghost use Rattle.er_settings.specs.Ranges.{AllAllowed};
 ghost use Rattle.er_trace.specs.declared.event.Event.TheVariants as event;
 ghost use Rattle.er_trace.specs.Outcomes.{seen};
 ghost use Rattle.er_trace.specs.Outcomes as outcomes;
@@ -23,7 +22,6 @@ use er_settings::Settings;
 
 /// Appends the header of a trace of ends of these settings. After want of memory `out` is as it was.
 pub fn print_header(settings: &Settings, out: &mut Vec<u8>) -> Result<(), NoMemory>
-    requires { AllAllowed settings.now }
     ensures ok { OnOk result (out.new.items ≡ out.old.items ++ line_text (header_words settings.now)) }
     ensures err { OnErr result (out.new.items ≡ out.old.items) }
 {

@@ -3,7 +3,6 @@
 ghost use Rattle.std.specs.Prelude.{◌≡◌, ◌≤◌, ◌+◌, length, map, IfOk};
 ghost use Rattle.er_base.specs.Lines.{lines_of, rows_of};
 ghost use Rattle.er_base.specs.Rows.{Gives};
-ghost use Rattle.er_settings.specs.Ranges.{AllAllowed};
 ghost use Rattle.er_trace.specs.Answers.{Answers};
 ghost use Rattle.er_trace.specs.Files.{event_line, refusal_line, outcome_line, line_says, entries_of, trace_from, trace_of};
 ghost use Rattle.er_trace.specs.Readings.{IsWellSaid, fault_at};
@@ -162,7 +161,7 @@ fn read_behind(
     text: &[u8],
 ) -> Result<Trace, TextFault>
     requires room { header + length text.now ≤ 16777216 }
-    requires settings { AllAllowed settings × (settings.modulo ≡ 8) }
+    requires modulo { settings.modulo ≡ 8 }
     ensures exact { Answers result (trace_from settings (entries_of (rows_of header (lines_of text.now)))) }
     ensures range { IfOk result (λ trace. CanBeRead trace) }
 {

@@ -2,7 +2,7 @@
 -- it says and which mind it has then. What it heard so far is an optional meaning: a user may tell it.
 use Rattle.std.specs.Prelude.{◌≡◌, ℕ, ◌+◌, ◌-◌, ◌^◌, ◌==◌, Bool, List, [], ◌∷◌, ◌++◌, length, Option, None, Some, nat_lt, if◌then◌else◌}
 use Rattle.std.specs.Fmt.{decimal}
-use Rattle.end_model.specs.Outcomes.{SendRefusal}
+use Rattle.er_end_model.specs.Outcomes.{SendRefusal}
 use Rattle.er_users.specs.Saying.{Spoken}
 
 -- the kinds of users; the last are those that a caller makes

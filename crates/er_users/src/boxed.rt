@@ -1,4 +1,5 @@
-// A boxed user is the user in it.
+//! A boxed user is the user in it.
+
 use crate::replies::Replies;
 use crate::user::SafeUser;
 use er_end::SendRefused;

@@ -1,4 +1,5 @@
-// A user that says each message back.
+//! A user that says each message back.
+
 ghost use Rattle.std.specs.Prelude.{◌≡◌, []};
 ghost use Rattle.er_users.specs.Users.{Echo as a_kind, mind_of};
 

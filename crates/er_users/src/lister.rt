@@ -1,4 +1,5 @@
-// A user that says a list of texts.
+//! A user that says a list of texts.
+
 ghost use Rattle.std.specs.Prelude.{◌≡◌, ◌≤◌, ◌++◌, map, take, length, All, vec_len, None};
 ghost use Rattle.er_users.specs.Saying.{IsText, Spoken, nothing};
 ghost use Rattle.er_users.specs.Users.{Lister as a_kind, mind_of};

@@ -1,4 +1,5 @@
-// What a user says.
+//! What a user says.
+
 ghost use Rattle.std.specs.Prelude.{◌≡◌, ◌==◌, ◌≤◌, ◌<◌, length, slice_index_or, IfOk, Some};
 ghost use Rattle.er_users.specs.Saying.{nothing, IsText, is_text, may_say, said_more};
 

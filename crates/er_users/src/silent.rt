@@ -1,4 +1,5 @@
-// A user that says nothing.
+//! A user that says nothing.
+
 ghost use Rattle.std.specs.Prelude.{◌≡◌, []};
 ghost use Rattle.er_users.specs.Users.{Silent as a_kind, mind_of};
 

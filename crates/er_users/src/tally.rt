@@ -1,4 +1,5 @@
-// A user that counts.
+//! A user that counts.
+
 ghost use Rattle.std.specs.Prelude.{◌≡◌, [], None};
 ghost use Rattle.er_users.specs.Users.{Tally as a_kind, mind_of};
 

@@ -1,4 +1,5 @@
-// Who hears of a safe connection.
+//! Who hears of a safe connection.
+
 ghost use Rattle.std.specs.Prelude.{◌≡◌};
 ghost use Rattle.er_users.specs.Saying.{IsText, nothing};
 ghost use Rattle.er_users.specs.Users.{Mind, Hears, Connected, Message, Refused, Released};

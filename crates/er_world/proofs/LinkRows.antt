@@ -6,13 +6,13 @@ use Rattle.er_base.specs.declared.side.Side.TheVariants.{E, R}
 use Rattle.er_base.specs.Sides.{other}
 use Rattle.des_block.specs.declared.triple_key.TripleKey.{TripleKey}
 use Rattle.safety_automaton.specs.Keys.{key_at}
-use Rattle.safe_pair.specs.Facts.{MarkedFact, SideFact, marked, marked_from}
-use Rattle.safe_pair.specs.Marks.{MarksGrow}
+use Rattle.safety_pair_laws.specs.Facts.{MarkedFact, SideFact, marked, marked_from}
+use Rattle.safety_pair_laws.specs.Marks.{MarksGrow}
 use Rattle.drill_model.specs.declared.totals.Totals.{Totals}
 use Rattle.drill_model.specs.Outcomes.{Outcome, UserReleased, Passed, NothingWaits, Occurrence, at_end, facts_in, frames_in}
 use Rattle.drill_model.specs.Ends.{End, EndEvent, end_step}
 use Rattle.drill_model.specs.Ends as model
-use Rattle.drill_model.specs.Waiting.{changes}
+use Rattle.drill_model.specs.Waiting.{change_first}
 use Rattle.drill_model.specs.Links.{Link, key_on, waiting_of, with_waiting, give, onto, Pass, Change, Release, Tick, pass, change_waiting, link_step}
 use Rattle.drill_model.specs.Marks.{marks_behind}
 use Rattle.drill_model.specs.Texts.{link_lines, marked_line, empty_line}
@@ -231,8 +231,8 @@ changes_so grows place how c old new counts before now ch count shows =
     λ l history st.
     let side : Side = place.side in
     let came : List Occurrence = map (at_end side) (outcomes_of c) in
-    let a : changes (change_of how) (waiting_of l side) ≡ (waiting_at new side, outcomes_of c) =
-    ap (changes (change_of how)) (sym (waits_alike old l history side st)) ∙ ch.changed in
+    let a : change_first (change_of how) (waiting_of l side) ≡ (waiting_at new side, outcomes_of c) =
+    ap (change_first (change_of how)) (sym (waits_alike old l history side st)) ∙ ch.changed in
     let with' : StandsLink new (with_waiting l side (waiting_at new side)) history =
     subst (λ (k : KeptLink). StandsLink k (with_waiting l side (waiting_at new side)) history) (sym ch.others)
     (stands_with old l history side (waiting_at new side) st) in

@@ -13,7 +13,7 @@ use Rattle.std.proofs.lemmas.Map.Text.{is_eq-slice_cmp}
 use Rattle.std.proofs.lemmas.Slice.Eq.{bytes_eq-Decides}
 use Rattle.std.proofs.lemmas.Bool.{eqb-true}
 use Rattle.des_block.specs.declared.triple_key.TripleKey.{TripleKey}
-use Rattle.safe_pair.specs.Facts.{Sealing, is_key, is_sealing}
+use Rattle.safety_pair_laws.specs.Facts.{Sealing, is_key, is_sealing}
 use Rattle.er_world.specs.Pairs.{Gains}
 use Rattle.er_world.specs.PairKeys.{sealing_of, sealings_in}
 use Rattle.er_world.specs.declared.sealed_pairs.Pair.{Pair}

@@ -3,20 +3,20 @@ use Rattle.std.proofs.Common.{◌≡◌, ℕ, ◌<◌, ◌≤◌, ◌^◌, ◌==
 use mathlib.Core.Path.{fun_ext}
 use Rattle.er_base.specs.declared.side.Side.TheVariants.{E}
 use Rattle.des_block.specs.declared.triple_key.TripleKey.{TripleKey}
-use Rattle.er_settings.specs.declared.settings.Settings.{Settings}
+use Rattle.er_settings.specs.Values.{Settings}
 use Rattle.safety_automaton.specs.Keys.{Entry, key_at}
-use Rattle.safe_pair.specs.Openings.{PairOpening, OfFixed, OfKeys, key_for, begun}
-use Rattle.station_model.specs.Stations.{made}
+use Rattle.safety_pair_laws.specs.Openings.{PairOpening, OfFixed, OfKeys, key_for, begun}
+use Rattle.hdlc_station_model.specs.Stations.{made}
 use Rattle.drill_model.specs.Ends.{End, OfSafe, OfStation, OfStack}
 use Rattle.drill_model.specs.Ends as model
-use Rattle.drill_model.specs.Links.{LinkOpening, OfPair, OfStations, OfStacks, key_on, joined, joined_pair, opened, give}
+use Rattle.drill_model.specs.Links.{LinkOpening, OfPair, OfStations, OfStacks, key_on, link_of, joined_pair, opened_link, give}
 use Rattle.er_world.specs.declared.place.Place.{Place}
 use Rattle.drill_ends.specs.declared.drill_end.DrillEnd.{DrillEnd}
 use Rattle.er_world.specs.declared.link.Link.{Link as KeptLink}
 use Rattle.drill_ends.specs.Keys.{entries_of, KeyIsFound}
 use Rattle.drill_ends.specs.KeptEnds.{StandsEnd}
-use Rattle.end_model.specs.Ends.{Call, Answer}
-use Rattle.end_model.specs.Ends as stacks
+use Rattle.er_end_model.specs.Ends.{Call, Answer}
+use Rattle.er_end_model.specs.Ends as stacks
 use Rattle.drill_model.specs.StackReports.{OpensOrderly}
 use Rattle.er_end.specs.KeptEnds.{KEnd, kept_opened}
 use Rattle.er_end.specs.Standing.{EndStands, IsAllowed, MadeStands}
@@ -27,7 +27,7 @@ use Rattle.er_world.specs.KeptLinks.{new_link, StandsLink, LinkWent, LinkDoes}
 stands_joined : (opening : LinkOpening) (e r : DrillEnd) (of_model_e of_model_r : End) (keys : List Entry) (moment : ℕ)
     → StandsEnd e of_model_e → StandsEnd r of_model_r
     → ((now : ℕ) → now < 2 ^ 64 → key_at keys now ≡ key_on opening)
-    → StandsLink (new_link e r keys moment) (joined opening moment of_model_e of_model_r) []
+    → StandsLink (new_link e r keys moment) (link_of opening moment of_model_e of_model_r) []
 stands_joined opening e r of_model_e of_model_r keys moment of_e of_r found = record {
   of_e = of_e;
   of_r = of_r;
@@ -54,7 +54,7 @@ pub opens_fixed : (engine rbc : ℕ) (ke kr : TripleKey) (e r : DrillEnd) (keys 
     → link ≡ new_link e r keys own
     → StandsEnd e (OfSafe (begun (OfFixed engine rbc ke kr)).e) → StandsEnd r (OfSafe (begun (OfFixed engine rbc ke kr)).r)
     → keys ≡ entries_of engine rbc None
-    → (moment : ℕ) → own ≡ moment → LinkWent (opened settings moment (OfPair (OfFixed engine rbc ke kr))) show n [] link before before
+    → (moment : ℕ) → own ≡ moment → LinkWent (opened_link settings moment (OfPair (OfFixed engine rbc ke kr))) show n [] link before before
 opens_fixed engine rbc ke kr e r keys own link settings show n before is of_e of_r keys_are moment at =
     rw (is, keys_are, at) record {
       stands = stands_new (OfFixed engine rbc ke kr) e r (entries_of engine rbc None) moment of_e of_r (no_keys_found engine rbc ke kr);
@@ -69,7 +69,7 @@ pub opens_called : KeyIsFound → (engine rbc : ℕ) (ke : TripleKey) (kr : Opti
     → keys ≡ entries_of engine rbc kr
     → place ≡ record { number = n; side = E; show = show }
     → LinkDoes (λ l. give l place.side model.Start) place.show place.number link new before now
-    → (moment : ℕ) → own ≡ moment → LinkWent (opened settings moment (OfPair (OfKeys engine rbc ke kr ra rb))) show n [] new before now
+    → (moment : ℕ) → own ≡ moment → LinkWent (opened_link settings moment (OfPair (OfKeys engine rbc ke kr ra rb))) show n [] new before now
 opens_called key_found engine rbc ke kr ra rb e r keys own link new settings place show n before now is of_e of_r keys_are there does moment at =
     let opening : PairOpening = OfKeys engine rbc ke kr ra rb in
     let made : link ≡ new_link e r (entries_of engine rbc kr) moment =
@@ -91,7 +91,7 @@ pub opens_wired : (selective : Bool) (e r : DrillEnd) (keys : List Entry) (own :
     → keys ≡ entries_of 0 0 None
     → place ≡ record { number = n; side = E; show = show }
     → LinkDoes (λ l. give l place.side model.Start) place.show place.number link new before now
-    → (moment : ℕ) → own ≡ moment → LinkWent (opened settings moment (OfStations selective)) show n [] new before now
+    → (moment : ℕ) → own ≡ moment → LinkWent (opened_link settings moment (OfStations selective)) show n [] new before now
 opens_wired selective e r keys own link new settings place show n before now is of_e of_r keys_are there does moment at =
     let opening : LinkOpening = OfStations selective in
     let of_model_e : End = made_end selective true settings in
@@ -99,11 +99,11 @@ opens_wired selective e r keys own link new settings place show n before now is 
     let made_so : link ≡ new_link e r (entries_of 0 0 None) moment =
     is ∙ ap (λ (k : List Entry). new_link e r k own) keys_are ∙ ap (new_link e r (entries_of 0 0 None)) at in
     let found : (m : ℕ) → m < 2 ^ 64 → key_at (entries_of 0 0 None) m ≡ key_on opening = λ m bound. fun_ext (λ x. fun_ext (λ y. refl)) in
-    let stands : StandsLink link (joined opening moment of_model_e of_model_r) [] =
-    subst (λ (k : KeptLink). StandsLink k (joined opening moment of_model_e of_model_r) []) (sym made_so)
+    let stands : StandsLink link (link_of opening moment of_model_e of_model_r) [] =
+    subst (λ (k : KeptLink). StandsLink k (link_of opening moment of_model_e of_model_r) []) (sym made_so)
     (stands_joined opening e r of_model_e of_model_r (entries_of 0 0 None) moment of_e of_r found) in
     let Q : Place → Type 0 = λ p. LinkDoes (λ l. give l p.side model.Start) p.show p.number link new before now in
-    (subst Q there does) (joined opening moment of_model_e of_model_r) [] stands
+    (subst Q there does) (link_of opening moment of_model_e of_model_r) [] stands
 
 -- a stack that was just made
 pub stack_stands : MadeStands → OpensOrderly → (opening : stacks.Opening) → IsAllowed opening → (stacks.opened opening).core.moment ≤ 1000000000000000
@@ -126,14 +126,14 @@ pub opens_stacked : KeyIsFound → (engine rbc : ℕ) (ke : TripleKey) (kr : Opt
     → keys ≡ entries_of engine rbc kr
     → place ≡ record { number = n; side = E; show = show }
     → LinkDoes (λ l. give l place.side model.Start) place.show place.number link new before now
-    → (moment : ℕ) → own ≡ moment → LinkWent (opened settings moment (OfStacks engine rbc ke kr ra rb)) show n [] new before now
+    → (moment : ℕ) → own ≡ moment → LinkWent (opened_link settings moment (OfStacks engine rbc ke kr ra rb)) show n [] new before now
 opens_stacked key_found engine rbc ke kr ra rb e r keys own link new settings place show n before now is of_e of_r keys_are there does moment at =
     let opening : LinkOpening = OfStacks engine rbc ke kr ra rb in
     let of_model_e : End = OfStack (stacks.opened (Call settings engine rbc ke rb own)) in
     let of_model_r : End = OfStack (stacks.opened (Answer settings rbc ra own)) in
     let made_so : link ≡ new_link e r (entries_of engine rbc kr) own = is ∙ ap (λ (k : List Entry). new_link e r k own) keys_are in
-    let stands : StandsLink link (joined opening own of_model_e of_model_r) [] =
-    subst (λ (k : KeptLink). StandsLink k (joined opening own of_model_e of_model_r) []) (sym made_so)
+    let stands : StandsLink link (link_of opening own of_model_e of_model_r) [] =
+    subst (λ (k : KeptLink). StandsLink k (link_of opening own of_model_e of_model_r) []) (sym made_so)
     (stands_joined opening e r of_model_e of_model_r (entries_of engine rbc kr) own of_e of_r (key_found engine rbc ke kr ra rb)) in
     let Q : Place → Type 0 = λ p. LinkDoes (λ l. give l p.side model.Start) p.show p.number link new before now in
-    subst (λ (m : ℕ). LinkWent (opened settings m opening) show n [] new before now) at ((subst Q there does) (joined opening own of_model_e of_model_r) [] stands)
+    subst (λ (m : ℕ). LinkWent (opened_link settings m opening) show n [] new before now) at ((subst Q there does) (link_of opening own of_model_e of_model_r) [] stands)

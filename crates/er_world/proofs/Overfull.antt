@@ -7,7 +7,7 @@ use Rattle.er_scenario.specs.declared.step.Step.TheVariants as does
 use Rattle.drill_model.specs.declared.world_fault.WorldFault.{WorldFault}
 use Rattle.drill_model.specs.declared.world_fault.WorldFault.TheVariants.{Overfull}
 use Rattle.drill_model.specs.Outcomes.{Occurrence}
-use Rattle.drill_model.specs.Links.{Link, LinkOpening, LinkStep, opened, waiting_of}
+use Rattle.drill_model.specs.Links.{Link, LinkOpening, LinkStep, opened_link, waiting_of}
 use Rattle.drill_model.specs.Worlds.{Plan, World, Came, is_link, link_at, history_on, went_on, open_link, at_link, drain_link, copy_frame, copy_between, world_step}
 use Rattle.drill_model.specs.Faults.{or_else, overfull_fault, overfull_at, first_overfull, overfull_of}
 use Rattle.er_world.specs.declared.link.Link.{Link as KeptLink}
@@ -27,7 +27,7 @@ opens_others : (plan : Plan) (v : World) (m : ℕ) (place : Option Link) (openin
     → link_at (open_link plan v m place opening).0 n ≡ link_at v n
 opens_others plan v m (Some l) opening n apart = refl
 opens_others plan v m None None n apart = refl
-opens_others plan v m None (Some opening) n apart = opens_if (is_link m) v m (opened plan.settings v.moment opening) n apart
+opens_others plan v m None (Some opening) n apart = opens_if (is_link m) v m (opened_link plan.settings v.moment opening) n apart
 
 at_others : (v : World) (m : ℕ) (place : Option Link) (s : LinkStep) (n : ℕ) → (n ≡ m → ⊥) → link_at (at_link v m place s).0 n ≡ link_at v n
 at_others v m None s n apart = refl

@@ -6,8 +6,8 @@ use Rattle.std.proofs.lemmas.List.Concat.{flat_map-append}
 use Rattle.er_base.specs.declared.side.Side.{Side}
 use Rattle.er_base.specs.declared.side.Side.TheVariants.{E, R}
 use Rattle.des_block.specs.declared.triple_key.TripleKey.{TripleKey}
-use Rattle.safe_pair.specs.Facts.{Fact, Sent, Sealed, Verified, Connected, Accepted, SideFact, MarkedFact, Sealing, is_sealing, sealings_of, sealings, was_sealed, is_side, is_mistrust, mistrusts, marked_from}
-use Rattle.safe_pair.specs.Marks.{MarksGrow}
+use Rattle.safety_pair_laws.specs.Facts.{Fact, Sent, Sealed, Verified, Connected, Accepted, SideFact, MarkedFact, Sealing, is_sealing, sealings_of, sealings, was_sealed, is_side, is_mistrust, mistrusts, marked_from}
+use Rattle.safety_pair_laws.specs.Marks.{MarksGrow}
 use Rattle.drill_model.specs.Outcomes.{Outcome, OfSafety, Handed, Arrived, Up, Took, NothingToTake, Refused, Released, Frame, Expired, at_end, facts_at, facts_in, frames_of, frames_in}
 use Rattle.drill_model.specs.Marks.{outcome_forged, marks_behind}
 use Rattle.drill_model.specs.Texts.{outcome_line, link_lines}

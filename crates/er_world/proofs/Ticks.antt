@@ -5,7 +5,7 @@ use Rattle.std.specs.Prelude.{slice_set, slice_index_or}
 use Rattle.std.proofs.lemmas.Bool.{lt-ltb, le-ltb}
 use Rattle.drill_model.specs.declared.world_fault.WorldFault.TheVariants.{MomentBack}
 use Rattle.drill_model.specs.Links.{Link, Tick, link_step}
-use Rattle.drill_model.specs.Worlds.{World, Came, link_at, at_link, ticks, ticked, then_world}
+use Rattle.drill_model.specs.Worlds.{World, Came, link_at, at_link, tick_each_link, tick_world, then_world}
 use Rattle.drill_model.specs.Faults.{wants_moment}
 use Rattle.drill_model.specs.Marks.{marks_from}
 use Rattle.drill_model.specs.Texts.{lines}
@@ -45,13 +45,13 @@ ticks_some grows w old n moment place kept after before now whole size few read 
 
 -- ---- all links
 
-no_ticks : (moment : ℕ) (w : World) (n : ℕ) → ticks moment w n zero ≡ (w, [])
-unfolding ticks
+no_ticks : (moment : ℕ) (w : World) (n : ℕ) → tick_each_link moment w n zero ≡ (w, [])
+unfolding tick_each_link
 no_ticks moment w n = refl
 
 one_tick : (moment : ℕ) (w : World) (n left : ℕ)
-    → ticks moment w n (suc left) ≡ then_world (at_link w n (link_at w n) (Tick moment)) (λ v. ticks moment v (n + 1) left)
-unfolding ticks
+    → tick_each_link moment w n (suc left) ≡ then_world (at_link w n (link_at w n) (Tick moment)) (λ v. tick_each_link moment v (n + 1) left)
+unfolding tick_each_link
 one_tick moment w n left = refl
 
 pub ticking_begins : WorldGrows → (moment : ℕ) (w : World) (came : List Came) (kept : KeptWorld) (before : List ℕ) → StandsWorld kept w came
@@ -74,14 +74,14 @@ goes_on grows moment w show came n kept new before between now d few shows does 
     let a : World × List Came = at_link d.world n (link_at d.world n) (Tick moment) in
     let went : WorldWent a show (came ++ d.more) new between now =
     subst (λ b. WorldWent a b (came ++ d.more) new between now) shows (does d.world (came ++ d.more) d.went.stands) in
-    let rest : World × List Came = ticks moment a.0 (n + 1) left in
+    let rest : World × List Came = tick_each_link moment a.0 (n + 1) left in
     record {
       world = a.0;
       more = d.more ++ a.1;
       left = left;
       all = omega (arith, d.all, is);
       whole = d.whole
-          ∙ ap (λ k. then_world (d.world, d.more) (λ v. ticks moment v n k)) is
+          ∙ ap (λ k. then_world (d.world, d.more) (λ v. tick_each_link moment v n k)) is
           ∙ ap (λ (b : World × List Came). (b.0, d.more ++ b.1)) (one_tick moment d.world n left)
           ∙ ap (λ (xs : List Came). (rest.0, xs)) (sym (append_assoc d.more a.1 rest.1));
       went = record {
@@ -101,11 +101,11 @@ ticking_goes_on grows moment w show came n kept new before between now d few sho
     goes_on grows moment w show came n kept new before between now d few shows does d.left refl
 
 pub ticking_ends : (moment : ℕ) (w : World) (show : Bool) (came : List Came) (n : ℕ) (kept : KeptWorld) (before now : List ℕ)
-    → Ticking moment w show came n kept before now → 65 ≤ n → WorldWent (ticks moment w 1 64) show came kept before now
+    → Ticking moment w show came n kept before now → 65 ≤ n → WorldWent (tick_each_link moment w 1 64) show came kept before now
 ticking_ends moment w show came n kept before now d over =
     let none : d.left ≡ zero = omega (arith, d.all, over) in
-    let whole : ticks moment w 1 64 ≡ (d.world, d.more) =
-    d.whole ∙ ap (λ k. then_world (d.world, d.more) (λ v. ticks moment v n k)) none
+    let whole : tick_each_link moment w 1 64 ≡ (d.world, d.more) =
+    d.whole ∙ ap (λ k. then_world (d.world, d.more) (λ v. tick_each_link moment v n k)) none
     ∙ ap (λ (b : World × List Came). (b.0, d.more ++ b.1)) (no_ticks moment d.world n)
     ∙ ap (λ (xs : List Came). (d.world, xs)) (append-nil d.more) in
     subst (λ (b : World × List Came). WorldWent b show came kept before now) (sym whole) d.went
@@ -122,8 +122,8 @@ moment_back w moment before = record {
 }
 
 pub ticks_done : (w new : KeptWorld) (moment : ℕ) (before now : List ℕ) → w.moment ≤ moment
-    → WorldDoes (λ v. ticks moment v 1 64) (record w { moment = moment }) new before now
-    → Done (λ v. wants_moment v moment) (λ v. ticked v moment) w new before now
+    → WorldDoes (λ v. tick_each_link moment v 1 64) (record w { moment = moment }) new before now
+    → Done (λ v. wants_moment v moment) (λ v. tick_world v moment) w new before now
 ticks_done w new moment before now after does =
     let late : (v : World) → w.moment ≡ v.moment → nat_lt moment v.moment ≡ false =
     λ v is. subst (λ m. nat_lt moment m ≡ false) is (le-ltb moment w.moment after) in
@@ -132,13 +132,13 @@ ticks_done w new moment before now after does =
       went = λ v came st.
           let next : World = record v { moment = moment } in
           let stands : StandsWorld (record w { moment = moment }) next came = record { places = st.places; moment = refl; within = st.within } in
-          let B : Bool → Type 0 = λ b. WorldWent (if b then (v, []) else ticks moment next 1 64) w.plan.show came new before now in
+          let B : Bool → Type 0 = λ b. WorldWent (if b then (v, []) else tick_each_link moment next 1 64) w.plan.show came new before now in
           subst B (sym (late v st.moment)) (does next came stands);
     }
 
 pub ticks_done_in : (w old new : KeptWorld) (moment : ℕ) (before now : List ℕ) → w ≡ old → w.moment ≤ moment
-    → WorldDoes (λ v. ticks moment v 1 64) (record w { moment = moment }) new before now
-    → Done (λ v. wants_moment v moment) (λ v. ticked v moment) old new before now
+    → WorldDoes (λ v. tick_each_link moment v 1 64) (record w { moment = moment }) new before now
+    → Done (λ v. wants_moment v moment) (λ v. tick_world v moment) old new before now
 ticks_done_in w old new moment before now whole after does =
-    let Q : KeptWorld → Type 0 = λ o. Done (λ v. wants_moment v moment) (λ v. ticked v moment) o new before now in
+    let Q : KeptWorld → Type 0 = λ o. Done (λ v. wants_moment v moment) (λ v. tick_world v moment) o new before now in
     subst Q whole (ticks_done w new moment before now after does)

@@ -10,13 +10,13 @@ use Rattle.drill_model.specs.declared.world_fault.WorldFault.{WorldFault}
 use Rattle.drill_model.specs.declared.world_fault.WorldFault.TheVariants.{NoLink, LinkTwice, MomentBack, Overfull, NoMemory}
 use Rattle.drill_model.specs.Outcomes.{NothingWaits, Occurrence, at_end}
 use Rattle.drill_model.specs.Waiting.{Put}
-use Rattle.drill_model.specs.Links.{Link, LinkOpening, LinkStep, Change, opened, waiting_of, link_step}
-use Rattle.drill_model.specs.Worlds.{Plan, World, Came, On, Drained, Drain, drain, is_link, link_at, with_link, history_on, went_on, open_link, at_link, drained, drain_link, copy_frame, copy_between}
+use Rattle.drill_model.specs.Links.{Link, LinkOpening, LinkStep, Change, opened_link, waiting_of, link_step}
+use Rattle.drill_model.specs.Worlds.{Plan, World, Came, On, Drained, Drain, drain, is_link, link_at, with_link, history_on, went_on, open_link, at_link, with_drain, drain_link, copy_frame, copy_between}
 use Rattle.er_scenario.specs.declared.level.Level.{Level}
 use Rattle.er_scenario.specs.declared.level.Level.TheVariants as level
 use Rattle.des_block.specs.declared.triple_key.TripleKey.{TripleKey}
 use Rattle.er_scenario.specs.declared.step.Step.TheVariants as does
-use Rattle.safe_pair.specs.Openings.{OfFixed}
+use Rattle.safety_pair_laws.specs.Openings.{OfFixed}
 use Rattle.drill_model.specs.Steps.{IsOfLevel}
 use Rattle.drill_model.specs.Links.{OfPair, OfStations}
 use Rattle.drill_model.specs.Worlds.{fixed_opening}
@@ -119,7 +119,7 @@ at_does grows w old n s place kept after before now whole size few read is does 
 drain_went : WorldGrows → (w : KeptWorld) (v : World) (came : List Came) (n passes : ℕ) (d : Drain) (after : KeptLink) (before between now : List ℕ)
     → StandsWorld w v came → n < length w.links → is_link n ≡ true
     → Drains d w.plan.show n passes (history_on n came) after before between → now ≡ between ++ passes_line n passes
-    → WorldWent (drained v n d) w.plan.show came (record w { links = slice_set w.links n (Some after) }) before now
+    → WorldWent (with_drain v n d) w.plan.show came (record w { links = slice_set w.links n (Some after) }) before now
 drain_went grows w v came n passes d after before between now st inside link dr shows =
     let more : List Came = map (On n) d.came ++ Drained n d.passes ∷ [] in
     let here : history_on n more ≡ d.came =
@@ -175,14 +175,14 @@ closed_wanted v n link none = ap (wants_closed n) none ∙ ap (λ b. if b then N
 pub opens_does : {A : Type 0} → (f : A → KeptLink) (found : Option A) → WorldGrows → (w new : KeptWorld) (n : ℕ) (opening : LinkOpening) (kept : KeptLink) (before now : List ℕ)
     → false ≡ is_some found → option_map f found ≡ kept_at w n → is_link n ≡ true
     → new ≡ record w { links = slice_set w.links n (Some kept) } → n < length w.links
-    → ((moment : ℕ) → w.moment ≡ moment → LinkWent (opened w.plan.settings moment opening) w.plan.show n [] kept before now)
+    → ((moment : ℕ) → w.moment ≡ moment → LinkWent (opened_link w.plan.settings moment opening) w.plan.show n [] kept before now)
     → OpenDone w.plan w n (Some opening) new before now
 opens_does f found grows w new n opening kept before now none is link placed inside goes =
     rw placed record {
       none = λ v came st. closed_wanted v n link (closed_none f found w n none is v came st);
       went = λ v came st.
           let gone = nothing_there w v came n (none_from_map f found (kept_at w n) none is) st in
-          let a : Link × List Occurrence = opened w.plan.settings v.moment opening in
+          let a : Link × List Occurrence = opened_link w.plan.settings v.moment opening in
           let after : KeptWorld = record w { links = slice_set w.links n (Some kept) } in
           let went' : LinkWent a w.plan.show n (history_on n came) kept before now =
           subst (λ (h : List Occurrence). LinkWent a w.plan.show n h kept before now) (sym gone.1) (goes v.moment st.moment) in

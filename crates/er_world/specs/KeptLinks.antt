@@ -4,11 +4,11 @@ use Rattle.std.specs.Prelude.{ℕ, ◌≡◌, ◌+◌, ◌<◌, ◌^◌, nat_lt,
 use Rattle.er_base.specs.declared.side.Side.{Side}
 use Rattle.er_base.specs.declared.side.Side.TheVariants.{E, R}
 use Rattle.safety_automaton.specs.Keys.{Entry, key_at}
-use Rattle.safe_pair.specs.Facts.{marked}
+use Rattle.safety_pair_laws.specs.Facts.{marked}
 use Rattle.drill_model.specs.Outcomes.{Occurrence, facts_in}
-use Rattle.drill_model.specs.Waiting.{changes}
+use Rattle.drill_model.specs.Waiting.{change_first}
 use Rattle.drill_model.specs.Links.{Link, key_on}
-use Rattle.station_model.specs.Lines.{next_of}
+use Rattle.hdlc_station_model.specs.Lines.{next_of}
 use Rattle.drill_model.specs.Worlds.{Drain, drain}
 use Rattle.drill_model.specs.Marks.{marks_behind}
 use Rattle.drill_model.specs.Texts.{link_lines}
@@ -71,7 +71,7 @@ TakesFirst old side (Some frame) new =
 
 -- what waits of a side was changed
 pub record ChangesFrames (old : KeptLink) (side : Side) (how : LineChange) (c : Change) (new : KeptLink) : Type 0 where
-  pub changed : changes (change_of how) (waiting_at old side) ≡ (waiting_at new side, outcomes_of c)
+  pub changed : change_first (change_of how) (waiting_at old side) ≡ (waiting_at new side, outcomes_of c)
   pub others : new ≡ with_waiting_at old side (waiting_at new side)
 
 -- the side whose frame a drain passes next, and the side of which too many wait

@@ -4,7 +4,7 @@ use Rattle.std.specs.List.{list_any}
 use Rattle.er_base.specs.declared.side.Side.{Side}
 use Rattle.er_base.specs.declared.side.Side.TheVariants.{E, R}
 use Rattle.des_block.specs.declared.triple_key.TripleKey.{TripleKey}
-use Rattle.safe_pair.specs.Facts.{MarkedFact, Sealing, is_sealing, was_sealed, mistrusts, is_side, marked_from}
+use Rattle.safety_pair_laws.specs.Facts.{MarkedFact, Sealing, is_sealing, was_sealed, mistrusts, is_side, marked_from}
 use Rattle.drill_model.specs.Outcomes.{Outcome, at_end, facts_in, frames_in}
 use Rattle.drill_model.specs.Marks.{marks_behind}
 use Rattle.drill_model.specs.Texts.{link_lines}

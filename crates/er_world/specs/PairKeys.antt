@@ -1,6 +1,6 @@
 -- Representation: the pairs of session keys and text that the code keeps; no claim rests on it.
 use Rattle.std.specs.Prelude.{List, map}
-use Rattle.safe_pair.specs.Facts.{Sealing}
+use Rattle.safety_pair_laws.specs.Facts.{Sealing}
 use Rattle.er_world.specs.declared.sealed_pairs.Pair.{Pair}
 
 -- a pair's three keys and its text

@@ -2,7 +2,7 @@
 use Rattle.std.specs.Prelude.{◌≡◌, ◌||◌, ℕ, List}
 use Rattle.std.specs.List.{list_any}
 use Rattle.des_block.specs.declared.triple_key.TripleKey.{TripleKey}
-use Rattle.safe_pair.specs.Facts.{Sealing, is_sealing}
+use Rattle.safety_pair_laws.specs.Facts.{Sealing, is_sealing}
 
 -- these pairs are kept too
 pub record Gains (more old new : List Sealing) : Type 0 where

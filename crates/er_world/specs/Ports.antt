@@ -1,7 +1,7 @@
 -- Representation: one end of a link as the code keeps it; no claim rests on it.
 use Rattle.std.specs.Prelude.{ℕ, ◌≡◌, List, length}
 use Rattle.std.specs.List.{flat_map}
-use Rattle.safe_pair.specs.Facts.{MarkedFact}
+use Rattle.safety_pair_laws.specs.Facts.{MarkedFact}
 use Rattle.drill_model.specs.declared.totals.Totals.{Totals}
 use Rattle.drill_model.specs.Outcomes.{Outcome}
 use Rattle.drill_model.specs.Ends.{End, EndEvent}

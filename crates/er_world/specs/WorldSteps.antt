@@ -6,7 +6,7 @@ use Rattle.er_scenario.specs.declared.step.Step.TheVariants as does
 use Rattle.drill_model.specs.declared.totals.Totals.{Totals}
 use Rattle.drill_model.specs.declared.world_fault.WorldFault.{WorldFault}
 use Rattle.drill_model.specs.declared.world_fault.WorldFault.TheVariants.{NoLink, LinkTwice, MomentBack, Overfull, NoMemory}
-use Rattle.drill_model.specs.Worlds.{World, Came, ticks, then_world}
+use Rattle.drill_model.specs.Worlds.{World, Came, tick_each_link, then_world}
 use Rattle.drill_model.specs.Marks.{marks_from}
 use Rattle.drill_model.specs.Texts.{lines}
 use Rattle.er_world.specs.declared.link.Link.{Link as KeptLink}
@@ -58,7 +58,7 @@ pub record Ticking (moment : ℕ) (w : World) (show : Bool) (came : List Came) (
   pub more : List Came
   pub left : ℕ
   pub all : number + left ≡ 65
-  pub whole : ticks moment w 1 64 ≡ then_world (world, more) (λ v. ticks moment v number left)
+  pub whole : tick_each_link moment w 1 64 ≡ then_world (world, more) (λ v. tick_each_link moment v number left)
   pub went : WorldWent (world, more) show came kept before now
 
 -- the side of a place of which too many frames wait

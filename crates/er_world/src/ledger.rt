@@ -1,7 +1,7 @@
 //! What is kept of all that came at a link.
 
 ghost use Rattle.std.specs.Prelude.{◌≡◌, [], false, List, IfOk, OnOk};
-ghost use Rattle.safe_pair.specs.Facts.{MarkedFact};
+ghost use Rattle.safety_pair_laws.specs.Facts.{MarkedFact};
 ghost use Rattle.drill_model.specs.Outcomes.{Outcome};
 ghost use Rattle.drill_ends.specs.Tellings.{AreTold};
 ghost use Rattle.er_world.specs.Ledgers.{HoldsLedger, Keeps, Marks, TellsOne, TellsAll, forged_by, mistrusts_of};
@@ -138,7 +138,7 @@ impl Ledger {
         ensures { OnOk result ((outcomes : List Outcome) (before : List MarkedFact) → AreTold outcomes told.items → HoldsLedger self.old before
             → TellsAll place before outcomes self.new waiting.old waiting.new out.old.items out.new.items) }
     {
-        safe_pair::laws::marks_grow();
+        safety_pair_laws::laws::marks_grow();
         while let Some(one) = next_told(&mut told) {
             self.tell(alloc, place, one, waiting, out)?;
         }

@@ -2,7 +2,7 @@
 
 ghost use Rattle.std.specs.Prelude.{◌≡◌, ◌++◌, if◌then◌else◌, [], codes, IfOk, OnOk, OnErr};
 ghost use Rattle.std.specs.Fmt.{decimal};
-ghost use Rattle.drill_model.specs.Outcomes.{RefusedReleased, RefusedNotConnected, RefusedLength, RefusedFull};
+ghost use Rattle.er_end_model.specs.Outcomes.{RefusedReleased, RefusedNotConnected, RefusedLength, RefusedFull};
 ghost use Rattle.drill_ends.specs.Refusals.{shown_refusal};
 ghost use Rattle.er_world.specs.Changes.{change_line};
 ghost use Rattle.drill_model.specs.Texts.{head, up_line, forged_word, by_word, release_words, connected_line, accepted_line, taken_line, none_line, released_line, refused_line, frame_line, empty_line, short_line, passes_line};

@@ -2,7 +2,7 @@
 
 ghost use Rattle.std.specs.Prelude.{◌≡◌, ◌++◌, List, length, slice_get, option_map, IfOk, OnOk};
 ghost use Rattle.safety_automaton.specs.Keys.{key_at};
-ghost use Rattle.safe_pair.specs.Marks.{MarksGrow};
+ghost use Rattle.safety_pair_laws.specs.Marks.{MarksGrow};
 ghost use Rattle.drill_model.specs.Growth.{FactsGrow, LinkMarksGrow};
 ghost use Rattle.drill_model.specs.Outcomes.{Occurrence};
 ghost use Rattle.drill_model.specs.Ends as model;
@@ -45,7 +45,7 @@ fn marks_grow()
     ensures facts { FactsGrow }
     ensures lines { LinkMarksGrow }
 {
-    safe_pair::laws::marks_grow();
+    safety_pair_laws::laws::marks_grow();
     drill_model::laws::histories();
     drill_model::laws::marks_grow();
 }

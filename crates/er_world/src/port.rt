@@ -2,9 +2,9 @@
 
 ghost use Rattle.std.specs.Prelude.{◌≡◌, ◌<◌, ◌^◌, List, [], IfOk, OnOk};
 ghost use Rattle.safety_automaton.specs.Keys.{key_at};
-ghost use Rattle.safe_pair.specs.Facts.{MarkedFact};
+ghost use Rattle.safety_pair_laws.specs.Facts.{MarkedFact};
 ghost use Rattle.drill_model.specs.Ends.{End, end_step};
-ghost use Rattle.drill_model.specs.Waiting.{changes};
+ghost use Rattle.drill_model.specs.Waiting.{change_first};
 ghost use Rattle.er_world.specs.Changes.{IsFirst, change_of, outcomes_of};
 ghost use Rattle.drill_ends.specs.Events.{event_of};
 ghost use Rattle.drill_ends.specs.KeptEnds.{StandsEnd};
@@ -57,7 +57,7 @@ impl Port {
     /// The line changes what waits of this end.
     pub fn change(&mut self, alloc: Global, how: &LineChange) -> Result<Change, NoMemory>
         ensures end { self.new.end ≡ self.old.end }
-        ensures waiting { IfOk result (λ change. changes (change_of how.now) self.old.waiting ≡ (self.new.waiting, outcomes_of change)) }
+        ensures waiting { IfOk result (λ change. change_first (change_of how.now) self.old.waiting ≡ (self.new.waiting, outcomes_of change)) }
     {
         self.waiting.change(alloc, how)
     }

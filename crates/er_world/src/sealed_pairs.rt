@@ -1,6 +1,6 @@
 ghost use Rattle.std.specs.Prelude.{◌≡◌, [], ◌∷◌, OnOk};
 ghost use Rattle.std.specs.List.{list_any};
-ghost use Rattle.safe_pair.specs.Facts.{is_sealing};
+ghost use Rattle.safety_pair_laws.specs.Facts.{is_sealing};
 ghost use Rattle.er_world.specs.Pairs.{Gains};
 ghost use Rattle.er_world.specs.PairKeys.{sealing_of};
 
@@ -27,7 +27,7 @@ pub struct SealedPairs {
 
 impl Model for SealedPairs {
     ghost use Rattle.std.specs.Prelude.{List};
-    ghost use Rattle.safe_pair.specs.Facts.{Sealing};
+    ghost use Rattle.safety_pair_laws.specs.Facts.{Sealing};
 
     ghost Value = { List Sealing };
 

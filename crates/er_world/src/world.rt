@@ -3,16 +3,16 @@
 ghost use Rattle.std.specs.Prelude.{ℕ, ◌≡◌, ◌*◌, ◌++◌, ◌≤◌, ◌<◌, [], List, length, slice_get, slice_set, option_map, Some, true, false, IfOk, IfErr, IfSome, OnOk, OnErr};
 ghost use Rattle.er_base.specs.declared.side.Side.TheVariants.{E};
 ghost use Rattle.er_settings.specs.Ranges.{AllAllowed};
-ghost use Rattle.er_settings.specs.declared.settings.Settings.{Settings as AnySettings};
+ghost use Rattle.er_settings.specs.Values.{Settings as AnySettings};
 ghost use Rattle.er_scenario.specs.Choices.{IsNarrow};
 ghost use Rattle.er_scenario.specs.StepRanges.{IsEtcsNumber};
 ghost use Rattle.er_scenario.specs.declared.step.Step.{Step as AnyStep};
-ghost use Rattle.safe_pair.specs.Openings.{OfFixed, OfKeys};
-ghost use Rattle.safe_pair.specs.Marks.{MarksGrow};
+ghost use Rattle.safety_pair_laws.specs.Openings.{OfFixed, OfKeys};
+ghost use Rattle.safety_pair_laws.specs.Marks.{MarksGrow};
 ghost use Rattle.drill_model.specs.Growth.{FactsGrow, HistoryGrows, HistoryOfOwn, HistoryOfOther, LinkMarksGrow, WorldMarksGrow, LinkText};
 ghost use Rattle.drill_model.specs.Steps.{IsOfLevel, HasEtcsNumbers, HasMoment};
-ghost use Rattle.drill_model.specs.Links.{OfPair, OfStations, OfStacks, Tick, opened};
-ghost use Rattle.drill_model.specs.Worlds.{Plan, link_at, is_link, link_opening, wire_opening, open_link, at_link, drain_link, copy_between, ticks, ticked, world_run, world_step};
+ghost use Rattle.drill_model.specs.Links.{OfPair, OfStations, OfStacks, Tick, opened_link};
+ghost use Rattle.drill_model.specs.Worlds.{Plan, link_at, is_link, link_opening, wire_opening, open_link, at_link, drain_link, copy_between, tick_each_link, tick_world, world_run, world_step};
 ghost use Rattle.drill_model.specs.Faults.{wants, wants_closed, wants_moment, or_else, refusal};
 ghost use Rattle.drill_model.specs.Texts.{last_lines};
 ghost use Rattle.drill_model.specs.Totals.{totals_of};
@@ -119,7 +119,7 @@ fn world_grows()
     ensures world { WorldMarksGrow }
     ensures text { LinkText }
 {
-    safe_pair::laws::marks_grow();
+    safety_pair_laws::laws::marks_grow();
     drill_model::laws::histories();
     drill_model::laws::marks_grow();
 }
@@ -140,7 +140,7 @@ fn called(
     requires engine { IsEtcsNumber engine }
     requires rbc { IsEtcsNumber rbc }
     ensures { IfOk result (λ link. place.side ≡ E → (settings : AnySettings) (now : ℕ) → moment ≡ now
-        → LinkWent (opened settings now (OfPair (OfKeys engine rbc ke kr ra rb))) place.show place.number [] link out.old.items out.new.items) }
+        → LinkWent (opened_link settings now (OfPair (OfKeys engine rbc ke kr ra rb))) place.show place.number [] link out.old.items out.new.items) }
 {
     drill_ends::laws::keys();
     let e = DrillEnd::Safe(Safe::initiator(engine, rbc, ke, rb));
@@ -168,7 +168,7 @@ fn stacked(
     requires engine { IsEtcsNumber engine }
     requires rbc { IsEtcsNumber rbc }
     ensures { IfOk result (λ link. place.side ≡ E → (now : ℕ) → moment ≡ now
-        → LinkWent (opened settings.now now (OfStacks engine rbc ke kr ra rb)) place.show place.number [] link out.old.items out.new.items) }
+        → LinkWent (opened_link settings.now now (OfStacks engine rbc ke kr ra rb)) place.show place.number [] link out.old.items out.new.items) }
 {
     drill_ends::laws::keys();
     er_end::laws::standing();
@@ -192,7 +192,7 @@ fn wired(
     requires allowed { AllAllowed settings.now }
     requires half { selective ≡ true → 2 * settings.now.window ≤ settings.now.modulo }
     ensures { IfOk result (λ link. place.side ≡ E → (now : ℕ) → moment ≡ now
-        → LinkWent (opened settings.now now (OfStations selective)) place.show place.number [] link out.old.items out.new.items) }
+        → LinkWent (opened_link settings.now now (OfStations selective)) place.show place.number [] link out.old.items out.new.items) }
 {
     let e = DrillEnd::Station(StationEnd::calling(alloc, selective, settings)?);
     let r = DrillEnd::Station(StationEnd::called(alloc, selective, settings)?);
@@ -610,7 +610,7 @@ impl World {
         moment: Moment,
         out: &mut Vec<u8>,
     ) -> Result<(), NoMemory>
-        ensures went { OnOk result (WorldDoes (λ w. ticks moment w 1 64) self.old self.new out.old.items out.new.items) }
+        ensures went { OnOk result (WorldDoes (λ w. tick_each_link moment w 1 64) self.old self.new out.old.items out.new.items) }
         ensures plan { self.new.plan ≡ self.old.plan }
         ensures spent { self.new.spent ≡ self.old.spent }
     {
@@ -626,7 +626,7 @@ impl World {
     /// The moment is set, and every end is ticked.
     fn tick(&mut self, alloc: Global, moment: u64, out: &mut Vec<u8>) -> Result<(), WorldFault>
         requires { moment ≤ 1000000000000000 }
-        ensures does { Does (λ w. wants_moment w moment) (λ w. ticked w moment) self.old self.new out.old.items out.new.items result }
+        ensures does { Does (λ w. wants_moment w moment) (λ w. tick_world w moment) self.old self.new out.old.items out.new.items result }
         ensures plan { self.new.plan ≡ self.old.plan }
         ensures spent { self.new.spent ≡ self.old.spent }
     {

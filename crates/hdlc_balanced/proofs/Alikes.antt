@@ -15,13 +15,13 @@ use Rattle.hdlc_frames.specs.Controls.{control_octets}
 use Rattle.hdlc_frames.specs.ControlOctets.{control_of}
 use Rattle.hdlc_frames.specs.Spelling.{spelling}
 use Rattle.hdlc_frames.specs.Framing.{Verdict, Frame as Frame_found, BadFcs, TooShort, TooLong, Aborted}
-use Rattle.station_model.specs.declared.phase.Phase.{Phase}
-use Rattle.station_model.specs.declared.phase.Phase.TheVariants.{Idle, Setting, Up, Down}
-use Rattle.station_model.specs.Frames.{Frame, Rr, Rej, SetUp, Disc, Dm, Ua, modulo, address_of, table_octets, sent_octets}
-use Rattle.station_model.specs.Stations.{Station, Deed, no_deed, is_up, is_down, sees, puts}
-use Rattle.station_model.specs.Sending.{info_at, started, can_send, waiting, sends_next, sends_up_to, sends_waiting, frames_again, sends_again_some, sends_again, starts_timer, settles, gives_up, counts_expiry, expires_at, expires, expires_if_due, is_due, refuses_frame, releases}
-use Rattle.station_model.specs.Receiving.{strays, is_known_address, is_addressed, is_error, errs, named, acknowledges, acknowledging, by_number, accepts, rejects, takes, marks_busy, repeats_rejected, comes_up, agrees, sets_up_again, row, hears, hears_control}
-use Rattle.station_model.specs.Calls.{starts_at, starts, receives, hands, ticks, closes_at, closes}
+use Rattle.hdlc_station_model.specs.declared.phase.Phase.{Phase}
+use Rattle.hdlc_station_model.specs.declared.phase.Phase.TheVariants.{Idle, Setting, Up, Down}
+use Rattle.hdlc_station_model.specs.Frames.{Frame, Rr, Rej, SetUp, Disc, Dm, Ua, modulo, address_of, table_octets, sent_octets}
+use Rattle.hdlc_station_model.specs.Stations.{Station, Deed, no_deed, is_up, is_down, sees, puts}
+use Rattle.hdlc_station_model.specs.Sending.{info_at, started, can_send, waiting, sends_next, sends_up_to, sends_waiting, frames_again, sends_again_some, sends_again, starts_timer, settles, gives_up, counts_expiry, expires_at, expires, expires_if_due, is_due, refuses_frame, releases}
+use Rattle.hdlc_station_model.specs.Receiving.{strays, is_known_address, is_addressed, is_error, errs, named, acknowledges, acknowledging, by_number, accepts, rejects, takes, marks_busy, repeats_rejected, comes_up, agrees, sets_up_again, row, hears, hears_control}
+use Rattle.hdlc_station_model.specs.Calls.{starts_at, starts, receives, hands, ticks, closes_at, closes}
 use Rattle.hdlc_balanced.specs.Kept.{Kept, kept_of, texts, Follows, Tells, Shown}
 use Rattle.hdlc_balanced.specs.Alike.{model_of, Sound, Alike, StepsAlike, KeptIsModelled, Ranged, Does}
 
@@ -62,7 +62,7 @@ puts_same f s t h = puts_alike f f s t (same_frame f s t h) h
 
 -- RR and REJ by what is kept
 abbrev shown_text : (ℕ → Control) → Kept → List ℕ
-shown_text c k = spelling (address_of k.calling) (table_octets (control_octets (modulo k.extended) (c k.got) false) ++ [])
+shown_text c k = spelling (address_of k.calling) (table_octets (control_octets (modulo k.extended) (c k.vr) false) ++ [])
 
 ready_same : (s t : Station) → Alike s t → Alike (puts (Rr (length s.taken)) s) (puts (Rr (length t.taken)) t)
 ready_same s t h = puts_alike (Rr (length s.taken)) (Rr (length t.taken)) s t (ap (shown_text (λ n. control.Rr n)) h.0) h
@@ -74,7 +74,7 @@ reject_same s t h = puts_alike (Rej (length s.taken)) (Rej (length t.taken)) s t
 abbrev info_text : ℕ → Kept → List ℕ
 info_text i k =
     spelling (address_of (not k.calling))
-    (table_octets (control_octets (modulo k.extended) (control.Info ((k.acked + i) % modulo k.extended) k.got) false) ++ slice_index_or k.ring i [])
+    (table_octets (control_octets (modulo k.extended) (control.Info ((k.va + i) % modulo k.extended) k.vr) false) ++ slice_index_or k.ring i [])
 
 info_octets : (i : ℕ) (s : Station) → sent_octets s.calling s.extended (info_at s (s.acked + i)) ≡ info_text i (kept_of s)
 info_octets i s =
@@ -217,7 +217,7 @@ offset_within e (suc n) a r = elim (cases_Bool (a % modulo e == r)) [ inl y ↦ 
 -- what is kept behind an acknowledgement
 abbrev acked_kept : ℕ → Kept → Kept
 acked_kept u k = record k {
-  acked = (k.acked + u) % modulo k.extended;
+  va = (k.va + u) % modulo k.extended;
   ring = drop u k.ring;
   ahead = k.ahead - u;
   expiries = if nat_lt 0 u then 0 else k.expiries;
@@ -234,7 +234,7 @@ acked_is : (u : ℕ) (s : Station) → s.acked ≤ s.sent → kept_of (acknowled
 acked_is u s order =
     let ahead : s.sent - (s.acked + u) ≡ s.sent - s.acked - u = omega arith in
     ap (λ (r : List (List ℕ)). record (kept_of (acknowledges (s.acked + u) s)) { ring = r }) (sym (drop-drop u s.acked s.handed))
-    ∙ ap₂ (λ (a h : ℕ). record (kept_of (acknowledges (s.acked + u) s)) { ring = drop u (drop s.acked s.handed); acked = a; ahead = h }) (sym (mod-add-mod s.acked (modulo s.extended) u)) ahead
+    ∙ ap₂ (λ (a h : ℕ). record (kept_of (acknowledges (s.acked + u) s)) { ring = drop u (drop s.acked s.handed); va = a; ahead = h }) (sym (mod-add-mod s.acked (modulo s.extended) u)) ahead
     ∙ ap₂ (λ (b c : Bool). record (acked_kept u (kept_of s)) { expiries = if b then 0 else s.expiries; timer = if b then (if c then Some (s.moment + s.t1) else None) else s.timer })
     (rise s.acked u) (left s.acked u s.sent order)
 
@@ -249,7 +249,7 @@ number_alike r rest s t keeps h =
     let n : ℕ = s.sent - s.acked in
     let o : Option ℕ = offset s.extended s.acked n r in
     let same_e : s.extended ≡ t.extended = ap (λ (k : Kept). k.extended) h.0 in
-    let acked : s.acked % modulo s.extended ≡ t.acked % modulo s.extended = ap (λ (k : Kept). k.acked) h.0 ∙ ap (λ (e : Bool). t.acked % modulo e) (sym same_e) in
+    let acked : s.acked % modulo s.extended ≡ t.acked % modulo s.extended = ap (λ (k : Kept). k.va) h.0 ∙ ap (λ (e : Bool). t.acked % modulo e) (sym same_e) in
     let in_t : named t.extended t.acked (t.sent - t.acked) r ≡ option_map (λ u. t.acked + u) o =
     ap₂ (λ (e : Bool) (m : ℕ). named e t.acked m r) (sym same_e) (sym (ap (λ (k : Kept). k.ahead) h.0))
     ∙ named_is s.extended n t.acked r ∙ ap (option_map (λ u. t.acked + u)) (offset_same s.extended n t.acked s.acked r (sym acked)) in
@@ -263,15 +263,15 @@ number_alike r rest s t keeps h =
 
 -- ---- N(S)
 
-accepted_kept : (p : List ℕ) (s : Station) → kept_of (accepts p s) ≡ record (kept_of s) { got = (length s.taken % modulo s.extended + 1) % modulo s.extended; begun = true; gap = false; owed = true }
+accepted_kept : (p : List ℕ) (s : Station) → kept_of (accepts p s) ≡ record (kept_of s) { vr = (length s.taken % modulo s.extended + 1) % modulo s.extended; begun = true; gap = false; owed = true }
 accepted_kept p s =
     let len : length (s.taken ++ p ∷ []) ≡ length s.taken + 1 = length-append s.taken (p ∷ []) in
-    ap₂ (λ (g : ℕ) (b : Bool). record (kept_of s) { got = g; begun = b; gap = false; owed = true })
+    ap₂ (λ (g : ℕ) (b : Bool). record (kept_of s) { vr = g; begun = b; gap = false; owed = true })
     (ap (λ (n : ℕ). n % modulo s.extended) len ∙ sym (mod-add-mod (length s.taken) (modulo s.extended) 1)) (lt-ltb 0 (length (s.taken ++ p ∷ [])) (omega arith))
 
 accepts_alike : (p : List ℕ) (s t : Station) → Alike s t → Alike (accepts p s) (accepts p t)
 accepts_alike p s t h = (
-  accepted_kept p s ∙ ap (λ (k : Kept). record k { got = (k.got + 1) % modulo k.extended; begun = true; gap = false; owed = true }) h.0 ∙ sym (accepted_kept p t),
+  accepted_kept p s ∙ ap (λ (k : Kept). record k { vr = (k.vr + 1) % modulo k.extended; begun = true; gap = false; owed = true }) h.0 ∙ sym (accepted_kept p t),
   h.1,
   h.2,
   refl,
@@ -290,7 +290,7 @@ rejects_alike s t h =
 takes_alike : (ns : ℕ) (p : List ℕ) (s t : Station) → Alike s t → Alike (takes ns p s) (takes ns p t)
 takes_alike ns p s t h =
     alike_if (length s.taken % modulo s.extended == ns) (length t.taken % modulo t.extended == ns) (accepts p s) (rejects s) (accepts p t) (rejects t)
-    (ap (λ (k : Kept). k.got == ns) h.0) (λ e. accepts_alike p s t h) (λ e. rejects_alike s t h)
+    (ap (λ (k : Kept). k.vr == ns) h.0) (λ e. accepts_alike p s t h) (λ e. rejects_alike s t h)
 
 -- ---- rows
 
@@ -518,28 +518,28 @@ made_taken false true g small none = elim (cases_Bool (g == 0)) [
 
 pub whole : (k : Kept) → Ranged k → k ≡ kept_of (model_of k)
 whole k r =
-    let m = made_taken k.extended k.begun k.got r.small_got r.none_got in
-    let len = length-replicate k.acked no_payload in
-    let ring : drop k.acked (replicate k.acked no_payload ++ k.ring) ≡ k.ring =
-    ap (λ (n : ℕ). drop n (replicate k.acked no_payload ++ k.ring)) (sym len) ∙ drop-append_seam (replicate k.acked no_payload) k.ring in
-    let ahead : k.acked + k.ahead - k.acked ≡ k.ahead = omega arith in
-    ap₂ (λ (r : List (List ℕ)) (a : ℕ). record k { ring = r; acked = a }) (sym ring) (sym (mod-eq_of_lt r.small_acked))
-    ∙ ap₂ (λ (h g : ℕ). record (kept_of (model_of k)) { ahead = h; got = g; begun = k.begun }) (sym ahead) (sym m.0)
+    let m = made_taken k.extended k.begun k.vr r.small_vr r.none_vr in
+    let len = length-replicate k.va no_payload in
+    let ring : drop k.va (replicate k.va no_payload ++ k.ring) ≡ k.ring =
+    ap (λ (n : ℕ). drop n (replicate k.va no_payload ++ k.ring)) (sym len) ∙ drop-append_seam (replicate k.va no_payload) k.ring in
+    let ahead : k.va + k.ahead - k.va ≡ k.ahead = omega arith in
+    ap₂ (λ (r : List (List ℕ)) (a : ℕ). record k { ring = r; va = a }) (sym ring) (sym (mod-eq_of_lt r.small_va))
+    ∙ ap₂ (λ (h g : ℕ). record (kept_of (model_of k)) { ahead = h; vr = g; begun = k.begun }) (sym ahead) (sym m.0)
     ∙ ap (λ (b : Bool). record (kept_of (model_of k)) { begun = b }) (sym m.1)
 
 sound_made : (k : Kept) → k.ahead ≤ length k.ring → Sound (model_of k)
 sound_made k h =
-    let len = length-replicate k.acked no_payload in
-    let all = length-append (replicate k.acked no_payload) k.ring in
+    let len = length-replicate k.va no_payload in
+    let all = length-append (replicate k.va no_payload) k.ring in
     (omega arith, omega arith)
 
 ranged_of : (s : Station) → Sound s → Ranged (kept_of s)
 ranged_of s h =
     let l = length-drop s.acked s.handed in
     record {
-      small_acked = mod-lt s.acked (some_modulo s.extended);
-      small_got = mod-lt (length s.taken) (some_modulo s.extended);
-      none_got = λ e. let z : length s.taken ≤ 0 = ltb-false 0 (length s.taken) e in let y : length s.taken ≡ 0 = omega arith in ap (λ (n : ℕ). n % modulo s.extended) y ∙ mod-eq_of_lt (some_modulo s.extended);
+      small_va = mod-lt s.acked (some_modulo s.extended);
+      small_vr = mod-lt (length s.taken) (some_modulo s.extended);
+      none_vr = λ e. let z : length s.taken ≤ 0 = ltb-false 0 (length s.taken) e in let y : length s.taken ≡ 0 = omega arith in ap (λ (n : ℕ). n % modulo s.extended) y ∙ mod-eq_of_lt (some_modulo s.extended);
       all_sent = omega (arith, h.0, h.1);
     }
 

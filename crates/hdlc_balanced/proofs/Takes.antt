@@ -1,7 +1,7 @@
 -- Whether an I frame was taken.
 use Rattle.std.proofs.Common.{◌≡◌, ℕ, ◌<◌, ◌≤◌, Bool, true, false, length, arith, eq-eqb, ne_eqb, ltb-true, ltb-false}
 use Rattle.std.specs.Prelude.{◌==◌, nat_lt}
-use Rattle.station_model.specs.Stations.{Station}
+use Rattle.hdlc_station_model.specs.Stations.{Station}
 
 pub none_taken : (s : Station) → nat_lt 0 (length s.taken) ≡ false → (length s.taken == 0) ≡ true
 none_taken s h = eq-eqb (length s.taken) 0 (let z : length s.taken ≤ 0 = ltb-false 0 (length s.taken) h in omega arith)

@@ -3,15 +3,15 @@
 use Rattle.std.specs.Prelude.{◌≡◌, ℕ, ◌+◌, ◌<◌, ◌≤◌, ◌==◌, false, if◌then◌else◌, List, [], ◌++◌, length, replicate, None}
 use Rattle.er_base.specs.Stored.{Stored}
 use Rattle.hdlc_frames.specs.Framing.{Verdict}
-use Rattle.station_model.specs.Frames.{modulo}
-use Rattle.station_model.specs.Stations.{Station, Deed, no_deed}
-use Rattle.station_model.specs.Calls.{starts, receives, hands, finishes, ticks, closes}
+use Rattle.hdlc_station_model.specs.Frames.{modulo}
+use Rattle.hdlc_station_model.specs.Stations.{Station, Deed, no_deed}
+use Rattle.hdlc_station_model.specs.Calls.{starts, receives, hands, finishes, ticks, closes}
 use Rattle.hdlc_balanced.specs.Kept.{Kept, kept_of, texts}
-pub use Rattle.station_core.specs.Kept.{Ranged}
+pub use Rattle.hdlc_station_core.specs.Kept.{Ranged}
 
 -- a number of payloads taken that shows V(R)
 abbrev pub taken_number : Kept → ℕ
-taken_number k = if k.begun then (if k.got == 0 then modulo k.extended else k.got) else 0
+taken_number k = if k.begun then (if k.vr == 0 then modulo k.extended else k.vr) else 0
 
 -- a station of the model that the code keeps so, between two calls: the payloads that are gone are empty ones
 abbrev pub model_of : Kept → Station
@@ -22,9 +22,9 @@ model_of k = record {
   n2 = k.n2;
   t1 = k.t1;
   phase = k.phase;
-  handed = replicate k.acked [] ++ k.ring;
-  acked = k.acked;
-  sent = k.acked + k.ahead;
+  handed = replicate k.va [] ++ k.ring;
+  acked = k.va;
+  sent = k.va + k.ahead;
   taken = replicate (taken_number k) [];
   gap = k.gap;
   held = [];

@@ -1,10 +1,10 @@
 //! What a call of a station tells.
 
 ghost use Rattle.std.specs.Prelude.{◌≡◌};
-ghost use Rattle.station_model.specs.Stations.{no_deed};
+ghost use Rattle.hdlc_station_model.specs.Stations.{no_deed};
 
 use er_base::Release;
-use station_core::Told;
+use hdlc_station_core::{Heard, Reply, Told};
 
 /// What a frame that came brought.
 #[derive(Clone, Copy, Debug, PartialEq, Eq)]
@@ -15,6 +15,15 @@ pub struct LinkDeed<'f> {
     pub payload: Option<&'f [u8]>,
     /// Why the station was released, where it was.
     pub released: Option<Release>,
+}
+
+/// What a frame that came brought, and what it is answered with.
+#[derive(Clone, Copy)]
+pub(crate) struct Brought<'f> {
+    /// What it brought.
+    pub(crate) deed: LinkDeed<'f>,
+    /// What it is answered with.
+    pub(crate) reply: Reply,
 }
 
 impl<'f> LinkDeed<'f> {
@@ -52,6 +61,32 @@ impl<'f> LinkDeed<'f> {
                 payload: None,
                 released: Some(release),
             },
+        }
+    }
+}
+
+impl<'f> Brought<'f> {
+    ghost use Rattle.hdlc_balanced.specs.Told.{deed_of, told_as};
+
+    // Nothing was told, and nothing is answered.
+    pub(crate) fn nothing() -> Brought<'f>
+        ensures deed { deed_of result.deed ≡ no_deed }
+        ensures reply { result.reply ≡ Reply.Nothing }
+    {
+        Brought {
+            deed: LinkDeed::nothing(),
+            reply: Reply::Nothing,
+        }
+    }
+
+    // What a rule did with a frame of this information.
+    pub(crate) fn of(heard: Heard, information: &'f [u8]) -> Brought<'f>
+        ensures deed { deed_of result.deed ≡ told_as information.now heard.told }
+        ensures reply { result.reply ≡ heard.reply }
+    {
+        Brought {
+            deed: LinkDeed::of(heard.told, information),
+            reply: heard.reply,
         }
     }
 }

@@ -1,22 +1,17 @@
 //! What a station with go-back does at a frame that comes.
 
-ghost use Rattle.std.specs.Prelude.{◌≡◌, ◌+◌, ◌-◌, ◌*◌, ◌%◌, ◌<◌, ◌≤◌, ℕ, List, length, option_map, IfSome, Some, None, true, false};
-ghost use Rattle.er_base.specs.Stored.{Stored, HasRoom};
-ghost use Rattle.hdlc_frames.specs.Controls.{IsBelow};
-ghost use Rattle.hdlc_frames.specs.ControlOctets.{control_of};
+ghost use Rattle.std.specs.Prelude.{◌≡◌, Some, true, false};
+ghost use Rattle.er_base.specs.Stored.{Stored};
 ghost use Rattle.hdlc_frames.specs.Shown.{shown};
-ghost use Rattle.station_model.specs.Frames.{modulo};
-ghost use Rattle.station_model.specs.Stations.{no_deed, one_more};
-ghost use Rattle.station_model.specs.Sending.{releases, refuses_frame};
-ghost use Rattle.station_model.specs.Receiving.{is_addressed, is_error, named, by_number, rejects, takes, marks_busy, repeats_rejected, sets_up_again, row_up, row, hears_control, hears_frame, hears};
-ghost use Rattle.hdlc_balanced.specs.Kept.{Follows, Tells, Within};
+ghost use Rattle.hdlc_station_model.specs.Stations.{no_deed};
+ghost use Rattle.hdlc_station_model.specs.Receiving.{is_error, by_number, rejects, takes, marks_busy, repeats_rejected, sets_up_again, row_up, row, hears_control, hears_frame, hears};
+ghost use Rattle.hdlc_station_core.specs.Replies.{Answers, TellsSo, Hears};
 ghost use Rattle.hdlc_balanced.specs.Told.{deed_of, told_as};
 
-use crate::deeds::LinkDeed;
-use er_base::Room;
+use crate::deeds::{Brought, LinkDeed};
 use hdlc_frames::{Control, Found};
-use station_core::{StationCore, Told, has_octets, is_addressed, is_known};
-use station_model::Phase;
+use hdlc_station_core::{Heard, Reply, StationCore, Told, has_octets, is_addressed, is_known};
+use hdlc_station_model::Phase;
 
 // Whether a frame is an error at any phase.
 fn is_error(calling: bool, control: Control, information: &[u8]) -> bool
@@ -38,107 +33,103 @@ fn is_error(calling: bool, control: Control, information: &[u8]) -> bool
 }
 
 // The frame isn't the next one.
-fn reject(station: &mut StationCore, out: &mut Room)
-    requires { HasRoom out.old 2064 }
-    ensures follows { Follows station.old out.old station.new out.new rejects }
-    ensures within { Within station.old out.old station.new out.new 1 }
-    ensures ahead { station.new.ahead ≡ station.old.ahead }
+fn reject(station: &mut StationCore) -> Reply
+    ensures answers { Answers station.old station.new result rejects }
+    ensures window { station.new.window ≡ station.old.window }
 {
     if station.has_gap() {
-        station.say_ready(out);
-    } else {
-        station.mark_gap(true);
-        station.say_reject(out);
+        return Reply::Ready;
     }
+    station.mark_gap(true);
+    Reply::Reject
 }
 
-fn take(station: &mut StationCore, ns: u8, out: &mut Room) -> Told
-    requires { HasRoom out.old 2064 }
-    ensures tells { (payload : List ℕ) → Tells station.old out.old station.new out.new (told_as payload result) (takes ns payload) }
-    ensures within { Within station.old out.old station.new out.new 1 }
-    ensures ahead { station.new.ahead ≡ station.old.ahead }
+fn take(station: &mut StationCore, ns: u8) -> Heard
+    ensures hears { Hears station.old station.new result (λ payload. takes ns payload) }
+    ensures window { station.new.window ≡ station.old.window }
 {
-    if station.got() == ns {
+    if station.vr() == ns {
         station.accept();
-        return Told::Took;
+        return Heard {
+            told: Told::Took,
+            reply: Reply::Nothing,
+        };
     }
-    reject(station, out);
-    Told::Nothing
+    Heard {
+        told: Told::Nothing,
+        reply: reject(station),
+    }
 }
 
 // ---- the rows of a station that is up
 
-fn hear_info(station: &mut StationCore, ns: u8, nr: u8, out: &mut Room) -> Told
-    requires below { nr < modulo station.old.extended }
-    requires room { HasRoom out.old 2064 }
-    ensures tells { (payload : List ℕ) → Tells station.old out.old station.new out.new (told_as payload result) (by_number nr (takes ns payload)) }
-    ensures within { Within station.old out.old station.new out.new 1 }
+fn hear_info(station: &mut StationCore, ns: u8, nr: u8) -> Heard
+    ensures hears { Hears station.old station.new result (λ payload. by_number nr (takes ns payload)) }
+    ensures window { station.new.window ≡ station.old.window }
 {
     let Some(up) = station.named(nr) else {
-        return station.refuse(out);
+        return station.refuse();
     };
     station.acknowledge(up);
-    take(station, ns, out)
+    take(station, ns)
 }
 
 // Frames are sent again at a REJ.
-fn repeat_rejected(station: &mut StationCore, out: &mut Room)
-    requires { HasRoom out.old (station.old.ahead * 2064) }
-    ensures follows { Follows station.old out.old station.new out.new repeats_rejected }
-    ensures within { Within station.old out.old station.new out.new station.old.ahead }
-    ensures ahead { station.new.ahead ≡ station.old.ahead }
+fn repeat_rejected(station: &mut StationCore) -> Reply
+    ensures answers { Answers station.old station.new result repeats_rejected }
+    ensures window { station.new.window ≡ station.old.window }
 {
-    if station.ahead() > 0 {
-        station.send_again(out);
-        station.start_timer();
+    if station.ahead() == 0 {
+        return Reply::Nothing;
     }
+    station.repeat();
+    station.start_timer();
+    Reply::Again
 }
 
-fn hear_reject(station: &mut StationCore, nr: u8, out: &mut Room) -> Told
-    requires below { nr < modulo station.old.extended }
-    requires room { HasRoom out.old ((station.old.window + 1) * 2064) }
-    ensures tells { (information : List ℕ) → Tells station.old out.old station.new out.new (told_as information result) (by_number nr (λ t. repeats_rejected (marks_busy false t))) }
-    ensures within { Within station.old out.old station.new out.new (station.new.ahead + 1) }
+fn hear_reject(station: &mut StationCore, nr: u8) -> Heard
+    ensures hears { Hears station.old station.new result (λ information. by_number nr (λ t. repeats_rejected (marks_busy false t))) }
+    ensures window { station.new.window ≡ station.old.window }
 {
     let Some(up) = station.named(nr) else {
-        return station.refuse(out);
+        return station.refuse();
     };
     station.acknowledge(up);
     station.mark_busy(false);
-    station.bounds();
-    repeat_rejected(station, out);
-    Told::Nothing
+    Heard {
+        told: Told::Nothing,
+        reply: repeat_rejected(station),
+    }
 }
 
 // The set-up frame at a station that is up.
-fn set_up_again(station: &mut StationCore, poll: bool, out: &mut Room) -> Told
-    requires { HasRoom out.old 2064 }
-    ensures tells { (information : List ℕ) → Tells station.old out.old station.new out.new (told_as information result) (sets_up_again poll) }
-    ensures within { Within station.old out.old station.new out.new 1 }
+fn set_up_again(station: &mut StationCore, poll: bool) -> Heard
+    ensures hears { Hears station.old station.new result (λ information. sets_up_again poll) }
+    ensures window { station.new.window ≡ station.old.window }
 {
     if station.has_begun() {
-        return station.refuse(out);
+        return station.refuse();
     }
     station.mark_gap(false);
-    station.say_agreed(poll, out);
-    Told::Nothing
+    Heard {
+        told: Told::Nothing,
+        reply: Reply::Agreed { bit: poll },
+    }
 }
 
-fn hear_up(station: &mut StationCore, control: Control, out: &mut Room) -> Told
-    requires below { IsBelow (modulo station.old.extended) control }
-    requires room { HasRoom out.old ((station.old.window + 1) * 2064) }
-    ensures tells { (information : List ℕ) → Tells station.old out.old station.new out.new (told_as information result) (λ s. row_up s control information) }
-    ensures within { Within station.old out.old station.new out.new (station.new.ahead + 1) }
+fn hear_up(station: &mut StationCore, control: Control) -> Heard
+    ensures hears { Hears station.old station.new result (λ information s. row_up s control information) }
+    ensures window { station.new.window ≡ station.old.window }
 {
     match control {
-        Control::Info { ns, nr } => hear_info(station, ns, nr, out),
-        Control::Rr { nr } => station.hear_ready(nr, false, out),
-        Control::Rnr { nr } => station.hear_ready(nr, true, out),
-        Control::Rej { nr } => hear_reject(station, nr, out),
-        Control::Srej { .. } => station.refuse(out),
-        Control::Sabm { poll } => set_up_again(station, poll, out),
-        Control::Sabme { poll } => set_up_again(station, poll, out),
-        Control::Disc { poll } => station.disconnect(poll, out),
+        Control::Info { ns, nr } => hear_info(station, ns, nr),
+        Control::Rr { nr } => station.hear_ready(nr, false),
+        Control::Rnr { nr } => station.hear_ready(nr, true),
+        Control::Rej { nr } => hear_reject(station, nr),
+        Control::Srej { .. } => station.refuse(),
+        Control::Sabm { poll } => set_up_again(station, poll),
+        Control::Sabme { poll } => set_up_again(station, poll),
+        Control::Disc { poll } => station.disconnect(poll),
         Control::Ua => station.stray(),
         Control::Dm => station.drop_link(),
         Control::Frmr => station.drop_link(),
@@ -148,18 +139,15 @@ fn hear_up(station: &mut StationCore, control: Control, out: &mut Room) -> Told
 // ---- a frame that comes
 
 // The row of a control, by the phase.
-fn row(station: &mut StationCore, control: Control, out: &mut Room) -> Told
-    requires below { IsBelow (modulo station.old.extended) control }
-    requires room { HasRoom out.old ((station.old.window + 1) * 2064) }
-    ensures tells { (information : List ℕ) → Tells station.old out.old station.new out.new (told_as information result) (λ s. row s.phase s control information) }
-    ensures within { Within station.old out.old station.new out.new (station.new.ahead + 1) }
+fn row(station: &mut StationCore, control: Control) -> Heard
+    ensures hears { Hears station.old station.new result (λ information s. row s.phase s control information) }
+    ensures window { station.new.window ≡ station.old.window }
 {
-    station.bounds();
     match station.phase() {
-        Phase::Idle => station.hear_idle(control, out),
-        Phase::Setting => station.hear_setting(control, out),
-        Phase::Up => hear_up(station, control, out),
-        Phase::Down => Told::Nothing,
+        Phase::Idle => station.hear_idle(control),
+        Phase::Setting => station.hear_setting(control),
+        Phase::Up => hear_up(station, control),
+        Phase::Down => Heard::nothing(),
     }
 }
 
@@ -169,68 +157,56 @@ fn hear_control(
     address: u8,
     control: Control,
     information: &[u8],
-    out: &mut Room,
-) -> Told
-    requires below { IsBelow (modulo station.old.extended) control }
-    requires room { HasRoom out.old ((station.old.window + 1) * 2064) }
-    ensures tells { Tells station.old out.old station.new out.new (told_as information.now result) (hears_control address (Some (control, information.now))) }
-    ensures within { Within station.old out.old station.new out.new (station.new.ahead + 1) }
+) -> Heard
+    ensures tells { TellsSo station.old station.new result.reply (told_as information.now result.told) (hears_control address (Some (control, information.now))) }
+    ensures window { station.new.window ≡ station.old.window }
 {
     let calling = station.is_calling();
     if !is_addressed(calling, address, control) {
         return station.stray();
     }
     if is_error(calling, control, information) {
-        return station.err(out);
+        return station.err();
     }
-    row(station, control, out)
+    row(station, control)
 }
 
-fn hear_frame<'f>(
-    station: &mut StationCore,
-    address: u8,
-    body: &'f [u8],
-    out: &mut Room,
-) -> LinkDeed<'f>
-    requires { HasRoom out.old ((station.old.window + 1) * 2064) }
-    ensures tells { Tells station.old out.old station.new out.new (deed_of result) (hears_frame address body.now) }
-    ensures within { Within station.old out.old station.new out.new (station.new.ahead + 1) }
+fn hear_frame<'f>(station: &mut StationCore, address: u8, body: &'f [u8]) -> Brought<'f>
+    ensures tells { TellsSo station.old station.new result.reply (deed_of result.deed) (hears_frame address body.now) }
+    ensures window { station.new.window ≡ station.old.window }
 {
     if !is_known(address) {
-        let told = station.stray();
-        return LinkDeed::of(told, body);
+        return Brought::of(station.stray(), body);
     }
     let Some((control, information)) = station.read(body) else {
-        let told = station.err(out);
-        return LinkDeed::of(told, body);
+        return Brought::of(station.err(), body);
     };
-    let told = hear_control(station, address, control, information, out);
-    LinkDeed::of(told, information)
+    let heard = hear_control(station, address, control, information);
+    Brought::of(heard, information)
 }
 
 // What a deframer found.
-pub(crate) fn hear<'f>(station: &mut StationCore, found: &Found<'f>, out: &mut Room) -> LinkDeed<'f>
-    requires { HasRoom out.old ((station.old.window + 1) * 2064) }
-    ensures tells { Tells station.old out.old station.new out.new (deed_of result) (hears (shown found.now)) }
-    ensures within { Within station.old out.old station.new out.new (station.new.ahead + 1) }
+pub(crate) fn hear<'f>(station: &mut StationCore, found: &Found<'f>) -> Brought<'f>
+    ensures tells { TellsSo station.old station.new result.reply (deed_of result.deed) (hears (shown found.now)) }
+    ensures window { station.new.window ≡ station.old.window }
 {
     match found {
-        Found::Frame(frame) => hear_frame(station, frame.address, frame.body, out),
+        Found::Frame(frame) => hear_frame(station, frame.address, frame.body),
         Found::BadFcs => {
             station.count_bad_fcs();
-            LinkDeed::nothing()
+            Brought::nothing()
         }
         Found::TooShort => {
             station.count_short();
-            LinkDeed::nothing()
+            Brought::nothing()
         }
         Found::TooLong => {
             station.count_long();
-            LinkDeed::nothing()
+            Brought::nothing()
         }
         Found::Aborted => {
             station.count_aborted();
-            LinkDeed::nothing()
+            Brought::nothing()
         }
     }
 }

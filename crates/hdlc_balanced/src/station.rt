@@ -2,19 +2,18 @@
 
 ghost use Rattle.std.specs.Prelude.{◌≡◌, ◌+◌, ◌-◌, ◌*◌, ◌<◌, ◌≤◌, ◌==◌, [], ◌∷◌, ◌++◌, length, IfOk, IfErr, true, false};
 ghost use Rattle.er_base.specs.Stored.{Stored, HasRoom};
-ghost use Rattle.er_settings.specs.Ranges.{AllAllowed};
 ghost use Rattle.hdlc_frames.specs.Shown.{shown};
-ghost use Rattle.station_model.specs.Stations.{made, no_deed};
-ghost use Rattle.station_model.specs.Sending.{waiting};
-ghost use Rattle.station_model.specs.Calls.{starts, receives, hands, finishes, ticks, closes, may_send, deadline};
+ghost use Rattle.hdlc_station_model.specs.Stations.{made, no_deed};
+ghost use Rattle.hdlc_station_model.specs.Sending.{waiting};
+ghost use Rattle.hdlc_station_model.specs.Calls.{starts, receives, hands, finishes, ticks, closes, may_send, deadline};
 
 use crate::deeds::LinkDeed;
 use crate::hearing::hear;
-use er_base::{NoMemory, Release, Room};
+use er_base::{Moment, NoMemory, Release, Room};
 use er_settings::Settings;
 use hdlc_frames::Found;
-use station_core::{Full, StationCore};
-use station_model::Counts;
+use hdlc_station_core::{Full, Payload, StationCore};
+use hdlc_station_model::Counts;
 use std::alloc::Global;
 use std::marker::Model;
 
@@ -39,7 +38,6 @@ impl Station {
 
     /// The calling station of a link.
     pub fn calling(alloc: Global, settings: &Settings) -> Result<Station, NoMemory>
-        requires { AllAllowed settings.now }
         ensures { IfOk result (λ k. k ≡ kept_of (made true (settings.now.modulo == 128) settings.now.window settings.now.n2 settings.now.t1)) }
     {
         let core = StationCore::new(alloc, true, settings)?;
@@ -48,7 +46,6 @@ impl Station {
 
     /// The called station of a link.
     pub fn called(alloc: Global, settings: &Settings) -> Result<Station, NoMemory>
-        requires { AllAllowed settings.now }
         ensures { IfOk result (λ k. k ≡ kept_of (made false (settings.now.modulo == 128) settings.now.window settings.now.n2 settings.now.t1)) }
     {
         let core = StationCore::new(alloc, false, settings)?;
@@ -66,7 +63,8 @@ impl Station {
         ensures within { Within self.old out.old self.new out.new 1 }
     {
         self.core.bounds();
-        self.core.start(now, out);
+        let reply = self.core.start(Moment::new(now));
+        self.core.write(reply, out);
     }
 
     /// What a deframer found comes in: the station answers it, and then sends the payloads that may be sent.
@@ -81,10 +79,12 @@ impl Station {
         if self.core.is_down() {
             return LinkDeed::nothing();
         }
-        self.core.see(now);
-        let deed = hear(&mut self.core, found, out);
+        self.core.see(Moment::new(now));
+        let brought = hear(&mut self.core, found);
+        self.core.bounds();
+        self.core.write(brought.reply, out);
         self.core.send_waiting(out);
-        deed
+        brought.deed
     }
 
     /// A payload of up to 1,026 octets is handed down, to be sent as soon as it may. Full, exactly where 16 payloads wait to
@@ -106,7 +106,8 @@ impl Station {
         ensures sent { length out.new.items + self.old.ahead * 2064 ≤ length out.old.items + self.new.ahead * 2064 }
     {
         self.core.bounds();
-        self.core.hand(now, payload, out)
+        self.core
+            .hand(Moment::new(now), &Payload::new(payload), out)
     }
 
     /// Sends the answer that is still owed for I frames that were taken. It follows each event.
@@ -117,7 +118,8 @@ impl Station {
         ensures within { Within self.old out.old self.new out.new 1 }
     {
         self.core.bounds();
-        self.core.finish(out);
+        let reply = self.core.finish();
+        self.core.write(reply, out);
     }
 
     /// It is this moment: T1 may expire, at most once. Answers why the station was released, where it was.
@@ -129,7 +131,7 @@ impl Station {
         ensures within { Within self.old out.old self.new out.new (self.old.window + 1) }
     {
         self.core.bounds();
-        self.core.tick(now, out)
+        self.core.tick(Moment::new(now), out)
     }
 
     /// The layer above ends the link: DISC where it was being set up or is up, and the station is Down. It tells no release:
@@ -141,7 +143,8 @@ impl Station {
         ensures within { Within self.old out.old self.new out.new 1 }
     {
         self.core.bounds();
-        self.core.close(out);
+        let reply = self.core.close();
+        self.core.write(reply, out);
     }
 
     /// The moment at which the station wants a tick: that at which T1 expires, where T1 runs.

@@ -5,11 +5,11 @@ use Rattle.std.specs.List.{filter}
 use Rattle.std.proofs.lemmas.Bool.{cases_Bool}
 use Rattle.std.proofs.lemmas.List.{append_assoc, map-append}
 use Rattle.std.proofs.lemmas.List.Elements.{filter-append}
-use Rattle.station_model.specs.Frames.{Frame, Srej}
-use Rattle.station_model.specs.Stations.{Station, puts}
-use Rattle.station_model.specs.Selective.{held_for, is_found, is_one_of, numbers_from, missing_below, holds}
+use Rattle.hdlc_station_model.specs.Frames.{Frame, Srej}
+use Rattle.hdlc_station_model.specs.Stations.{Station, puts}
+use Rattle.hdlc_station_model.specs.Selective.{held_for, is_found, is_one_of, numbers_from, missing_below, holds}
 use Rattle.hdlc_selective.specs.Steps.{asks_one, asks_below}
-use Rattle.hdlc_selective.proofs.Behind.{asked_append}
+use Rattle.hdlc_selective.proofs.Behind.{asked_append, held_others}
 
 numbers_last : (n c : ℕ) → numbers_from n (suc c) ≡ numbers_from n c ++ (n + c) ∷ []
 numbers_last n zero = ap (λ (m : ℕ). m ∷ []) (omega arith)
@@ -84,3 +84,24 @@ holds_are up payload s =
       asked = s.asked ++ filter (λ m. not (is_known s m)) (numbers_from (length s.taken) c);
       said = s.said ++ map Srej (filter (λ m. not (is_known s m)) (numbers_from (length s.taken) c));
     }) (omega arith)
+
+-- a frame that is held before the numbers below it are asked for is one of which it makes no difference
+module _ (up : ℕ) (payload : List ℕ) (s : Station) where
+  abbrev held_first : Station
+  held_first = record s { held = s.held ++ (length s.taken + up, payload) ∷ [] }
+
+  same_known : (m : ℕ) → m < length s.taken + up → is_known held_first m ≡ is_known s m
+  same_known m below =
+      ap (λ (o : Option (List ℕ)). is_found o || is_one_of m s.asked) (held_others m (length s.taken + up) payload s.held (λ e. omega (arith, below, e)))
+
+  same_missing : (c from : ℕ) → from + c ≤ length s.taken + up
+      → filter (λ m. not (is_known held_first m)) (numbers_from from c) ≡ filter (λ m. not (is_known s m)) (numbers_from from c)
+  same_missing zero from low = refl
+  same_missing (suc c) from low =
+      ap₂ (λ (b : Bool) (ms : List ℕ). if not b then from ∷ ms else ms) (same_known from (omega (arith, low))) (same_missing c (from + 1) (omega (arith, low)))
+
+  pub asked_behind : asks_below up held_first ≡ holds (length s.taken + up) payload s
+  asked_behind =
+      asks_are up held_first
+      ∙ ap (λ (ms : List ℕ). record held_first { asked = s.asked ++ ms; said = s.said ++ map Srej ms }) (same_missing up (length s.taken) (omega arith))
+      ∙ holds_are up payload s

@@ -4,7 +4,7 @@ use Rattle.std.specs.Prelude.{◌==◌, nat_le, replicate}
 use Rattle.std.specs.List.{filter}
 use Rattle.std.proofs.lemmas.Bool.{cases_Bool, cases_eq, cases_lt, leb-true, leb-false, eqb-false}
 use Rattle.std.proofs.lemmas.List.{get_or-set_other, get_or-set_same}
-use Rattle.station_model.specs.Selective.{held_for, is_found, is_one_of, without_gap}
+use Rattle.hdlc_station_model.specs.Selective.{held_for, is_found, is_one_of, without_gap}
 use Rattle.hdlc_selective.specs.Places.{Place, no_place, cleared, held_in, held_at, asked_at, run_of}
 use Rattle.hdlc_selective.specs.Kept.{IsBehind, AreDistinct}
 use Rattle.hdlc_selective.proofs.Runs.{held_dropped, asked_dropped, run_yes, run_no}

@@ -6,14 +6,14 @@ use Rattle.er_base.specs.Stored.{Stored}
 use Rattle.er_base.specs.declared.cause.Cause.TheVariants as cause
 use Rattle.hdlc_frames.specs.declared.controls.Control.{Control}
 use Rattle.hdlc_frames.specs.declared.controls.Control.TheVariants as control
-use Rattle.station_model.specs.declared.phase.Phase.{Phase}
-use Rattle.station_model.specs.declared.phase.Phase.TheVariants.{Idle, Setting, Up, Down}
-use Rattle.station_model.specs.Frames.{SetUp, Rr}
-use Rattle.station_model.specs.Stations.{Station, is_down, sees, puts}
-use Rattle.station_model.specs.Sending.{can_send, waiting, sends_next, sends_up_to, sends_waiting, sends_again, starts_timer, settles, releases, refuses_frame, gives_up, counts_expiry, expires_at, expires_if_due, is_due}
-use Rattle.station_model.specs.Receiving.{strays, errs, named, acknowledges, acknowledging, by_number, marks_busy, agrees, row_idle}
-use Rattle.station_model.specs.Selective.{repeats_at, repeats_one, selective_row_setting}
-use Rattle.station_model.specs.Calls.{starts_at, starts, hands, finishes, ticks, closes_at, closes}
+use Rattle.hdlc_station_model.specs.declared.phase.Phase.{Phase}
+use Rattle.hdlc_station_model.specs.declared.phase.Phase.TheVariants.{Idle, Setting, Up, Down}
+use Rattle.hdlc_station_model.specs.Frames.{SetUp, Rr}
+use Rattle.hdlc_station_model.specs.Stations.{Station, is_down, sees, puts}
+use Rattle.hdlc_station_model.specs.Sending.{can_send, waiting, sends_next, sends_up_to, sends_waiting, sends_again, starts_timer, settles, releases, refuses_frame, gives_up, counts_expiry, expires_at, expires_if_due, is_due}
+use Rattle.hdlc_station_model.specs.Receiving.{strays, errs, named, acknowledges, acknowledging, by_number, marks_busy, agrees, row_idle}
+use Rattle.hdlc_station_model.specs.Selective.{repeats_at, repeats_one, selective_row_setting}
+use Rattle.hdlc_station_model.specs.Calls.{starts_at, starts, hands, finishes, ticks, closes_at, closes}
 
 pub record Keeps (s t : Station) : Type 0 where
   pub held : t.held ≡ s.held
@@ -30,6 +30,9 @@ keeps_if false s t u h g = g
 
 abbrev same : (s : Station) → Keeps s s
 same s = record { held = refl; asked = refl; taken = refl; gap = refl }
+
+pub keeps_same : (s : Station) → Keeps s s
+keeps_same s = record { held = refl; asked = refl; taken = refl; gap = refl }
 
 pub keeps_strays : (s : Station) → Keeps s (strays s)
 keeps_strays s = record { held = refl; asked = refl; taken = refl; gap = refl }

@@ -3,22 +3,31 @@ use Rattle.std.proofs.Common.{◌≡◌, ◌≢◌, ℕ, zero, suc, ◌+◌, ◌
 use Rattle.std.specs.Prelude.{◌==◌, nat_le, nat_lt}
 use Rattle.std.specs.List.{filter}
 use Rattle.er_base.specs.Stored.{Stored}
-use Rattle.station_model.specs.declared.phase.Phase.{Phase}
-use Rattle.station_model.specs.Frames.{Frame, Srej}
-use Rattle.station_model.specs.Stations.{Station, Deed, no_deed, puts}
-use Rattle.station_model.specs.Sending.{refuses_frame}
-use Rattle.station_model.specs.Receiving.{named, acknowledges, acknowledging, by_number, accepts, agrees}
-use Rattle.station_model.specs.Selective.{held_for, is_found, is_one_of, without_gap, takes_run, holds, says_next, files_at, files}
-use Rattle.station_core.specs.declared.deeds.Told.{Told}
-use Rattle.station_core.specs.declared.deeds.Told.TheVariants.{Nothing, CameUp, Took, Released}
+use Rattle.hdlc_station_model.specs.declared.phase.Phase.{Phase}
+use Rattle.hdlc_station_model.specs.Frames.{Frame, Srej, Rr}
+use Rattle.hdlc_station_model.specs.Stations.{Station, Deed, no_deed, puts}
+use Rattle.hdlc_station_model.specs.Sending.{refuses_frame}
+use Rattle.hdlc_station_model.specs.Receiving.{named, acknowledges, acknowledging, by_number, accepts, agrees}
+use Rattle.hdlc_station_model.specs.Selective.{held_for, is_found, is_one_of, without_gap, takes_run, holds, says_next, files_at, files}
+use Rattle.hdlc_station_core.specs.declared.deeds.Told.{Told}
+use Rattle.hdlc_station_core.specs.declared.deeds.Told.TheVariants.{Nothing, CameUp, Took, Released}
+use Rattle.hdlc_station_core.specs.declared.deeds.Heard.{Heard}
+use Rattle.hdlc_station_core.specs.declared.deeds.Reply.{Reply}
+use Rattle.hdlc_station_core.specs.declared.deeds.Reply.TheVariants as reply
+use Rattle.hdlc_station_core.specs.Replies.{reply_text, Hears}
+use Rattle.hdlc_station_core.specs.Saying.{silent, saying}
 use Rattle.hdlc_selective.specs.declared.deeds.SelectiveDeed.{SelectiveDeed}
+use Rattle.hdlc_selective.specs.declared.deeds.SelectiveHeard.{SelectiveHeard}
+use Rattle.hdlc_selective.specs.declared.deeds.SelectiveReply.{SelectiveReply}
+use Rattle.hdlc_selective.specs.declared.deeds.SelectiveReply.TheVariants.{Plain}
+use Rattle.hdlc_selective.specs.Replies.{IsWritten, HearsSo}
 use Rattle.hdlc_selective.specs.Places.{Place, no_place, cleared, held_in, held_at, asked_at, run_of, lent}
 use Rattle.hdlc_selective.specs.Kept.{Kept, kept_of, Stands, Follows, Tells, Within, IsBehind, SelectiveStands, Moves, Says}
 use Rattle.hdlc_selective.specs.Told.{told_as, deed_of, untaken}
 use Rattle.hdlc_selective.specs.Steps.{asks_one, asks_below, takes_first}
 use Rattle.hdlc_selective.proofs.Runs.{lent_run, run_ends_at}
 use Rattle.hdlc_selective.proofs.Behind.{run_is, behind_asked, behind_held, behind_taken, behind_forgotten}
-use Rattle.hdlc_selective.proofs.Asking.{asked_so_far, asks_are, holds_are}
+use Rattle.hdlc_selective.proofs.Asking.{asked_behind}
 use Rattle.hdlc_selective.proofs.Keeping.{Keeps}
 
 -- ---- steps of the core, which leave the places alone
@@ -57,10 +66,47 @@ pub row_says : (old new : Kept) (places : List Place) (out out' : Stored) (told 
 row_says old new places out out' told d step e f k = λ s before h.
     subst (λ (x : Deed). SelectiveStands new places before out' x (step s)) (sym (e places)) (core_says old new places out out' told step f k s before h)
 
+-- a rule of a station of either kind
+pub row_hears : (old new : Kept) (places : List Place) (heard : Heard) (x : SelectiveHeard) (step : Station → Station)
+    → ((ps : List Place) → deed_of ps x.deed ≡ untaken heard.told) → x.reply ≡ Plain heard.reply → Hears old new heard (λ information. step)
+    → ((s : Station) → Keeps s (step s)) → HearsSo old places new places x step
+row_hears old new places heard x step deed reply hears keeps = λ out out' after w s before h.
+    let v : IsWritten new places out (Plain heard.reply) after out' = subst (λ (r : SelectiveReply). IsWritten new places out r after out') reply w in
+    subst (λ (ps : List Place). SelectiveStands new ps before out' (deed_of ps x.deed) (step s)) (sym v.0)
+    (row_says old new places out out' heard.told x.deed step deed (λ information. hears information out out' v.1) keeps s before h)
+
+-- one that tells nothing and answers nothing
+pub quiet : (old new : Kept) (heard : Heard) (step : Station → Station) → heard ≡ record { told = Nothing; reply = reply.Nothing }
+    → ((out : Stored) → Follows old out new out step) → Hears old new heard (λ information. step)
+quiet old new heard step is follows = subst (λ (x : Heard). Hears old new x (λ information. step)) (sym is)
+    (λ information out out' e s before h. silent new before out out' no_deed (step s) (follows out s before no_deed h) e)
+
+-- a rule that tells nothing
+pub answers_so : (old new : Kept) (places places' : List Place) (x : SelectiveHeard) (r : Reply) (step : Station → Station)
+    → ((ps : List Place) → deed_of ps x.deed ≡ no_deed) → x.reply ≡ Plain r
+    → ((out out' : Stored) → out'.items ≡ out.items ++ reply_text new r → (s : Station) (before : List ℕ) → SelectiveStands old places before out no_deed s → SelectiveStands new places' before out' no_deed (step s))
+    → HearsSo old places new places' x step
+answers_so old new places places' x r step deed same moves = λ out out' after w s before h.
+    let v : IsWritten new places' out (Plain r) after out' = subst (λ (q : SelectiveReply). IsWritten new places' out q after out') same w in
+    subst (λ (ps : List Place). SelectiveStands new ps before out' (deed_of ps x.deed) (step s)) (sym v.0)
+    (subst (λ (d : Deed). SelectiveStands new places' before out' d (step s)) (sym (deed places')) (moves out out' v.1 s before h))
+
+-- RR says again which is the next one
+pub says_ready : (k : Kept) (places : List Place) (before : List ℕ) (out out' : Stored) (s : Station) → SelectiveStands k places before out no_deed s
+    → out'.items ≡ out.items ++ reply_text k reply.Ready → SelectiveStands k places before out' no_deed (says_next s)
+says_ready k places before out out' s h e =
+    lifts k k places before out out' no_deed no_deed s (says_next s) h (saying k before out out' no_deed s (Rr (length s.taken)) reply.Ready refl h.stands e)
+    (record { held = refl; asked = refl; taken = refl; gap = refl })
+
 -- a part that tells nothing
 pub nothing_says : (core : Kept) (places : List Place) (before : List ℕ) (out : Stored) (d : SelectiveDeed) (t : Station)
     → ((ps : List Place) → deed_of ps d ≡ no_deed) → SelectiveStands core places before out no_deed t → SelectiveStands core places before out (deed_of places d) t
 nothing_says core places before out d t e g = subst (λ (x : Deed). SelectiveStands core places before out x t) (sym (e places)) g
+
+-- nothing is written
+pub unwritten : (core : Kept) (places : List Place) (before : List ℕ) (out out' : Stored) (d : Deed) (s : Station) → SelectiveStands core places before out d s
+    → out'.items ≡ out.items ++ [] → SelectiveStands core places before out' d s
+unwritten core places before out out' d s h e = record { stands = silent core before out out' d s h.stands e; behind = h.behind; no_gap = h.no_gap }
 
 -- ---- tests of the model
 
@@ -136,23 +182,24 @@ asked_moves core places before out out' d s up h g low free new =
       no_gap = h.no_gap;
     })
 
--- a frame is held behind the numbers that were asked for
-pub held_moves : (core : Kept) (places places' : List Place) (before : List ℕ) (out out' : Stored) (d : Deed) (s : Station) (up : ℕ) (payload : List ℕ)
-    → SelectiveStands core places before out d s → SelectiveStands core places' before out' d (asks_below up s) → up < length places' → 1 ≤ up
-    → (get_or places up no_place).held ≡ false
-    → SelectiveStands core (set places' up (record (get_or places' up no_place) { payload = payload; held = true })) before out' d (holds (length s.taken + up) payload s)
-held_moves core places places' before out out' d s up payload h g low above free =
-    let a = subst (λ (x : Station). SelectiveStands core places' before out' d x) (asks_are up s) g in
+-- a frame is held, and then the numbers before it are asked for
+pub held_moves : (core : Kept) (places after : List Place) (before : List ℕ) (out out' : Stored) (d : Deed) (s : Station) (up : ℕ) (payload : List ℕ)
+    → SelectiveStands core places before out d s → up < length places → 1 ≤ up → (get_or places up no_place).held ≡ false
+    → Moves core (set places up (record (get_or places up no_place) { payload = payload; held = true })) out core after out' (asks_below up)
+    → SelectiveStands core after before out' d (holds (length s.taken + up) payload s)
+held_moves core places after before out out' d s up payload h low above free asks =
+    let places' = set places up (record (get_or places up no_place) { payload = payload; held = true }) in
+    let t : Station = record s { held = s.held ++ (length s.taken + up, payload) ∷ [] } in
     let none = free_is places (length s.taken) up s.held s.asked h.behind free in
-    subst (λ (x : Station). SelectiveStands core (set places' up (record (get_or places' up no_place) { payload = payload; held = true })) before out' d x) (holds_are up payload s)
-    (record {
-      stands = record { is = a.stands.is; order = a.stands.order; given = a.stands.given; deed = a.stands.deed; text = a.stands.text };
-      behind = behind_held places' (length s.taken) s.held (asked_so_far up s).asked a.behind up payload low above none;
-      no_gap = a.no_gap;
-    })
+    let held : SelectiveStands core places' before out d t = record {
+      stands = record { is = h.stands.is; order = h.stands.order; given = h.stands.given; deed = h.stands.deed; text = h.stands.text };
+      behind = behind_held places (length s.taken) s.held s.asked h.behind up payload low above none;
+      no_gap = h.no_gap;
+    } in
+    subst (λ (x : Station). SelectiveStands core after before out' d x) (asked_behind up payload s) (asks t before d held)
 
 -- the next payload is taken, and those that are held behind it
-module _ (core mid core' : Kept) (places : List Place) (payload : List ℕ) (out : Stored) (before : List ℕ) (s : Station) (h : SelectiveStands core places before out no_deed s) where
+module _ (core core' : Kept) (places : List Place) (payload : List ℕ) (out : Stored) (before : List ℕ) (s : Station) (h : SelectiveStands core places before out no_deed s) where
   abbrev run : List (List ℕ)
   run = run_of (drop 1 places)
 

@@ -3,7 +3,7 @@ use Rattle.std.proofs.Common.{◌≡◌, ℕ, ◌+◌, ◌≤◌, Bool, true, fa
 use Rattle.std.specs.Prelude.{option_map, ◌==◌, not, bit_and}
 use Rattle.hdlc_frames.specs.declared.controls.Control.{Control}
 use Rattle.hdlc_frames.specs.ControlOctets.{control_of, control_at, extended_unnumbered_at, extended_numbered_at, extended_numbered_of}
-use Rattle.station_model.specs.Frames.{modulo}
+use Rattle.hdlc_station_model.specs.Frames.{modulo}
 
 abbrev pub left : Option (Control × List ℕ) → ℕ
 left None = 0

@@ -2,11 +2,11 @@
 use Rattle.std.proofs.Common.{◌≡◌, ◌≢◌, ℕ, zero, suc, ◌+◌, ◌-◌, ◌%◌, ◌<◌, ◌≤◌, Bool, true, false, if◌then◌else◌, Option, Some, None, ap, ◌∙◌, inl, inr, arith, refl, sym, subst, lt-ltb, ltb-true}
 use Rattle.std.specs.Prelude.{◌==◌, nat_lt}
 use Rattle.std.proofs.lemmas.Bool.{cases_Bool}
-use Rattle.station_model.specs.Frames.{modulo}
-use Rattle.station_model.specs.Stations.{Station, puts}
-use Rattle.station_model.specs.Sending.{info_at, starts_timer}
-use Rattle.station_model.specs.Receiving.{named, strays}
-use Rattle.station_model.specs.Selective.{repeats_at, repeats_one}
+use Rattle.hdlc_station_model.specs.Frames.{modulo}
+use Rattle.hdlc_station_model.specs.Stations.{Station, puts}
+use Rattle.hdlc_station_model.specs.Sending.{info_at, starts_timer}
+use Rattle.hdlc_station_model.specs.Receiving.{named, strays}
+use Rattle.hdlc_station_model.specs.Selective.{repeats_at, repeats_one}
 
 abbrev number_in : ℕ → Option ℕ → ℕ
 number_in d None = d

@@ -3,10 +3,10 @@
 use Rattle.std.specs.Prelude.{◌≡◌, ℕ, ◌+◌, ◌<◌, ◌≤◌, Bool, false, List, [], ◌∷◌, length, Option, None}
 use Rattle.er_base.specs.Stored.{Stored}
 use Rattle.hdlc_frames.specs.Framing as framing
-use Rattle.station_model.specs.Stations.{Station, Deed, no_deed}
-use Rattle.station_model.specs.Selective.{held_for, is_one_of}
+use Rattle.hdlc_station_model.specs.Stations.{Station, Deed, no_deed}
+use Rattle.hdlc_station_model.specs.Selective.{held_for, is_one_of}
 use Rattle.hdlc_selective.specs.Places.{Place, held_at, asked_at}
-pub use Rattle.station_core.specs.Kept.{Kept, kept_of, texts, Stands, Follows, Tells, Shown, Within, Ranged}
+pub use Rattle.hdlc_station_core.specs.Kept.{Kept, kept_of, texts, Stands, Follows, Tells, Shown, Within, Ranged}
 
 pub record SelectiveKept : Type 0 where
   pub core : Kept

@@ -3,3 +3,4 @@ pub mod Rings
 pub mod Kept
 pub mod Told
 pub mod Steps
+pub mod Replies

@@ -1,8 +1,8 @@
 -- Representation: the parts of a step of the model that the code does one by one; no claim rests on it.
 use Rattle.std.specs.Prelude.{ℕ, zero, suc, ◌+◌, ◌||◌, if◌then◌else◌, List, [], ◌∷◌, ◌++◌, length}
-use Rattle.station_model.specs.Frames.{Srej}
-use Rattle.station_model.specs.Stations.{Station, puts}
-use Rattle.station_model.specs.Selective.{held_for, is_found, is_one_of, without_gap, takes_run}
+use Rattle.hdlc_station_model.specs.Frames.{Srej}
+use Rattle.hdlc_station_model.specs.Stations.{Station, puts}
+use Rattle.hdlc_station_model.specs.Selective.{held_for, is_found, is_one_of, without_gap, takes_run}
 
 -- a number is asked for, where it didn't come and wasn't asked for
 abbrev pub asks_one : ℕ → Station → Station

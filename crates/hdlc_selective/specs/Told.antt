@@ -1,11 +1,11 @@
 -- Contract: how a clause speaks of what a call of the code tells: as the deed of the model.
 use Rattle.std.specs.Prelude.{ℕ, true, false, List, [], ◌∷◌, Option, Some, None}
-use Rattle.station_model.specs.Stations.{Deed, no_deed}
-use Rattle.station_core.specs.declared.deeds.Told.{Told}
-use Rattle.station_core.specs.declared.deeds.Told.TheVariants.{Nothing, CameUp, Took, Released}
+use Rattle.hdlc_station_model.specs.Stations.{Deed, no_deed}
+use Rattle.hdlc_station_core.specs.declared.deeds.Told.{Told}
+use Rattle.hdlc_station_core.specs.declared.deeds.Told.TheVariants.{Nothing, CameUp, Took, Released}
 use Rattle.hdlc_selective.specs.Places.{Place, lent}
 use Rattle.hdlc_selective.specs.declared.deeds.SelectiveDeed.{SelectiveDeed}
-pub use Rattle.station_core.specs.Told.{told_as, released_as}
+pub use Rattle.hdlc_station_core.specs.Told.{told_as, released_as}
 
 abbrev pub first_of : List (List ℕ) → Option (List ℕ)
 first_of [] = None

@@ -3,6 +3,7 @@
 ghost use Rattle.std.specs.Prelude.{◌≡◌, ◌≤◌, length, true, false};
 ghost use Rattle.hdlc_selective.specs.Places.{no_place, cleared};
 
+use crate::content::Content;
 use std::marker::Model;
 
 // The greatest number of octets between two flags.
@@ -42,10 +43,10 @@ impl Place {
     }
 
     /// Holds a payload; only its octets are written.
-    pub(crate) fn hold(&mut self, payload: &[u8])
-        requires { length payload.now ≤ 1032 }
+    pub(crate) fn hold(&mut self, payload: &Content<'_>)
         ensures { self.new ≡ record self.old { payload = payload.now; held = true } }
     {
+        let payload = payload.octets();
         self.is_held = true;
         self.len = payload.len();
         self.octets[..payload.len()].copy_from_slice(payload);

@@ -4,6 +4,7 @@ ghost use Rattle.std.specs.Prelude.{◌≡◌, ◌+◌, ◌-◌, ◌≤◌, ◌<
 ghost use Rattle.hdlc_selective.specs.Places.{no_place, cleared, run_of};
 ghost use Rattle.hdlc_selective.specs.Rings.{spot};
 
+use crate::content::Content;
 use crate::place::Place;
 use er_base::NoMemory;
 use std::alloc::Global;
@@ -85,9 +86,8 @@ impl Places {
     }
 
     /// Place i holds a payload.
-    pub(crate) fn hold(&mut self, i: usize, payload: &[u8])
-        requires within { i < length self.old }
-        requires fits { length payload.now ≤ 1032 }
+    pub(crate) fn hold(&mut self, i: usize, payload: &Content<'_>)
+        requires { i < length self.old }
         ensures { self.new ≡ slice_set self.old i (record (slice_index_or self.old i no_place) { payload = payload.now; held = true }) }
     {
         let at = spot(self.places.len(), self.head, i);

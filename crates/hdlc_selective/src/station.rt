@@ -2,22 +2,21 @@
 
 ghost use Rattle.std.specs.Prelude.{◌≡◌, ◌+◌, ◌-◌, ◌*◌, ◌<◌, ◌≤◌, ◌==◌, [], length, slice_index_or, IfOk, IfErr, true, false};
 ghost use Rattle.er_base.specs.Stored.{Stored, HasRoom};
-ghost use Rattle.er_settings.specs.Ranges.{AllAllowed};
 ghost use Rattle.hdlc_frames.specs.Shown.{shown};
-ghost use Rattle.station_model.specs.Stations.{made};
-ghost use Rattle.station_model.specs.Sending.{waiting};
-ghost use Rattle.station_model.specs.Calls.{starts, hands, finishes, ticks, closes, may_send, deadline};
-ghost use Rattle.station_model.specs.Selective.{selective_receives};
+ghost use Rattle.hdlc_station_model.specs.Stations.{made};
+ghost use Rattle.hdlc_station_model.specs.Sending.{waiting};
+ghost use Rattle.hdlc_station_model.specs.Calls.{starts, hands, finishes, ticks, closes, may_send, deadline};
+ghost use Rattle.hdlc_station_model.specs.Selective.{selective_receives};
 
 use crate::deeds::SelectiveDeed;
-use crate::hearing;
 use crate::places::Places;
-use er_base::{NoMemory, Release, Room};
+use crate::selective_core::SelectiveCore;
+use er_base::{Moment, NoMemory, Release, Room};
 use er_settings::Settings;
 use er_settings::laws::allowed_are_bounded;
 use hdlc_frames::Found;
-use station_core::{Full, StationCore};
-use station_model::Counts;
+use hdlc_station_core::{Full, Payload, StationCore};
+use hdlc_station_model::Counts;
 use std::alloc::Global;
 use std::marker::Model;
 
@@ -25,20 +24,19 @@ use std::marker::Model;
 /// call does anything.
 #[derive(Drop)]
 pub struct SelectiveStation {
-    pub(crate) core: StationCore,
-    places: Places,
+    pub(crate) core: SelectiveCore,
     taken: usize,
 }
 
 impl Model for SelectiveStation {
-    ghost use Rattle.std.specs.Prelude.{◌≡◌, ◌≤◌, length};
+    ghost use Rattle.std.specs.Prelude.{◌≤◌};
     ghost use Rattle.hdlc_selective.specs.Kept.{SelectiveKept};
 
     ghost Value = { SelectiveKept };
 
-    ghost view = { λ s. record { core = s.core; places = s.places; taken = s.taken } };
+    ghost view = { λ s. record { core = s.core.station; places = s.core.places; taken = s.taken } };
 
-    ghost invariant = { λ s. (length s.places ≡ s.core.window) × (s.taken ≤ s.core.window) };
+    ghost invariant = { λ s. s.taken ≤ s.core.station.window };
 }
 
 impl SelectiveStation {
@@ -48,7 +46,6 @@ impl SelectiveStation {
 
     /// The calling station of a link.
     pub fn calling(alloc: Global, settings: &Settings) -> Result<SelectiveStation, NoMemory>
-        requires allowed { AllAllowed settings.now }
         requires half { 2 * settings.now.window ≤ settings.now.modulo }
         ensures { IfOk result (λ k. IsKeptOf k (made true (settings.now.modulo == 128) settings.now.window settings.now.n2 settings.now.t1)) }
     {
@@ -57,7 +54,6 @@ impl SelectiveStation {
 
     /// The called station of a link.
     pub fn called(alloc: Global, settings: &Settings) -> Result<SelectiveStation, NoMemory>
-        requires allowed { AllAllowed settings.now }
         requires half { 2 * settings.now.window ≤ settings.now.modulo }
         ensures { IfOk result (λ k. IsKeptOf k (made false (settings.now.modulo == 128) settings.now.window settings.now.n2 settings.now.t1)) }
     {
@@ -66,17 +62,13 @@ impl SelectiveStation {
 
     // A station that was just made.
     fn new(alloc: Global, calling: bool, settings: &Settings) -> Result<SelectiveStation, NoMemory>
-        requires { AllAllowed settings.now }
         ensures { IfOk result (λ k. IsKeptOf k (made calling (settings.now.modulo == 128) settings.now.window settings.now.n2 settings.now.t1)) }
     {
         allowed_are_bounded();
-        let core = StationCore::new(alloc, calling, settings)?;
+        let station = StationCore::new(alloc, calling, settings)?;
         let places = Places::new(alloc, settings.window as usize)?;
-        Ok(SelectiveStation {
-            core,
-            places,
-            taken: 0,
-        })
+        let core = SelectiveCore { station, places };
+        Ok(SelectiveStation { core, taken: 0 })
     }
 
     /// A calling station that was just made sends the set-up frame, and T1 starts (`now` in milliseconds). Any other one, a
@@ -90,7 +82,8 @@ impl SelectiveStation {
         ensures taken { self.new.taken ≡ self.old.taken }
         ensures places { self.new.places ≡ self.old.places }
     {
-        self.core.start(now, out);
+        let reply = self.core.station.start(Moment::new(now));
+        self.core.station.write(reply, out);
     }
 
     /// What a deframer found comes in: the station answers it, and then sends the payloads that may be sent. The payloads that were taken
@@ -104,7 +97,7 @@ impl SelectiveStation {
         ensures taken { self.new.taken ≡ result.taken }
         ensures few { result.taken ≤ length self.new.places }
     {
-        let deed = hearing::receive(&mut self.core, &mut self.places, now, found, out);
+        let deed = self.core.receive(Moment::new(now), found, out);
         self.taken = deed.taken;
         deed
     }
@@ -114,7 +107,8 @@ impl SelectiveStation {
         requires { k < self.now.taken }
         ensures { result.now ≡ slice_index_or (lent self.now.taken self.now.places) k [] }
     {
-        self.places.payload(self.places.len() - self.taken + k)
+        let places = &self.core.places;
+        places.payload(places.len() - self.taken + k)
     }
 
     /// A payload of up to 1,026 octets is handed down, to be sent as soon as it may. Full, exactly where 16 payloads wait to
@@ -136,7 +130,9 @@ impl SelectiveStation {
         ensures taken { self.new.taken ≡ self.old.taken }
         ensures places { self.new.places ≡ self.old.places }
     {
-        self.core.hand(now, payload, out)
+        self.core
+            .station
+            .hand(Moment::new(now), &Payload::new(payload), out)
     }
 
     /// Sends the answer that is still owed for I frames that were taken. It follows each event.
@@ -147,7 +143,8 @@ impl SelectiveStation {
         ensures taken { self.new.taken ≡ self.old.taken }
         ensures places { self.new.places ≡ self.old.places }
     {
-        self.core.finish(out);
+        let reply = self.core.station.finish();
+        self.core.station.write(reply, out);
     }
 
     /// It is this moment: T1 may expire, at most once. Answers why the station was released, where it was.
@@ -159,7 +156,7 @@ impl SelectiveStation {
         ensures taken { self.new.taken ≡ self.old.taken }
         ensures places { self.new.places ≡ self.old.places }
     {
-        self.core.tick(now, out)
+        self.core.station.tick(Moment::new(now), out)
     }
 
     /// The layer above ends the link: DISC where it was being set up or is up, and the station is Down. It tells no release:
@@ -171,7 +168,8 @@ impl SelectiveStation {
         ensures taken { self.new.taken ≡ self.old.taken }
         ensures places { self.new.places ≡ self.old.places }
     {
-        self.core.close(out);
+        let reply = self.core.station.close();
+        self.core.station.write(reply, out);
     }
 
     /// The moment at which the station wants a tick: that at which T1 expires, where T1 runs.
@@ -179,7 +177,7 @@ impl SelectiveStation {
         ensures shown { Shown self.now.core (λ s. result ≡ deadline s) }
         ensures kept { result ≡ self.now.core.timer }
     {
-        self.core.deadline()
+        self.core.station.deadline()
     }
 
     /// The number of payloads that wait to be sent for the first time, 16 at the most.
@@ -188,7 +186,7 @@ impl SelectiveStation {
         ensures few { result ≤ 16 }
         ensures kept { result + self.now.core.ahead ≡ length self.now.core.ring }
     {
-        self.core.waiting()
+        self.core.station.waiting()
     }
 
     /// Whether a payload that is handed down now is sent at once.
@@ -196,7 +194,7 @@ impl SelectiveStation {
         ensures shown { Shown self.now.core (λ s. result ≡ may_send s) }
         ensures free { result ≡ true → length self.now.core.ring ≡ self.now.core.ahead }
     {
-        self.core.may_send()
+        self.core.station.may_send()
     }
 
     /// The frames that were ignored so far, by their kind.
@@ -204,6 +202,6 @@ impl SelectiveStation {
         ensures shown { Shown self.now.core (λ s. result ≡ s.counts) }
         ensures kept { result ≡ self.now.core.counts }
     {
-        self.core.counts()
+        self.core.station.counts()
     }
 }

@@ -8,6 +8,7 @@ ghost use Rattle.key_store.specs.Ranges.{IsInRange};
 ghost use Rattle.key_store.specs.Lists.{is_in_range};
 
 use des_block::TripleKey;
+use er_base::{MOST_ETCS_NUMBER, MOST_MOMENT};
 
 /// The KMAC of an engine and a radio block centre, with its first and its last moment in milliseconds.
 #[derive(Clone, Copy, Debug)]
@@ -24,11 +25,6 @@ pub struct KeyEntry {
     pub last: u64,
 }
 
-/// The greatest ETCS number.
-pub const GREATEST_NUMBER: u32 = 16_777_215;
-/// The greatest moment, in milliseconds.
-pub const GREATEST_MOMENT: u64 = 1_000_000_000_000_000;
-
 impl KeyEntry {
     /// Whether its numbers are in their ranges, and its first moment isn't behind its last one.
     pub fn is_in_range(&self) -> bool
@@ -39,16 +35,16 @@ impl KeyEntry {
         let _first = self.kmac.first;
         let _second = self.kmac.second;
         let _third = self.kmac.third;
-        if self.engine > GREATEST_NUMBER {
+        if self.engine > MOST_ETCS_NUMBER {
             return false;
         }
-        if self.rbc > GREATEST_NUMBER {
+        if self.rbc > MOST_ETCS_NUMBER {
             return false;
         }
         if self.first > self.last {
             return false;
         }
-        self.last <= GREATEST_MOMENT
+        self.last <= MOST_MOMENT
     }
 
     /// Whether it is that of a pair and holds at a moment.

@@ -1,6 +1,6 @@
 //! The entries of a key file, one by one.
 
-ghost use Rattle.std.specs.Prelude.{true, ◌≡◌, ◌+◌, ◌<◌, ◌≤◌, ◌^◌, [], ◌∷◌, ◌++◌, length, map, IfOk, IfSome, OnOk};
+ghost use Rattle.std.specs.Prelude.{true, ◌≡◌, ◌+◌, ◌<◌, ◌≤◌, [], ◌∷◌, ◌++◌, map, IfOk, OnOk};
 ghost use Rattle.toml.specs.View.{view, items_view};
 ghost use Rattle.key_store.specs.declared.key_file_fault.KeyFileFault.TheVariants as fault;
 ghost use Rattle.key_store.specs.KeyFiles.{some_or, number_in_field, kmac_spelled, kmac_in_field, moments_in, entry_in, entries_in, three_keys};
@@ -13,14 +13,12 @@ use crate::key_entry::KeyEntry;
 use crate::key_file_fault::KeyFileFault;
 use crate::version::Version;
 use des_block::TripleKey;
-use er_base::{LineFault, NoMemory, number_of, read_exact};
+use er_base::{LineFault, MOST_ETCS_NUMBER, MOST_MOMENT, NoMemory, number_of, read_exact};
 use std::alloc::Global;
 use toml::Value;
 
-/// The greatest ETCS number.
-const GREATEST_NUMBER: u64 = 16_777_215;
-/// The greatest moment, in milliseconds.
-const GREATEST_MOMENT: u64 = 1_000_000_000_000_000;
+/// The greatest ETCS number, as wide as numbers are read.
+const MOST_NUMBER: u64 = MOST_ETCS_NUMBER as u64;
 /// The octets of three keys.
 const KEY_OCTETS: usize = 24;
 
@@ -48,25 +46,18 @@ fn read_number(entry: usize, name: FieldName, most: u64, key: &Value) -> Result<
 
 // Three keys of eight octets.
 #[tactic(auto, unfolding(crate::specs::KeyFiles::three_keys))]
-fn keys(octets: &[u8]) -> Option<TripleKey>
-    requires { length octets.now ≡ 24 }
-    ensures keys { result ≡ Some (three_keys octets.now) }
-    ensures range { IfSome result (λ kmac. IsKey kmac) }
+fn keys(octets: &[u8; KEY_OCTETS]) -> TripleKey
+    ensures keys { result ≡ three_keys octets.now }
+    ensures range { IsKey result }
 {
-    let Some((first, rest)) = octets.split_first_chunk::<8>() else {
-        return None;
-    };
-    let Some((second, rest)) = rest.split_first_chunk::<8>() else {
-        return None;
-    };
-    let Some((third, _)) = rest.split_first_chunk::<8>() else {
-        return None;
-    };
-    Some(TripleKey {
+    let (first, rest) = octets.split_first_chunk::<8>().unwrap();
+    let (second, rest) = rest.split_first_chunk::<8>().unwrap();
+    let (third, _) = rest.split_first_chunk::<8>().unwrap();
+    TripleKey {
         first: number_of(first),
         second: number_of(second),
         third: number_of(third),
-    })
+    }
 }
 
 // The KMAC that a string spells.
@@ -76,10 +67,7 @@ fn kmac_of(alloc: Global, entry: usize, word: &str) -> Result<TripleKey, KeyFile
     ensures range { IfOk result (λ kmac. IsKey kmac) }
 {
     match read_exact(alloc, word.as_bytes(), KEY_OCTETS) {
-        Ok(octets) => match keys(octets.as_slice()) {
-            Some(kmac) => Ok(kmac),
-            None => Err(KeyFileFault::Hex { entry }),
-        },
+        Ok(octets) => Ok(keys(octets.as_slice().try_into().unwrap())),
         Err(LineFault::Refused(_)) => Err(KeyFileFault::Hex { entry }),
         Err(LineFault::NoMemory(want)) => Err(KeyFileFault::NoMemory(want)),
     }
@@ -108,10 +96,10 @@ fn read_moments(version: Version, entry: usize, key: &Value) -> Result<(u64, u64
     ensures range { IfOk result (λ moments. (moments.0 ≤ moments.1) × (moments.1 ≤ 1000000000000000)) }
 {
     match version {
-        Version::One => Ok((0, GREATEST_MOMENT)),
+        Version::One => Ok((0, MOST_MOMENT)),
         Version::Two => {
-            let first = read_number(entry, FieldName::From, GREATEST_MOMENT, key)?;
-            let last = read_number(entry, FieldName::To, GREATEST_MOMENT, key)?;
+            let first = read_number(entry, FieldName::From, MOST_MOMENT, key)?;
+            let last = read_number(entry, FieldName::To, MOST_MOMENT, key)?;
             if first > last {
                 return Err(KeyFileFault::Range { entry });
             }
@@ -131,8 +119,8 @@ fn read_entry(
     ensures said { Gives entry_of result (entry_in version entry (view key.now)) }
     ensures range { IfOk result (λ entry. IsInRange (entry_of entry)) }
 {
-    let engine = read_number(entry, FieldName::Engine, GREATEST_NUMBER, key)? as u32;
-    let rbc = read_number(entry, FieldName::Rbc, GREATEST_NUMBER, key)? as u32;
+    let engine = read_number(entry, FieldName::Engine, MOST_NUMBER, key)? as u32;
+    let rbc = read_number(entry, FieldName::Rbc, MOST_NUMBER, key)? as u32;
     let kmac = read_kmac(alloc, entry, key)?;
     let (first, last) = read_moments(version, entry, key)?;
     Ok(KeyEntry {

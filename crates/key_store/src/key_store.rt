@@ -6,8 +6,9 @@ ghost use Rattle.key_store.specs.Lists.{as_entry, listed_keys};
 use crate::document::{listed_keys, read_document, read_version};
 use crate::key_entry::KeyEntry;
 use crate::key_file_fault::KeyFileFault;
-use crate::key_reader::{are_in_range, read_entries};
+use crate::key_reader::read_entries;
 use crate::key_writer::key_text;
+use crate::ranged_entries::RangedEntries;
 use crate::twice::{first_twice, has_none_twice};
 use des_block::TripleKey;
 use er_base::NoMemory;
@@ -46,7 +47,7 @@ impl KeyStore {
         let document = read_document(alloc, bytes)?;
         let version = read_version(&document)?;
         let entries = read_entries(alloc, version, listed_keys(&document)?)?;
-        match first_twice(alloc, entries.as_slice())? {
+        match first_twice(alloc, &RangedEntries::new(entries.as_slice()))? {
             Some((first, second)) => Err(KeyFileFault::Twice { first, second }),
             None => Ok(KeyStore { entries }),
         }
@@ -57,10 +58,8 @@ impl KeyStore {
     pub fn from_entries(entries: Vec<KeyEntry>) -> Option<KeyStore>
         ensures { result ≡ listed_keys (map as_entry entries.items) }
     {
-        if !are_in_range(entries.as_slice()) {
-            return None;
-        }
-        if !has_none_twice(*entries.allocator(), entries.as_slice()) {
+        let ranged = RangedEntries::checked(entries.as_slice())?;
+        if !has_none_twice(*entries.allocator(), &ranged) {
             return None;
         }
         Some(KeyStore { entries })
@@ -70,7 +69,7 @@ impl KeyStore {
     pub fn to_text(&self, alloc: Global) -> Result<Vec<u8>, NoMemory>
         ensures read_back { IfOk result (λ text. keys_of text.items ≡ Ok self.now) }
     {
-        key_text(alloc, self.entries.as_slice())
+        key_text(alloc, &RangedEntries::new(self.entries.as_slice()))
     }
 }
 

@@ -12,6 +12,7 @@ ghost use Rattle.safety_automaton.specs.Keys.{AreDistinct};
 
 use crate::field_name::FieldName;
 use crate::key_entry::KeyEntry;
+use crate::ranged_entries::RangedEntries;
 use crate::want::want_of_printing;
 use des_block::TripleKey;
 use er_base::{NoMemory, eight_of};
@@ -76,12 +77,13 @@ fn push(list: &mut Vec<Value>, value: Value) -> Result<(), NoMemory>
 }
 
 // The tables of all entries.
-fn entry_tables(alloc: Global, entries: &[KeyEntry]) -> Result<Vec<Value>, NoMemory>
-    requires { AreInRange (map entry_of entries.now) }
-    ensures { IfOk result (λ list. items_view list.items ≡ entry_items (map entry_of entries.now)) }
+fn entry_tables(alloc: Global, entries: &RangedEntries) -> Result<Vec<Value>, NoMemory>
+    ensures made { IfOk result (λ list. items_view list.items ≡ entry_items (map entry_of entries.now)) }
+    ensures range { AreInRange (map entry_of entries.now) }
 {
+    let all = entries.list();
     let mut list = Vec::new(alloc);
-    for entry in entries {
+    for entry in all {
         let value = entry_table(alloc, entry)?;
         push(&mut list, value)?;
     }
@@ -89,9 +91,9 @@ fn entry_tables(alloc: Global, entries: &[KeyEntry]) -> Result<Vec<Value>, NoMem
 }
 
 // The table of the whole file.
-fn file_table(alloc: Global, entries: &[KeyEntry]) -> Result<Table, NoMemory>
-    requires { AreInRange (map entry_of entries.now) }
-    ensures { IfOk result (λ made. table_view made ≡ file_members (map entry_of entries.now)) }
+fn file_table(alloc: Global, entries: &RangedEntries) -> Result<Table, NoMemory>
+    ensures made { IfOk result (λ made. table_view made ≡ file_members (map entry_of entries.now)) }
+    ensures range { AreInRange (map entry_of entries.now) }
 {
     let mut table = Table::new(alloc);
     let keys = entry_tables(alloc, entries)?;
@@ -101,9 +103,8 @@ fn file_table(alloc: Global, entries: &[KeyEntry]) -> Result<Table, NoMemory>
 }
 
 /// The text of a key file of version 2 with these entries.
-pub fn key_text(alloc: Global, entries: &[KeyEntry]) -> Result<Vec<u8>, NoMemory>
-    requires range { AreInRange (map entry_of entries.now) }
-    requires distinct { AreDistinct (map entry_of entries.now) }
+pub fn key_text(alloc: Global, entries: &RangedEntries) -> Result<Vec<u8>, NoMemory>
+    requires { AreDistinct (map entry_of entries.now) }
     ensures { IfOk result (λ text. keys_of text.items ≡ Ok (map entry_of entries.now)) }
 {
     er_base::laws::printed_words();

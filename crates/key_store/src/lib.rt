@@ -11,6 +11,7 @@ mod key_file_fault;
 mod key_reader;
 mod key_store;
 mod key_writer;
+mod ranged_entries;
 mod twice;
 mod version;
 mod want;

@@ -7,10 +7,10 @@ ghost use Rattle.std.specs.Prelude.{◌≡◌, ◌<◌, ◌+◌, [], true, false
 ghost use Rattle.std.specs.List.Sorted.{IsPermutation};
 ghost use Rattle.key_store.specs.KeyFiles.{place_at_once, first_twice};
 ghost use Rattle.key_store.specs.Kept.{entry_of};
-ghost use Rattle.key_store.specs.Ranges.{AreInRange};
 ghost use Rattle.key_store.specs.Spans.{span_of, runs_into, are_apart, are_once, IsInOrder};
 
 use crate::key_entry::KeyEntry;
+use crate::ranged_entries::RangedEntries;
 use er_base::NoMemory;
 use std::alloc::Global;
 
@@ -76,27 +76,25 @@ fn put_in_order(entries: &[KeyEntry], spans: &mut Vec<Span>) -> Result<(), NoMem
 }
 
 // Whether no two of these entries are of one pair and have a moment in common.
-fn are_once(entries: &[KeyEntry], spans: &mut Vec<Span>) -> Result<bool, NoMemory>
-    requires range { AreInRange (map entry_of entries.now) }
+fn are_once(entries: &RangedEntries, spans: &mut Vec<Span>) -> Result<bool, NoMemory>
     ensures { IfOk result (λ once. once ≡ are_once entries.now) }
 {
-    put_in_order(entries, spans)?;
+    put_in_order(entries.list(), spans)?;
     Ok(are_apart(spans.as_slice()))
 }
 
 // How many of these entries stand before the first that is so with an earlier one. There is one.
-fn before_twice(entries: &[KeyEntry], spans: &mut Vec<Span>) -> Result<usize, NoMemory>
-    requires range { AreInRange (map entry_of entries.now) }
-    requires twice { are_once entries.now ≡ false }
+fn before_twice(entries: &RangedEntries, spans: &mut Vec<Span>) -> Result<usize, NoMemory>
+    requires { are_once entries.now ≡ false }
     ensures there { IfOk result (λ before. before < length entries.now) }
     ensures once { IfOk result (λ before. are_once (take before entries.now) ≡ true) }
     ensures twice { IfOk result (λ before. are_once (take (before + 1) entries.now) ≡ false) }
 {
     let mut low = 0;
-    let mut high = entries.len();
+    let mut high = entries.count();
     while high - low > 1 {
         let middle = low + (high - low) / 2;
-        if are_once(&entries[..middle], spans)? {
+        if are_once(&entries.first(middle), spans)? {
             low = middle;
         } else {
             high = middle;
@@ -106,16 +104,19 @@ fn before_twice(entries: &[KeyEntry], spans: &mut Vec<Span>) -> Result<usize, No
 }
 
 /// The least entry that has an earlier one of the same pair with a moment in common, behind the least such earlier one.
-pub fn first_twice(alloc: Global, entries: &[KeyEntry]) -> Result<Option<(usize, usize)>, NoMemory>
-    requires range { AreInRange (map entry_of entries.now) }
+pub fn first_twice(
+    alloc: Global,
+    entries: &RangedEntries,
+) -> Result<Option<(usize, usize)>, NoMemory>
     ensures { IfOk result (λ places. places ≡ first_twice [] (map entry_of entries.now)) }
 {
-    let mut spans = Vec::with_capacity(alloc, entries.len())?;
+    let list = entries.list();
+    let mut spans = Vec::with_capacity(alloc, list.len())?;
     if are_once(entries, &mut spans)? {
         return Ok(None);
     }
     let before = before_twice(entries, &mut spans)?;
-    match place_at_once(&entries[..before], &entries[before]) {
+    match place_at_once(&list[..before], &list[before]) {
         Some(first) => Ok(Some((first, before + 1))),
         None => Ok(None),
     }
@@ -135,13 +136,12 @@ fn are_once_by_pairs(entries: &[KeyEntry]) -> bool
 }
 
 /// Whether no two of these entries are of one pair and have a moment in common; also where memory is short.
-pub fn has_none_twice(alloc: Global, entries: &[KeyEntry]) -> bool
-    requires range { AreInRange (map entry_of entries.now) }
+pub fn has_none_twice(alloc: Global, entries: &RangedEntries) -> bool
     ensures { result ≡ are_once entries.now }
 {
     let mut spans = Vec::new(alloc);
     match are_once(entries, &mut spans) {
         Ok(once) => once,
-        Err(_want) => are_once_by_pairs(entries),
+        Err(_want) => are_once_by_pairs(entries.list()),
     }
 }

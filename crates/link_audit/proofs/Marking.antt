@@ -1,5 +1,5 @@
 -- Lines of other sides and links, and the next one that has the mark.
-use Rattle.std.proofs.Common.{arith, ◌≡◌, ℕ, zero, suc, ◌+◌, ◌*◌, ◌%◌, ◌==◌, ◌<◌, ◌≤◌, if◌then◌else◌, Bool, true, false, inl, inr, List, [], ◌∷◌, ◌++◌, length, map, take, drop, get_or, Some, None, refl, ap, sym, ◌∙◌}
+use Rattle.std.proofs.Common.{arith, ◌≡◌, ℕ, zero, suc, ◌+◌, ◌==◌, ◌<◌, ◌≤◌, if◌then◌else◌, true, inl, inr, List, [], ◌∷◌, ◌++◌, length, map, take, drop, get_or, Some, None, refl, ap, sym, ◌∙◌}
 use Rattle.std.proofs.lemmas.Bool.{cases_Bool, eqb-true, eq-eqb}
 use Rattle.std.proofs.lemmas.List.{drop_all, drop-map, length-map, map-append, take_more}
 use Rattle.std.specs.Prelude.{Option, MatchOption, IfSome}
@@ -38,7 +38,7 @@ skipped link side (x ∷ lines) (suc count) within none =
     rw first (skipped link side lines count (omega arith) (λ k below. none (suc k) (omega arith)))
 
 module _ (link : ℕ) (side : Side) (lines : List TapLine) (marks : List ℕ) (are : marks ≡ marks_in lines) where
-  same_length : length marks ≡ length lines
+  pub same_length : length marks ≡ length lines
   unfolding marks_in
   same_length = ap length are ∙ length-map lines (λ x. mark_in x.step)
 
@@ -48,18 +48,18 @@ module _ (link : ℕ) (side : Side) (lines : List TapLine) (marks : List ℕ) (a
   -- where a search for the mark stops
   pub searched : (r : Option ℕ) → IsFirstByte (is_byte (mark_of link side)) marks r
       → MatchOption r (stream_of link side lines ≡ []) (λ count. stream_of link side lines ≡ stream_of link side (drop count lines))
-      × (IfSome r (λ count. count < length lines) × IfSome r (λ count. count < length marks))
+      × IfSome r (λ count. count < length lines)
   unfolding stream_of
   searched None nowhere =
       let all = same_length in (
         skipped link side lines (length lines) (omega arith) (λ k below. not_at k (nowhere k (omega arith) (omega (arith, below, all))))
             ∙ ap (stream_of link side) (drop_all (length lines) lines (omega arith)),
-        (tt, tt),
+        tt,
       )
   searched (Some count) first =
       let all = same_length in
       let high = first.0.high in
-      (skipped link side lines count (omega (arith, high, all)) (λ k below. not_at k (first.0.before k (omega arith) below)), (omega (arith, high, all), high))
+      (skipped link side lines count (omega (arith, high, all)) (λ k below. not_at k (first.0.before k (omega arith) below)), omega (arith, high, all))
 
 -- the next piece, and what is left
 pub piece_then : (link : ℕ) (side : Side) (lines rest : List TapLine) (x : TapLine) (count : ℕ) → stream_of link side lines ≡ stream_of link side (drop count lines)

@@ -1,11 +1,10 @@
 -- How lines open links: one line more, one that is refused, and none.
-use Rattle.std.proofs.Common.{arith, ◌≡◌, ℕ, ◌<◌, ◌≤◌, ◌+◌, ◌-◌, ◌==◌, Bool, true, false, zero, suc, if◌then◌else◌, List, [], ◌∷◌, length, drop, Option, Some, None, is_some, Err, refl, subst, sym, ap, ◌∙◌, inl, inr}
+use Rattle.std.proofs.Common.{arith, ◌≡◌, ℕ, ◌≤◌, ◌+◌, ◌-◌, ◌==◌, Bool, true, false, zero, suc, List, [], ◌∷◌, length, drop, Option, Some, None, is_some, Err, refl, subst, sym, ap, ◌∙◌, inl, inr}
 use Rattle.std.specs.Prelude.{slice_index_or, slice_set, replicate}
 use Rattle.std.proofs.lemmas.Bool.{cases_eq, ne_eqb}
 use Rattle.std.proofs.lemmas.Bool.Decides.{eqb_tells}
 use Rattle.std.proofs.lemmas.List.{get_or-replicate, get_or-set_same, get_or-set_other, drop_all}
 use Rattle.er_tap.specs.declared.tap_line.TapLine.{TapLine}
-use Rattle.er_tap.specs.declared.tap_step.TapStep.{TapStep}
 use Rattle.er_tap.specs.declared.tap_step.TapStep.TheVariants as step
 use Rattle.er_base.specs.declared.side.Side.{Side}
 use Rattle.er_tap.specs.Ranges.{IsInRange, AreInRange}
@@ -14,7 +13,7 @@ use Rattle.link_audit.specs.declared.opening.Opening.{Opening}
 use Rattle.link_audit.specs.declared.openings.Openings.{Openings}
 use Rattle.tap_model.specs.declared.audit_fault.AuditFault.{AuditFault}
 use Rattle.tap_model.specs.declared.audit_fault.AuditFault.TheVariants.{NoLink, LinkTwice, Sink, NoMemory}
-use Rattle.link_audit.specs.Openings.{shown, shown_of, opening_at, IsAllowed, Stands, Passes, Takes, Checks}
+use Rattle.link_audit.specs.Openings.{shown, shown_of, opening_at, Stands, Passes, Takes, Checks}
 
 -- ---- what is kept
 
@@ -26,14 +25,14 @@ pub none_opened : (n : ℕ) → 1 ≤ n → n ≤ 64 → opening_at (record { li
 unfolding opening_at
 none_opened n least most = ap shown_of (get_or-replicate 64 (n - 1) None None (omega arith))
 
-pub kept_at : (o : Openings) (n : ℕ) → shown_of (slice_index_or o.links (n - 1) None) ≡ opening_at o n
+-- what stands at its place, and none stands past all places
+pub kept_at : (o : Openings) (n place : ℕ) (x : Option Opening) → place ≡ n - 1 → slice_index_or o.links place None ≡ x → shown_of x ≡ opening_at o n
 unfolding opening_at
-kept_at o n = refl
+kept_at o n place x at is = ap shown_of (sym is ∙ ap (λ (k : ℕ). slice_index_or o.links k None) at)
 
 -- whether a link was opened
-is_kept : (o : Openings) (n : ℕ) → is_some (opening_at o n) ≡ is_some (slice_index_or o.links (n - 1) None)
-unfolding opening_at
-is_kept o n = shown_some (slice_index_or o.links (n - 1) None)
+pub is_kept : (x : Option Opening) (o : Openings) (n : ℕ) (found : Bool) → shown_of x ≡ opening_at o n → found ≡ is_some x → is_some (opening_at o n) ≡ found
+is_kept x o n found shows is = ap (λ (y : Option TapOpening). is_some y) (sym shows) ∙ shown_some x ∙ sym is
 
 module _ (o : Openings) (m : ℕ) (x : Opening) where
   -- with one more
@@ -65,11 +64,11 @@ unopened None e = refl
 unopened (Some o) e = absurd cc
 
 -- of a link that isn't opened
-has_none : (opened : List ℕ) (o : Openings) (m : ℕ) → Stands opened o → 1 ≤ m → m ≤ 64 → is_some (slice_index_or o.links (m - 1) None) ≡ false → has m opened ≡ false
-has_none opened o m stands least most none = stands m least most ∙ is_kept o m ∙ none
+has_none : (opened : List ℕ) (o : Openings) (m : ℕ) → Stands opened o → 1 ≤ m → m ≤ 64 → is_some (opening_at o m) ≡ false → has m opened ≡ false
+has_none opened o m stands least most none = stands m least most ∙ none
 
-has_one : (opened : List ℕ) (o : Openings) (m : ℕ) → Stands opened o → 1 ≤ m → m ≤ 64 → is_some (slice_index_or o.links (m - 1) None) ≡ true → has m opened ≡ true
-has_one opened o m stands least most one = stands m least most ∙ is_kept o m ∙ one
+has_one : (opened : List ℕ) (o : Openings) (m : ℕ) → Stands opened o → 1 ≤ m → m ≤ 64 → is_some (opening_at o m) ≡ true → has m opened ≡ true
+has_one opened o m stands least most one = stands m least most ∙ one
 
 stands_more : (opened : List ℕ) (o : Openings) (m : ℕ) (x : Opening) → length o.links ≡ 64 → 1 ≤ m → m ≤ 64 → Stands opened o → Stands (m ∷ opened) (with_one o m x)
 unfolding has
@@ -78,18 +77,18 @@ stands_more opened o m x long least most stands n one more = elim (cases_eq n m)
   | inr other ↦ rw (ne_eqb n m other, another o m x n least one other) (stands n one more)
 ]
 
-opening_more : (o : Openings) (m engine rbc at n : ℕ) → length o.links ≡ 64 → 1 ≤ m → m ≤ 64 → is_some (slice_index_or o.links (m - 1) None) ≡ false → 1 ≤ n → n ≤ 64
+opening_more : (o : Openings) (m engine rbc at n : ℕ) → length o.links ≡ 64 → 1 ≤ m → m ≤ 64 → is_some (opening_at o m) ≡ false → 1 ≤ n → n ≤ 64
     → opening_at (with_one o m (record { engine = engine; rbc = rbc; moment = at })) n ≡ first_opening (opening_at o n) (opens_link n (step.Link m engine rbc at))
 opening_more o m engine rbc at n long least most none one more = elim (cases_eq n m) [
   | inl same ↦
-      let empty = unopened (opening_at o m) (is_kept o m ∙ none) in
+      let empty = unopened (opening_at o m) none in
       rw (same, eq_self m, empty) (this_one o m (record { engine = engine; rbc = rbc; moment = at }) long least most)
   | inr other ↦
       rw (ne_eqb m n (λ e. other (sym e)), first_none (opening_at o n)) (another o m (record { engine = engine; rbc = rbc; moment = at }) n least one other)
 ]
 
 pub link_passes : (o : Openings) (x : TapLine) (m engine rbc at : ℕ) → x.step ≡ step.Link m engine rbc at → length o.links ≡ 64 → IsInRange x.step
-    → is_some (slice_index_or o.links (m - 1) None) ≡ false → Passes o (with_one o m (record { engine = engine; rbc = rbc; moment = at })) x
+    → is_some (opening_at o m) ≡ false → Passes o (with_one o m (record { engine = engine; rbc = rbc; moment = at })) x
 link_passes o x m engine rbc at is long ranged none =
     let range = rw is at ranged in
     record {
@@ -99,13 +98,13 @@ link_passes o x m engine rbc at is long ranged none =
     }
 
 pub link_twice : (o : Openings) (x : TapLine) (m engine rbc at : ℕ) → x.step ≡ step.Link m engine rbc at → IsInRange x.step
-    → is_some (slice_index_or o.links (m - 1) None) ≡ true → (opened : List ℕ) → Stands opened o → fault_at opened x.line x.step ≡ Some (TwiceAt x.line m)
+    → is_some (opening_at o m) ≡ true → (opened : List ℕ) → Stands opened o → fault_at opened x.line x.step ≡ Some (TwiceAt x.line m)
 link_twice o x m engine rbc at is ranged one opened stands =
     let range = rw is at ranged in
     rw (is, has_one opened o m stands range.0.0 range.0.1 one) refl
 
 pub octets_pass : (o : Openings) (x : TapLine) (m : ℕ) (side : Side) (text : List ℕ) → x.step ≡ step.Octets m side text → IsInRange x.step
-    → is_some (slice_index_or o.links (m - 1) None) ≡ true → Passes o o x
+    → is_some (opening_at o m) ≡ true → Passes o o x
 octets_pass o x m side text is ranged one =
     let range = rw is at ranged in
     record {
@@ -114,7 +113,7 @@ octets_pass o x m side text is ranged one =
     }
 
 pub no_link : (o : Openings) (x : TapLine) (m : ℕ) (side : Side) (text : List ℕ) → x.step ≡ step.Octets m side text → IsInRange x.step
-    → is_some (slice_index_or o.links (m - 1) None) ≡ false → (opened : List ℕ) → Stands opened o → fault_at opened x.line x.step ≡ Some (NoLinkAt x.line m)
+    → is_some (opening_at o m) ≡ false → (opened : List ℕ) → Stands opened o → fault_at opened x.line x.step ≡ Some (NoLinkAt x.line m)
 no_link o x m side text is ranged none opened stands =
     let range = rw is at ranged in
     rw (is, has_none opened o m stands range.0.0 range.0.1 none) refl
@@ -200,34 +199,3 @@ first_in_range lines x rest is h = (subst AreInRange is h).0
 -- the line at a place
 pub line_in_range : (n : ℕ) (lines : List TapLine) (x : TapLine) → drop n lines ≡ x ∷ drop (n + 1) lines → AreInRange lines → IsInRange x.step
 line_in_range n lines x is h = first_in_range (drop n lines) x (drop (n + 1) lines) is (behind_in_range n lines h)
-
-allowed_same : (a b : TapOpening) → Some a ≡ Some b → IsAllowed a → IsAllowed b
-allowed_same a b same h = (
-  subst (λ n. n < 16777216) (ap engine_in same) h.0,
-  subst (λ n. n < 16777216) (ap rbc_in same) h.1,
-)
-  where
-    engine_in : Option TapOpening → ℕ
-    engine_in None = 0
-    engine_in (Some o) = o.engine
-
-    rbc_in : Option TapOpening → ℕ
-    rbc_in None = 0
-    rbc_in (Some o) = o.rbc
-
-allowed_if : (same : Bool) (engine rbc at : ℕ) (rest : Option TapOpening) (o : TapOpening) → engine < 16777216 → rbc < 16777216
-    → ((o : TapOpening) → rest ≡ Some o → IsAllowed o)
-    → first_opening (if same then Some (record { engine = engine; rbc = rbc; moment = at }) else None) rest ≡ Some o → IsAllowed o
-allowed_if true engine rbc at rest o e r others is =
-    allowed_same (record { engine = engine; rbc = rbc; moment = at }) o is (e, r)
-allowed_if false engine rbc at rest o e r others is = others o is
-
-opens_allowed : (n : ℕ) (said : TapStep) (rest : Option TapOpening) (o : TapOpening) → IsInRange said
-    → ((o : TapOpening) → rest ≡ Some o → IsAllowed o) → first_opening (opens_link n said) rest ≡ Some o → IsAllowed o
-opens_allowed n (step.Link m engine rbc at) rest o h others is = allowed_if (m == n) engine rbc at rest o h.1.0 h.1.1.0 others is
-opens_allowed n (step.Octets m side text) rest o h others is = others o is
-
-pub opening_allowed : (n : ℕ) (lines : List TapLine) (o : TapOpening) → AreInRange lines → opening_of n lines ≡ Some o → IsAllowed o
-unfolding opening_of
-opening_allowed n [] o h is = absurd cc
-opening_allowed n (x ∷ lines) o h is = opens_allowed n x.step (opening_of n lines) o h.0 (λ p e. opening_allowed n lines p h.1 e) is

@@ -1,13 +1,20 @@
 -- The texts of items, sides and links, one part more.
-use Rattle.std.proofs.Common.{arith, ◌≡◌, ◌≤◌, ◌<◌, ◌+◌, ◌-◌, ℕ, zero, suc, List, [], ◌∷◌, ◌++◌, length, drop, slice_get, Option, Some, None, refl, ◌∙◌, ap}
+use Rattle.std.proofs.Common.{arith, ◌≡◌, ◌≤◌, ◌<◌, ◌+◌, ◌-◌, ℕ, zero, suc, List, [], ◌∷◌, ◌++◌, length, drop, slice_get, Option, Some, None, Result, Ok, Err, refl, ◌∙◌, ap, subst}
 use Rattle.std.proofs.lemmas.List.{length-append}
 use Rattle.er_base.specs.declared.side.Side.{Side}
 use Rattle.er_base.specs.LineTexts.{line_end, line_text}
 use Rattle.er_tap.specs.declared.tap_line.TapLine.{TapLine}
-use Rattle.end_model.specs.Steps.{Finds}
+use Rattle.er_end_model.specs.Steps.{Finds}
 use Rattle.tap_model.specs.Verdicts.{Known, Judged, judged, judged_from}
-use Rattle.tap_model.specs.Lines.{opening_of}
-use Rattle.tap_model.specs.Texts.{item_words, side_text, link_text, links_text}
+use Rattle.tap_model.specs.Audits.{Audits}
+use Rattle.tap_model.specs.declared.audit_fault.AuditFault.{AuditFault}
+use Rattle.tap_model.specs.declared.audit_fault.AuditFault.TheVariants.{NoLink, LinkTwice, Sink, NoMemory}
+use Rattle.link_trait.specs.Outside.{Grew, GrewPart}
+use Rattle.tap_model.specs.Lines.{fault_of, opening_of}
+use Rattle.tap_model.specs.Texts.{item_words, side_text, link_text, links_text, audit_text}
+use Rattle.link_audit.specs.declared.openings.Openings.{Openings}
+use Rattle.link_audit.specs.Openings.{opening_at, links_opened}
+use Rattle.link_audit.specs.Writes.{Writes}
 use Rattle.link_audit.proofs.Places.{judged_late}
 
 -- ---- a line
@@ -67,16 +74,34 @@ side_known n side known k items heard e f = rw (e, f) refl
 
 -- ---- all links
 
-pub links_more : (finds : Finds) (lines : List TapLine) (n : ℕ) → n ≤ 64
-    → links_text finds lines n (65 - n) ≡ link_text finds lines n (opening_of n lines) ++ links_text finds lines (n + 1) (65 - (n + 1))
-unfolding links_text
-links_more finds lines n most =
+pub links_more : (finds : Finds) (lines : List TapLine) (o : Openings) (n : ℕ) → n ≤ 64
+    → links_opened finds lines o n (65 - n) ≡ link_text finds lines n (opening_at o n) ++ links_opened finds lines o (n + 1) (65 - (n + 1))
+unfolding links_opened
+links_more finds lines o n most =
     let here : 65 - n ≡ suc (64 - n) = omega (arith, most) in
     let next : 65 - (n + 1) ≡ 64 - n = omega arith in
     rw (here, next) refl
 
-pub links_none : (finds : Finds) (lines : List TapLine) (n : ℕ) → 64 < n → links_text finds lines n (65 - n) ≡ []
-unfolding links_text
-links_none finds lines n past =
+pub links_none : (finds : Finds) (lines : List TapLine) (o : Openings) (n : ℕ) → 64 < n → links_opened finds lines o n (65 - n) ≡ []
+unfolding links_opened
+links_none finds lines o n past =
     let none : 65 - n ≡ zero = omega (arith, past) in
     rw none refl
+
+-- by the lines, where the links were opened as those say
+pub opened_by_lines : (finds : Finds) (lines : List TapLine) (o : Openings) → ((n : ℕ) → 1 ≤ n → n ≤ 64 → opening_at o n ≡ opening_of n lines)
+    → (n count : ℕ) → 1 ≤ n → n + count ≤ 65 → links_opened finds lines o n count ≡ links_text finds lines n count
+unfolding links_opened links_text
+opened_by_lines finds lines o same n zero least most = refl
+opened_by_lines finds lines o same n (suc count) least most =
+    rw (same n least (omega arith))
+    (ap (λ (t : List ℕ). link_text finds lines n (opening_of n lines) ++ t) (opened_by_lines finds lines o same (n + 1) count (omega arith) (omega arith)))
+
+-- what was written of all links is what an audit writes
+pub audited : (finds : Finds) (lines : List TapLine) (text : List ℕ) (before now : Option (List ℕ)) (f g : ℕ) (result : Result (Unit {0}) AuditFault)
+    → text ≡ audit_text finds lines → fault_of lines ≡ None → Writes before now f g text result → Audits finds lines before now f g result
+audited finds lines text before now f g (Ok done) is none w = (none, subst (λ (t : List ℕ). Grew before now t) is w)
+audited finds lines text before now f g (Err (NoLink line n)) is none w = absurd w
+audited finds lines text before now f g (Err (LinkTwice line n)) is none w = absurd w
+audited finds lines text before now f g (Err Sink) is none w = (none, (subst (λ (t : List ℕ). GrewPart before now t) is w.0, w.1))
+audited finds lines text before now f g (Err (NoMemory want)) is none w = (none, subst (λ (t : List ℕ). GrewPart before now t) is w)

@@ -1,7 +1,7 @@
 -- Representation: the rules of a verdict one by one; no claim rests on it.
-use Rattle.std.specs.Prelude.{◌==◌, Bool, true, Ok, Err}
-use Rattle.sapdu.specs.Spelling.{Pdu, Au1, Au2, Au3, Ar, Dt, Di, Fits}
-use Rattle.tap_model.specs.Verdicts.{Known, Read}
+use Rattle.std.specs.Prelude.{◌==◌, Bool, true}
+use Rattle.sapdu.specs.Spelling.{Pdu, Au1, Au2, Au3, Ar, Dt, Di}
+use Rattle.tap_model.specs.Verdicts.{Known}
 
 -- whether the safety feature is 1, where an SaPDU has one
 abbrev pub has_feature : Pdu → Bool
@@ -20,8 +20,3 @@ has_identity known (Au3 mac) = true
 has_identity known (Ar mac) = true
 has_identity known (Dt user mac) = true
 has_identity known (Di reason sub) = true
-
--- what was read has a spelling
-abbrev pub ReadFits : Read → Type 0
-ReadFits (Ok read) = Fits read.0
-ReadFits (Err fault) = Unit {0}

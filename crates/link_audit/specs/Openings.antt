@@ -1,9 +1,11 @@
 -- Representation: what is kept of the links that lines open; no claim rests on it.
-use Rattle.std.specs.Prelude.{ℕ, ◌≡◌, ◌-◌, ◌<◌, ◌≤◌, List, Option, Some, None, is_some, Result, Ok, Err, slice_index_or}
+use Rattle.std.specs.Prelude.{ℕ, zero, suc, ◌≡◌, ◌+◌, ◌-◌, ◌≤◌, List, [], ◌++◌, Option, Some, None, is_some, Result, Ok, Err, slice_index_or}
 use Rattle.er_tap.specs.declared.tap_line.TapLine.{TapLine}
 use Rattle.tap_model.specs.declared.audit_fault.AuditFault.{AuditFault}
 use Rattle.tap_model.specs.declared.audit_fault.AuditFault.TheVariants.{NoLink, LinkTwice, Sink, NoMemory}
 use Rattle.tap_model.specs.Lines.{TapOpening, NoLinkAt, TwiceAt, has, fault_at, opened_by, fault_of, opens_link, first_opening, opening_of}
+use Rattle.er_end_model.specs.Steps.{Finds}
+use Rattle.tap_model.specs.Texts.{link_text}
 use Rattle.link_audit.specs.declared.opening.Opening.{Opening}
 use Rattle.link_audit.specs.declared.openings.Openings.{Openings}
 
@@ -18,9 +20,10 @@ shown_of (Some o) = Some (shown o)
 unfoldable pub opening_at : Openings → ℕ → Option TapOpening
 opening_at o n = shown_of (slice_index_or o.links (n - 1) None)
 
--- its ETCS numbers are in their range
-abbrev pub IsAllowed : TapOpening → Type 0
-IsAllowed o = (o.engine < 16777216) × (o.rbc < 16777216)
+-- the text of the links from number n on, so many, by how they were opened
+unfoldable pub links_opened : Finds → List TapLine → Openings → (n count : ℕ) → List ℕ
+links_opened finds lines o n zero = []
+links_opened finds lines o n (suc count) = link_text finds lines n (opening_at o n) ++ links_opened finds lines o (n + 1) count
 
 -- of each link: whether it is among those that were opened
 abbrev pub Stands : (opened : List ℕ) → Openings → Type 0

@@ -2,7 +2,7 @@
 //!
 //! A digit is reckoned from its value and not looked up, so that the compiler writes many at once.
 
-ghost use Rattle.std.specs.Prelude.{◌≡◌, ◌*◌, ◌<◌, ◌++◌, ◌==◌, if◌then◌else◌, nat_lt, length, replicate, slice_index, OnOk};
+ghost use Rattle.std.specs.Prelude.{◌≡◌, ◌*◌, ◌/◌, ◌%◌, ◌++◌, ◌==◌, if◌then◌else◌, nat_lt, length, replicate, slice_index, OnOk};
 ghost use Rattle.hex.specs.Hex.{lower_digits, encode_lower};
 ghost use Rattle.er_base.specs.Hexadecimal.{hex_of};
 
@@ -15,11 +15,19 @@ fn gap_before(value: u8) -> u8
     if value < 10 { 0 } else { b'a' - b'9' - 1 }
 }
 
-// The digit of a value, in lower case.
-fn digit_of(value: u8) -> u8
-    requires { value < 16 }
-    ensures { result ≡ slice_index lower_digits value }
+// The digit of the high half of an octet, in lower case.
+fn high_digit(octet: u8) -> u8
+    ensures { result ≡ slice_index lower_digits (octet / 16) }
 {
+    let value = octet >> 4;
+    b'0' + value + gap_before(value)
+}
+
+// The digit of its low half.
+fn low_digit(octet: u8) -> u8
+    ensures { result ≡ slice_index lower_digits (octet % 16) }
+{
+    let value = octet % 16;
     b'0' + value + gap_before(value)
 }
 
@@ -30,8 +38,8 @@ fn write_digits(octets: &[u8], digits: &mut [u8])
 {
     'octets: for place in 0..octets.len() {
         let octet = octets[place];
-        digits[2 * place] = digit_of(octet >> 4);
-        digits[2 * place + 1] = digit_of(octet & 0x0f);
+        digits[2 * place] = high_digit(octet);
+        digits[2 * place + 1] = low_digit(octet);
     }
 }
 

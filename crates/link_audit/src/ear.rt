@@ -81,11 +81,10 @@ fn ends(side: Side, address: u8, control: Control, information: &[u8]) -> bool
 
 // Whether this is an I frame with this number.
 fn has_number(count: u8, control: Control) -> bool
-    requires { count < 8 }
     ensures { result ≡ has_number count (sort_of control) }
 {
     match control {
-        Control::Info { ns, .. } => count == ns,
+        Control::Info { ns, .. } => count % 8 == ns,
         _ => false,
     }
 }
@@ -163,15 +162,6 @@ impl Ear {
         if !has_number(self.count, control) {
             return Turned::GoesOn;
         }
-        self.piece(information)
-    }
-
-    // Information that counts.
-    fn piece(&mut self, information: &[u8]) -> Turned
-        requires { self.old.ear.opened ≡ true }
-        ensures turn { turned result self.new ≡ reduced_turn (turn_at_piece self.old.ear information.now) }
-        ensures side { self.new.side ≡ self.old.side }
-    {
         self.count = (self.count + 1) % 8;
         match self.joiner.add(information) {
             Err(_) => Turned::Ends,

@@ -1,13 +1,13 @@
 //! The verdict on an item: the rules in their order.
 
 ghost use Rattle.std.specs.Prelude.{◌≡◌, ◌<◌, [], ◌∷◌, Ok};
-ghost use Rattle.sapdu.specs.Reading.{view, viewed};
-ghost use Rattle.sapdu.specs.Spelling.{Fits};
+ghost use Rattle.sapdu.specs.Reading.{view};
 ghost use Rattle.tap_model.specs.Verdicts.{side_flag, is_expected, mac_in, receiver_of, key_rule, mac_rule, first_of, verdict_on};
-ghost use Rattle.link_audit.specs.Judging.{has_feature, has_identity, ReadFits};
+ghost use Rattle.link_audit.specs.Judging.{has_feature, has_identity};
 
 use crate::known::Known;
-use er_base::Side;
+use crate::read_pdu::ReadPdu;
+use er_base::{EtcsNumber, Side};
 use sapdu::{SaFault, SaPdu, SealedText};
 use tap_model::AuditVerdict;
 
@@ -52,8 +52,8 @@ fn has_identity(known: &Known, pdu: &SaPdu<'_>) -> bool
     ensures { result ≡ has_identity known.now (view pdu.now) }
 {
     match pdu {
-        SaPdu::Au1 { id, .. } => *id == known.engine,
-        SaPdu::Au2 { id, .. } => *id == known.rbc,
+        SaPdu::Au1 { id, .. } => *id == known.engine.get(),
+        SaPdu::Au2 { id, .. } => *id == known.rbc.get(),
         _ => true,
     }
 }
@@ -72,9 +72,8 @@ fn mac_in(pdu: &SaPdu<'_>) -> Option<u64>
 }
 
 // The number of the end to which a side sends.
-fn receiver_of(known: &Known, side: Side) -> u32
-    ensures value { result ≡ receiver_of known.now side }
-    ensures range { result < 16777216 }
+fn receiver_of(known: &Known, side: Side) -> EtcsNumber
+    ensures { result ≡ receiver_of known.now side }
 {
     match side {
         Side::E => known.rbc,
@@ -83,20 +82,19 @@ fn receiver_of(known: &Known, side: Side) -> u32
 }
 
 // The verdict by the MAC alone, where an SaPDU has one.
-fn judge_mac(known: &Known, side: Side, pdu: &SaPdu<'_>, flag: bool) -> AuditVerdict
-    requires { Fits (view pdu.now) }
+fn judge_mac(known: &Known, side: Side, read: &ReadPdu<'_>) -> AuditVerdict
     ensures { result
-        ≡ first_of (key_rule known.now.session (mac_in (view pdu.now))
-        ∷ mac_rule known.now side (view pdu.now) flag known.now.session (mac_in (view pdu.now)) ∷ []) }
+        ≡ first_of (key_rule known.now.session (mac_in read.now.0)
+        ∷ mac_rule known.now side read.now.0 read.now.1 known.now.session (mac_in read.now.0) ∷ []) }
 {
-    let Some(mac) = mac_in(pdu) else {
+    let Some(mac) = mac_in(&read.pdu) else {
         return AuditVerdict::Good;
     };
     let Some(session) = &known.session else {
         return AuditVerdict::NoKey;
     };
-    let receiver = receiver_of(known, side);
-    let text = SealedText::new(pdu, flag, receiver, session.ra, session.rb);
+    let receiver = receiver_of(known, side).get();
+    let text = SealedText::new(&read.pdu, read.flag, receiver, session.ra, session.rb);
     if mac != session.keys.mac(text.octets()) {
         return AuditVerdict::Mac;
     }
@@ -105,23 +103,22 @@ fn judge_mac(known: &Known, side: Side, pdu: &SaPdu<'_>, flag: bool) -> AuditVer
 
 // The verdict on an SaPDU.
 #[tactic(auto, unfolding(tap_model::specs::Verdicts::verdict_on))]
-fn judge_pdu(known: &Known, side: Side, place: u8, pdu: &SaPdu<'_>, flag: bool) -> AuditVerdict
-    requires { Fits (view pdu.now) }
-    ensures { result ≡ verdict_on known.now side place (Ok (view pdu.now, flag)) }
+fn judge_pdu(known: &Known, side: Side, place: u8, read: &ReadPdu<'_>) -> AuditVerdict
+    ensures { result ≡ verdict_on known.now side place (Ok read.now) }
 {
-    if flag != flag_of(side) {
+    if read.flag != flag_of(side) {
         return AuditVerdict::Flag;
     }
-    if !is_expected(side, place, pdu) {
+    if !is_expected(side, place, &read.pdu) {
         return AuditVerdict::Unexpected;
     }
-    if !has_feature(pdu) {
+    if !has_feature(&read.pdu) {
         return AuditVerdict::Feature;
     }
-    if !has_identity(known, pdu) {
+    if !has_identity(known, &read.pdu) {
         return AuditVerdict::Identity;
     }
-    judge_mac(known, side, pdu, flag)
+    judge_mac(known, side, read)
 }
 
 /// The verdict on what an item at this place is read as.
@@ -130,13 +127,12 @@ pub fn judge(
     known: &Known,
     side: Side,
     place: u8,
-    read: &Result<(SaPdu<'_>, bool), SaFault>,
+    read: &Result<ReadPdu<'_>, SaFault>,
 ) -> AuditVerdict
-    requires { ReadFits (viewed read.now) }
-    ensures { result ≡ verdict_on known.now side place (viewed read.now) }
+    ensures { result ≡ verdict_on known.now side place read.now }
 {
     match read {
-        Ok((pdu, flag)) => judge_pdu(known, side, place, pdu, *flag),
+        Ok(pdu) => judge_pdu(known, side, place, pdu),
         Err(_) => AuditVerdict::Malformed,
     }
 }

@@ -3,12 +3,12 @@
 ghost use Rattle.std.specs.Prelude.{◌≡◌};
 ghost use Rattle.sapdu.specs.Spelling.{read_of};
 ghost use Rattle.safety_automaton.specs.Keys.{key_at};
-ghost use Rattle.link_audit.specs.Openings.{IsAllowed, shown};
 ghost use Rattle.tap_model.specs.Verdicts.{ra_in, rb_in, number_of, first_number, session_with, known_of};
 
 use crate::items::Items;
 use crate::opening::Opening;
 use cbc_mac::MacKey;
+use er_base::EtcsNumber;
 use safety_automaton::KeyFinder;
 use sapdu::{SaPdu, read};
 use session_keys::derive;
@@ -33,20 +33,17 @@ impl Model for Session {
 /// What is known of a link.
 #[derive(Drop)]
 pub struct Known {
-    pub(crate) engine: u32,
-    pub(crate) rbc: u32,
+    pub(crate) engine: EtcsNumber,
+    pub(crate) rbc: EtcsNumber,
     pub(crate) session: Option<Session>,
 }
 
 impl Model for Known {
-    ghost use Rattle.std.specs.Prelude.{◌<◌};
     ghost use Rattle.tap_model.specs.Verdicts as verdicts;
 
     ghost Value = { verdicts.Known };
 
     ghost view = { λ k. record { engine = k.engine; rbc = k.rbc; session = k.session } };
-
-    ghost invariant = { λ k. (k.engine < 16777216) × (k.rbc < 16777216) };
 }
 
 // Ra of an item that reads as AU2.
@@ -98,7 +95,11 @@ fn session_of<K: KeyFinder>(
 ) -> Option<Session>
     ensures { result ≡ session_with (key_at (K.entries keys.now) opening.now.moment opening.now.engine opening.now.rbc) ra rb }
 {
-    let kmac = keys.find(opening.engine, opening.rbc, opening.moment)?;
+    let kmac = keys.find(
+        opening.engine.get(),
+        opening.rbc.get(),
+        opening.moment.get(),
+    )?;
     let ra = ra?;
     let rb = rb?;
     Some(Session {
@@ -115,7 +116,6 @@ pub fn known_of<K: KeyFinder>(
     of_e: &Items<'_>,
     of_r: &Items<'_>,
 ) -> Known
-    requires { IsAllowed (shown opening.now) }
     ensures { result
         ≡ known_of opening.now.engine opening.now.rbc (key_at (K.entries keys.now) opening.now.moment opening.now.engine opening.now.rbc) of_e.now of_r.now }
 {

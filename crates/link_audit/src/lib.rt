@@ -14,6 +14,7 @@ mod marked_lines;
 mod opening;
 mod openings;
 mod printing;
+mod read_pdu;
 mod run;
 mod stream;
 mod texts;

@@ -30,8 +30,8 @@ fn mark_in(line: &TapLine) -> u8
     }
 }
 
-/// The marks of lines, in their order.
-pub fn marks_of(alloc: Global, lines: &[TapLine]) -> Result<Vec<u8>, NoMemory>
+// The marks of lines, in their order.
+fn marks_of(alloc: Global, lines: &[TapLine]) -> Result<Vec<u8>, NoMemory>
     ensures { IfOk result (λ marks. marks.items ≡ marks_in lines.now) }
 {
     let mut marks = Vec::with_capacity(alloc, lines.len())?;
@@ -71,14 +71,43 @@ fn piece_of<'t>(line: &'t TapLine, link: u8, side: Side) -> &'t [u8]
     }
 }
 
-// How many lines stand before the first that has the mark of a side of a link, of which they bring nothing; None where no line has it.
-fn before_mark(lines: &[TapLine], marks: &[u8], link: u8, side: Side) -> Option<usize>
-    requires { marks.now ≡ marks_in lines.now }
-    ensures stream { MatchOption result (stream_of link side lines.now ≡ []) (λ count. stream_of link side lines.now ≡ stream_of link side (drop count lines.now)) }
-    ensures within { IfSome result (λ count. count < length lines.now) }
-    ensures marked { IfSome result (λ count. count < length marks.now) }
-{
-    memchr(mark_of(link, side), marks)
+/// Lines, and the mark of each. Contracts see the lines.
+#[derive(Drop)]
+pub struct Marks<'t> {
+    lines: &'t [TapLine],
+    marks: Vec<u8>,
+}
+
+impl<'t> Model for Marks<'t> {
+    ghost use Rattle.std.specs.Prelude.{◌≡◌, List};
+    ghost use Rattle.er_tap.specs.declared.tap_line.TapLine.{TapLine};
+    ghost use Rattle.link_audit.specs.Marks.{marks_in};
+
+    ghost Value = { List TapLine };
+
+    ghost view = { λ m. m.lines.now };
+
+    ghost invariant = { λ m. m.marks.items ≡ marks_in m.lines.now };
+}
+
+impl<'t> Marks<'t> {
+    /// Lines, marked.
+    pub fn of(alloc: Global, lines: &'t [TapLine]) -> Result<Marks<'t>, NoMemory>
+        ensures { IfOk result (λ marks. marks ≡ lines.now) }
+    {
+        let marks = marks_of(alloc, lines)?;
+        Ok(Marks { lines, marks })
+    }
+
+    /// All of the lines, to be gone through.
+    pub fn all(&self) -> MarkedLines<'_>
+        ensures { result ≡ self.now }
+    {
+        MarkedLines {
+            lines: self.lines,
+            marks: self.marks.as_slice(),
+        }
+    }
 }
 
 /// Lines with their marks. Contracts see the lines.
@@ -101,14 +130,6 @@ impl<'t> Model for MarkedLines<'t> {
 }
 
 impl<'t> MarkedLines<'t> {
-    /// Lines with these marks, which are theirs.
-    pub fn new(lines: &'t [TapLine], marks: &'t [u8]) -> MarkedLines<'t>
-        requires { marks.now ≡ marks_in lines.now }
-        ensures { result ≡ lines.now }
-    {
-        MarkedLines { lines, marks }
-    }
-
     /// The same lines, to be gone through.
     pub fn all(&self) -> MarkedLines<'t>
         ensures { result ≡ self.now }
@@ -119,13 +140,21 @@ impl<'t> MarkedLines<'t> {
         }
     }
 
+    // How many lines stand before the first that has the mark of a side of a link, of which they bring nothing; None where no line has it.
+    fn before_mark(&self, link: u8, side: Side) -> Option<usize>
+        ensures stream { MatchOption result (stream_of link side self.now ≡ []) (λ count. stream_of link side self.now ≡ stream_of link side (drop count self.now)) }
+        ensures within { IfSome result (λ count. count < length self.now) }
+    {
+        memchr(mark_of(link, side), self.marks)
+    }
+
     /// Takes the lines up to and with the next piece of what a side of a link sent, and lends that piece; None where no such line is left.
     pub fn next_piece(&mut self, link: u8, side: Side) -> Option<&'t [u8]>
         ensures piece { MatchOption result (stream_of link side self.old ≡ []) (λ p. stream_of link side self.old ≡ p.now ++ stream_of link side self.new) }
         ensures fewer { IfSome result (λ _. length self.new < length self.old) }
         ensures rests { IsNone result → self.new ≡ self.old }
     {
-        let Some(count) = before_mark(self.lines, self.marks, link, side) else {
+        let Some(count) = self.before_mark(link, side) else {
             return None;
         };
         let line = &self.lines[count];

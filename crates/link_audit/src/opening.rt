@@ -1,10 +1,12 @@
+use er_base::{EtcsNumber, Moment};
+
 /// How a link was opened.
-#[derive(Clone, Copy, Debug, PartialEq, Eq)]
+#[derive(Clone, Copy)]
 pub struct Opening {
     /// The engine's ETCS number.
-    pub engine: u32,
+    pub engine: EtcsNumber,
     /// That of the radio block centre.
-    pub rbc: u32,
+    pub rbc: EtcsNumber,
     /// The moment at which their key is looked up.
-    pub moment: u64,
+    pub moment: Moment,
 }

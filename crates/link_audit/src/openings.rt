@@ -5,6 +5,7 @@ ghost use Rattle.er_tap.specs.Ranges.{AreInRange, IsInRange};
 ghost use Rattle.link_audit.specs.Openings.{shown_of, opening_at, Takes, Checks};
 
 use crate::opening::Opening;
+use er_base::{EtcsNumber, Moment};
 use er_tap::{TapLine, TapStep};
 use tap_model::AuditFault;
 
@@ -29,11 +30,12 @@ impl Openings {
 
     /// How this link was opened, where it was.
     pub fn of(&self, link: u8) -> Option<Opening>
-        requires least { 1 ≤ link }
-        requires most { link ≤ 64 }
         ensures { shown_of result ≡ opening_at self.now link }
     {
-        self.links[link as usize - 1]
+        match self.links.get(link.saturating_sub(1) as usize) {
+            Some(opening) => *opening,
+            None => None,
+        }
     }
 
     // A line that opens a link wants one that isn't opened, any other one that is.
@@ -48,22 +50,21 @@ impl Openings {
                 rbc,
                 moment,
             } => {
-                let place = *link as usize - 1;
-                if self.links[place].is_some() {
+                if self.of(*link).is_some() {
                     return Err(AuditFault::LinkTwice {
                         line: line.line,
                         link: *link,
                     });
                 }
-                self.links[place] = Some(Opening {
-                    engine: *engine,
-                    rbc: *rbc,
-                    moment: *moment,
+                self.links[*link as usize - 1] = Some(Opening {
+                    engine: EtcsNumber::new(*engine),
+                    rbc: EtcsNumber::new(*rbc),
+                    moment: Moment::new(*moment),
                 });
                 Ok(())
             }
             TapStep::Octets { link, .. } => {
-                if self.links[*link as usize - 1].is_none() {
+                if self.of(*link).is_none() {
                     return Err(AuditFault::NoLink {
                         line: line.line,
                         link: *link,
@@ -82,10 +83,7 @@ pub fn openings_in(lines: &[TapLine]) -> Result<Openings, AuditFault>
 {
     let mut openings = Openings::none();
     for line in lines {
-        match openings.take(line) {
-            Ok(()) => {}
-            Err(fault) => return Err(fault),
-        }
+        openings.take(line)?;
     }
     Ok(openings)
 }

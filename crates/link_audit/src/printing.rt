@@ -1,15 +1,16 @@
 //! The line of an item.
 
-ghost use Rattle.std.specs.Prelude.{◌≡◌, ◌++◌, [], ◌∷◌, codes, OnOk};
+ghost use Rattle.std.specs.Prelude.{◌≡◌, ◌++◌, [], ◌∷◌, Bool, Ok, codes, OnOk};
 ghost use Rattle.std.specs.Fmt.{decimal};
 ghost use Rattle.er_base.specs.Hexadecimal.{hex_of};
 ghost use Rattle.er_base.specs.LineTexts.{line_text};
 ghost use Rattle.er_base.specs.Sides.{side_word};
-ghost use Rattle.sapdu.specs.Reading.{view, viewed};
+ghost use Rattle.sapdu.specs.Reading.{view};
 ghost use Rattle.tap_model.specs.VerdictWords.{verdict_word};
 ghost use Rattle.tap_model.specs.Texts.{kind_of, item_words};
 
 use crate::digits::put_digits;
+use crate::read_pdu::ReadPdu;
 use er_base::PrintedWord::{Decimal, Plain};
 use er_base::{NoMemory, Side, decimal_word, put_line};
 use sapdu::{SaFault, SaPdu};
@@ -75,20 +76,36 @@ fn put_data(
     Ok(())
 }
 
+// Appends the line of an SaPDU.
+fn put_pdu(
+    link: u8,
+    side: Side,
+    pdu: &SaPdu<'_>,
+    verdict: AuditVerdict,
+    out: &mut Vec<u8>,
+) -> Result<(), NoMemory>
+    ensures { OnOk result ((flag : Bool)
+        → out.new.items ≡ out.old.items ++ line_text (item_words link side (record { read = Ok (view pdu.now, flag); verdict = verdict }))) }
+{
+    match pdu {
+        SaPdu::Dt { user, .. } => put_data(link, side, verdict, user, out),
+        _ => put_short(link, side, kind_word(pdu), verdict, out),
+    }
+}
+
 /// Appends the line of an item.
 pub fn put_item(
     link: u8,
     side: Side,
-    read: &Result<(SaPdu<'_>, bool), SaFault>,
+    read: &Result<ReadPdu<'_>, SaFault>,
     verdict: AuditVerdict,
     out: &mut Vec<u8>,
 ) -> Result<(), NoMemory>
     ensures { OnOk result
-        (out.new.items ≡ out.old.items ++ line_text (item_words link side (record { read = viewed read.now; verdict = verdict }))) }
+        (out.new.items ≡ out.old.items ++ line_text (item_words link side (record { read = read.now; verdict = verdict }))) }
 {
     match read {
         Err(_) => put_short(link, side, b"-", verdict, out),
-        Ok((SaPdu::Dt { user, .. }, _)) => put_data(link, side, verdict, user, out),
-        Ok((pdu, _)) => put_short(link, side, kind_word(pdu), verdict, out),
+        Ok(read) => put_pdu(link, side, &read.pdu, verdict, out),
     }
 }

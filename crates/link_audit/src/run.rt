@@ -1,28 +1,27 @@
 //! The audit of all links.
 
-ghost use Rattle.std.specs.Prelude.{ℕ, ◌≡◌, ◌≤◌, Some};
+ghost use Rattle.std.specs.Prelude.{◌≤◌, Some};
 ghost use Rattle.er_base.specs.LineTexts.{line_text};
-ghost use Rattle.er_tap.specs.Ranges.{AreInRange, CanBeRead};
+ghost use Rattle.er_tap.specs.Ranges.{CanBeRead};
 ghost use Rattle.safety_automaton.specs.Keys.{key_at};
 ghost use Rattle.tap_model.specs.Verdicts.{judged, judged_from};
-ghost use Rattle.tap_model.specs.Lines.{opening_of};
-ghost use Rattle.tap_model.specs.Texts.{item_words, side_text, link_text, audit_text};
+ghost use Rattle.tap_model.specs.Texts.{item_words, side_text, link_text};
 ghost use Rattle.tap_model.specs.Audits.{Audits};
-ghost use Rattle.link_audit.specs.Openings.{IsAllowed, shown, opening_at};
+ghost use Rattle.link_audit.specs.Openings.{shown, opening_at, links_opened};
 ghost use Rattle.link_audit.specs.Writes.{Writes};
 
 use crate::items::Items;
 use crate::judging::judge;
 use crate::known::{Known, known_of};
-use crate::marked_lines::{MarkedLines, marks_of};
+use crate::marked_lines::{MarkedLines, Marks};
 use crate::opening::Opening;
 use crate::openings::{Openings, openings_in};
 use crate::printing::put_item;
+use crate::read_pdu::ReadPdu;
 use er_base::Side;
 use er_tap::Tap;
 use link_trait::Sink;
 use safety_automaton::KeyFinder;
-use sapdu::read;
 use std::alloc::Global;
 use tap_model::AuditFault;
 
@@ -43,7 +42,7 @@ fn write_item<S: Sink>(
         (line_text (item_words link side (judged known.now side place item.now))) result }
     ensures later { (S.state sink.old).faults ≤ (S.state sink.new).faults }
 {
-    let read = read(item);
+    let read = ReadPdu::of(item);
     let verdict = judge(known, side, place, &read);
     line.clear();
     put_item(link, side, &read, verdict, line)?;
@@ -68,10 +67,7 @@ fn write_items<S: Sink>(
 {
     let mut place = 0;
     while let Some(item) = items.first() {
-        match write_item(known, link, side, place, item, line, sink) {
-            Ok(()) => {}
-            Err(fault) => return Err(fault),
-        }
+        write_item(known, link, side, place, item, line, sink)?;
         items.advance();
         if place < 2 {
             place += 1;
@@ -89,7 +85,6 @@ fn audit_link<K: KeyFinder, S: Sink>(
     line: &mut Vec<u8>,
     sink: &mut S,
 ) -> Result<(), AuditFault>
-    requires { IsAllowed (shown opening.now) }
     ensures writes { Writes (S.state sink.old).held (S.state sink.new).held (S.state sink.old).faults (S.state sink.new).faults
         (link_text (key_at (K.entries keys.now)) lines.now link (Some (shown opening.now))) result }
     ensures later { (S.state sink.old).faults ≤ (S.state sink.new).faults }
@@ -97,10 +92,8 @@ fn audit_link<K: KeyFinder, S: Sink>(
     let mut of_e = Items::new(lines, link, Side::E);
     let mut of_r = Items::new(lines, link, Side::R);
     let known = known_of(keys, opening, &of_e, &of_r);
-    match write_items(&known, link, Side::E, &mut of_e, line, sink) {
-        Ok(()) => write_items(&known, link, Side::R, &mut of_r, line, sink),
-        Err(fault) => Err(fault),
-    }
+    write_items(&known, link, Side::E, &mut of_e, line, sink)?;
+    write_items(&known, link, Side::R, &mut of_r, line, sink)
 }
 
 // Writes the lines of a link, where it was opened.
@@ -112,12 +105,8 @@ fn audit_number<K: KeyFinder, S: Sink>(
     line: &mut Vec<u8>,
     sink: &mut S,
 ) -> Result<(), AuditFault>
-    requires least { 1 ≤ link }
-    requires most { link ≤ 64 }
-    requires range { AreInRange lines.now }
-    requires openings { opening_at openings.now link ≡ opening_of link lines.now }
     ensures writes { Writes (S.state sink.old).held (S.state sink.new).held (S.state sink.old).faults (S.state sink.new).faults
-        (link_text (key_at (K.entries keys.now)) lines.now link (opening_of link lines.now)) result }
+        (link_text (key_at (K.entries keys.now)) lines.now link (opening_at openings.now link)) result }
     ensures later { (S.state sink.old).faults ≤ (S.state sink.new).faults }
 {
     match openings.of(link) {
@@ -134,18 +123,14 @@ fn audit_links<K: KeyFinder, S: Sink>(
     line: &mut Vec<u8>,
     sink: &mut S,
 ) -> Result<(), AuditFault>
-    requires range { AreInRange lines.now }
-    requires openings { (n : ℕ) → 1 ≤ n → n ≤ 64 → opening_at openings.now n ≡ opening_of n lines.now }
     ensures writes { Writes (S.state sink.old).held (S.state sink.new).held (S.state sink.old).faults (S.state sink.new).faults
-        (audit_text (key_at (K.entries keys.now)) lines.now) result }
+        (links_opened (key_at (K.entries keys.now)) lines.now openings.now 1 64) result }
     ensures later { (S.state sink.old).faults ≤ (S.state sink.new).faults }
 {
     let mut link = 1;
     while link <= MOST_LINKS {
-        match audit_number(keys, lines, openings, link, line, sink) {
-            Ok(()) => link += 1,
-            Err(fault) => return Err(fault),
-        }
+        audit_number(keys, lines, openings, link, line, sink)?;
+        link += 1;
     }
     Ok(())
 }
@@ -166,12 +151,7 @@ pub fn audit<K: KeyFinder, S: Sink>(
     ensures later { (S.state sink.old).faults ≤ (S.state sink.new).faults }
 {
     let lines = tap.lines.as_slice();
-    match openings_in(lines) {
-        Ok(openings) => {
-            let marks = marks_of(alloc, lines)?;
-            let lines = MarkedLines::new(lines, marks.as_slice());
-            audit_links(keys, &lines, &openings, &mut Vec::new(alloc), sink)
-        }
-        Err(fault) => Err(fault),
-    }
+    let openings = openings_in(lines)?;
+    let marks = Marks::of(alloc, lines)?;
+    audit_links(keys, &marks.all(), &openings, &mut Vec::new(alloc), sink)
 }

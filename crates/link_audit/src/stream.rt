@@ -42,14 +42,6 @@ impl<'t> Model for Stream<'t> {
     ghost invariant = { λ s. IsKept s.deframer };
 }
 
-// What is left of octets of which so many were used.
-fn behind(octets: &[u8], used: usize) -> &[u8]
-    requires { used ≤ length octets.now }
-    ensures { result.now ≡ drop used octets.now }
-{
-    octets.split_at(used).1
-}
-
 impl<'t> Stream<'t> {
     /// A side of a link, of which nothing was heard yet.
     pub fn new(lines: &MarkedLines<'t>, link: u8, side: Side) -> Stream<'t>
@@ -92,7 +84,7 @@ impl<'t> Stream<'t> {
         tap_model::laws::hearing_turns();
         let (used, found) = self.deframer.feed(self.piece);
         let turned = self.ear.hear(&found);
-        self.piece = behind(self.piece, used);
+        self.piece = self.piece.split_at(used).1;
         turned
     }
 

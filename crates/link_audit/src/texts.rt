@@ -59,9 +59,18 @@ impl Texts {
         let _dts = self.dts;
         x224_tpdu::laws::reading();
         match read(tpdu) {
-            Ok(Tpdu::Cr { user, .. }) => self.say(user),
-            Ok(Tpdu::Cc { user, .. }) => self.say(user),
-            Ok(Tpdu::Dr { user, .. }) => self.part(user),
+            Ok(Tpdu::Cr { user, .. }) => {
+                self.keep(user);
+                Turned::Says
+            }
+            Ok(Tpdu::Cc { user, .. }) => {
+                self.keep(user);
+                Turned::Says
+            }
+            Ok(Tpdu::Dr { user, .. }) => {
+                self.keep(user);
+                Turned::Parts
+            }
             Ok(
                 Tpdu::Dt {
                     last,
@@ -84,26 +93,6 @@ impl Texts {
     {
         self.text.clear();
         self.text.try_extend_from_slice(text).unwrap();
-    }
-
-    // The user data of CR or CC are a text.
-    fn say(&mut self, user: &[u8]) -> Turned
-        requires { length user.now ≤ 1032 }
-        ensures new { self.new ≡ record self.old { text = user.now } }
-        ensures says { result ≡ Turned.Says }
-    {
-        self.keep(user);
-        Turned::Says
-    }
-
-    // The user data of DR are the last text.
-    fn part(&mut self, user: &[u8]) -> Turned
-        requires { length user.now ≤ 1032 }
-        ensures new { self.new ≡ record self.old { text = user.now } }
-        ensures parts { result ≡ Turned.Parts }
-    {
-        self.keep(user);
-        Turned::Parts
     }
 
     // The message that was begun is whole.

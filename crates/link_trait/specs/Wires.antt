@@ -29,7 +29,7 @@ Told None (Some now) Holds = ⊥
 Told (Some before) None Holds = Unit {0}
 Told (Some before) (Some now) Holds = Holds before now
 
--- numbers ---------------------------------------------------------------------------------------------------------------------
+-- ---- numbers
 -- Connections are numbered from 1 on, one more with each that is opened. `opened` is the number of the newest.
 
 -- the number of the newest connection after a dial
@@ -46,7 +46,7 @@ opened_by_turn happening.Quiet opened = opened
 opened_by_turn happening.Ended opened = opened
 opened_by_turn happening.Failed opened = opened
 
--- what stays and what comes ---------------------------------------------------------------------------------------------------
+-- ---- what stays and what comes
 
 -- what is told of the opened connections stays
 abbrev pub AllStay : ℕ → Lines → Lines → Type 0
@@ -127,7 +127,7 @@ abbrev pub waiting : Option Lines → ℕ → ℕ
 waiting None conn = 0
 waiting (Some lines) conn = length (lines conn).waits
 
--- the record --------------------------------------------------------------------------------------------------------------------
+-- ---- the record
 
 -- what a read gave
 pub data Reading : Type 0 where

@@ -1,4 +1,5 @@
-// Files that are fetched by their names.
+//! Files that are fetched by their names.
+
 ghost use Rattle.std.specs.Prelude.{◌≡◌, ℕ, ◌-◌, ◌^◌, ◌≤◌, List, Option, Some, None, IfOk};
 ghost use Rattle.link_trait.specs.declared.cabinet.FetchFault.TheVariants as fault;
 ghost use Rattle.link_trait.specs.Outside.{HasFile, Kept, Notes, Rose};

@@ -1,4 +1,5 @@
-// Moments.
+//! Moments.
+
 ghost use Rattle.std.specs.Prelude.{◌≤◌, ◌^◌, ℕ, List, ◌∷◌, [], Option};
 ghost use Rattle.link_trait.specs.Outside.{Grew};
 ghost use Rattle.link_trait.specs.States.{ClockState};

@@ -1,4 +1,5 @@
-// Octets that are written one piece after another.
+//! Octets that are written one piece after another.
+
 ghost use Rattle.std.specs.Prelude.{ℕ, ◌-◌, ◌^◌, ◌<◌, ◌≤◌, List, Option, Some, None, length, OnOk, OnErr};
 ghost use Rattle.link_trait.specs.Outside.{Grew, GrewPart, HasCause};
 ghost use Rattle.link_trait.specs.States.{SinkState};

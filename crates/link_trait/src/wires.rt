@@ -1,4 +1,5 @@
-// Connections to peers, and what happens at them.
+//! Connections to peers, and what happens at them.
+
 ghost use Rattle.std.specs.Prelude.{◌≡◌, ◌<◌, ◌≤◌, ◌+◌, ◌-◌, ◌^◌, ◌||◌, ℕ, Bool, true, false, List, ◌∷◌, [], Option, length, IfOk, IfSome, OnErr};
 ghost use Rattle.std.specs.Result.{is_ok};
 ghost use Rattle.link_trait.specs.Outside.{Grew, Rose};

@@ -5,9 +5,9 @@ use Rattle.std.specs.Prelude.{◌==◌, nat_lt, is_some}
 use Rattle.std.proofs.lemmas.Bool.{cases_Bool}
 use Rattle.std.proofs.lemmas.List.{drop_all}
 use Rattle.hdlc_frames.specs.Deframing.{has_verdicts}
-use Rattle.station_model.specs.Events.{news}
+use Rattle.hdlc_station_model.specs.Events.{news}
 use Rattle.safety_automaton.specs.Keys.{key_at}
-use Rattle.end_model.specs.Ends.{End as Ended_at}
+use Rattle.er_end_model.specs.Ends.{End as Ended_at}
 use Rattle.er_trace.specs.declared.event.Event.{Event}
 use Rattle.er_trace.specs.declared.event.Event.TheVariants as event
 use Rattle.er_users.specs.Users.{Mind}

@@ -9,7 +9,7 @@ use Rattle.er_base.specs.Causes.{release_of, by_this_end}
 use Rattle.er_base.specs.declared.cause.Cause.TheVariants.{User, BlockRefused, SetUpTimeSpent, LineEnded, LineFailed, LineStalled}
 use Rattle.hdlc_frames.specs.Framing.{Verdict}
 use Rattle.hdlc_frames.specs.Deframing.{has_verdicts}
-use Rattle.station_model.specs.Events.{news}
+use Rattle.hdlc_station_model.specs.Events.{news}
 use Rattle.t70_header.specs.Joining as joining
 use Rattle.x224_class2.specs.Refusals.{protocol_error}
 use Rattle.x224_class2.specs.Tpdus.{Given, Dr, Dc}
@@ -19,12 +19,12 @@ use Rattle.sapdu.specs.Spelling.{di_in}
 use Rattle.safety_automaton.specs.Keys.{no_keys}
 use Rattle.safety_automaton.specs.Reports.{Report, ToldAnswered, ToldConnected, ToldAccepted, ToldReleased, ToldIgnored, report_of}
 use Rattle.safety_automaton.specs.Safety.{ConnectRequest, Received, DataRequest, DisconnectRequest, sent_by, peer_flag, step}
-use Rattle.end_model.specs.Outcomes.{Outcome, ConnectedTo, Accepted, Taken, NothingToTake, Refused, WasReleased, Octets, SendRefusal}
-use Rattle.end_model.specs.Laws.{ReleasedRest}
-use Rattle.end_model.specs.Layers.{Core, model}
-use Rattle.end_model.specs.Steps.{Finds, begins, begins_at, gives_if_may, departs, cut_off, parts, why_of, spoken, is_some_octets, says, accepts, Carrier, InCr, InCc, InDt, answers, acts, text_comes, does, block_at, is_ready, connects, comes_up, link_at, gives_next, goes_on, offers, most_offers, concludes, received, comes, refusal_of, sent, sends_unless, used, left, normal_disconnect, is_spent, di_of, time_at, ticked, broken, started, outcomes_of, if_connected, if_accepted, if_released, if_octets, if_taken}
-use Rattle.end_model.specs.Ends.{Event, Start, Come, Send, Take, Leave, Tick, Ended, Fault, Stalled, if_refused, End, Opening, opened, hears_each, told_of_each}
-use Rattle.end_model.specs.Ends as ends
+use Rattle.er_end_model.specs.Outcomes.{Outcome, ConnectedTo, Accepted, Taken, NothingToTake, Refused, WasReleased, Octets, SendRefusal}
+use Rattle.er_end_model.specs.Laws.{ReleasedRest}
+use Rattle.er_end_model.specs.Layers.{Core, model}
+use Rattle.er_end_model.specs.Steps.{Finds, new_event, new_event_at, hand_tpdu_if_may, send_dr, answer_dr, on_safety_release, why_of, with_safety_step, is_some_octets, hand_text, accept_text, Carrier, InCr, InCc, InDt, hand_answer, on_safety_report, on_text, on_transport_deed, on_joined_block, is_ready, connect_with_text, on_link_up, on_link_told, hand_next_tpdu, has_next_tpdu, hand_waiting_tpdus, most_offers, conclude_event, on_frame, step_frame, refusal_of, on_send, step_send_unless, on_take, on_release, normal_disconnect, is_spent, di_of, on_expiry, on_tick, on_break, on_start, outcomes_of, if_connected, if_accepted, if_released, if_octets, if_taken}
+use Rattle.er_end_model.specs.Ends.{Event, Start, Come, Send, Take, Leave, Tick, Ended, Fault, Stalled, if_refused, End, Opening, opened, hears_each, told_of_each}
+use Rattle.er_end_model.specs.Ends as ends
 use Rattle.loop_model.specs.Ends.{model_ends, used_behind, used_of, used_part}
 
 -- ---- what is said of any event
@@ -121,38 +121,38 @@ box_if : (b : Bool) (x y : Core) (v : KInbox) → box x ≡ v → box y ≡ v �
 box_if true x y v h g = h
 box_if false x y v h g = g
 
-box_gives : (g : Given) (x : Core) → box (gives_if_may model g x) ≡ box x
+box_gives : (g : Given) (x : Core) → box (hand_tpdu_if_may model g x) ≡ box x
 box_gives g x = box_if (model.may_send x.line) _ x (box x) refl refl
 
-box_departs : (why : Release) (reason : ℕ) (user : List ℕ) (x : Core) → box (departs model why reason user x) ≡ box x
+box_departs : (why : Release) (reason : ℕ) (user : List ℕ) (x : Core) → box (send_dr model why reason user x) ≡ box x
 box_departs why reason user x = box_gives (Dr reason user) x
 
-box_cut_off : (why : Release) (x : Core) → box (cut_off model why x) ≡ box x
+box_cut_off : (why : Release) (x : Core) → box (answer_dr model why x) ≡ box x
 box_cut_off why x = box_gives Dc x
 
-box_parts : (why : Release) (di : List ℕ) (x : Core) → box (parts model why di x) ≡ box x
+box_parts : (why : Release) (di : List ℕ) (x : Core) → box (on_safety_release model why di x) ≡ box x
 box_parts why di x = box_if why.by_peer _ _ (box x) refl (box_departs why normal_disconnect di x)
 
-box_offers : (n : ℕ) (x : Core) → box (offers model n x) ≡ box x
-unfolding offers
+box_offers : (n : ℕ) (x : Core) → box (hand_waiting_tpdus model n x) ≡ box x
+unfolding hand_waiting_tpdus
 box_offers zero x = refl
-box_offers (suc n) x = box_if (goes_on model x) (offers model n (gives_next model x)) x (box x) (box_offers n (gives_next model x)) refl
+box_offers (suc n) x = box_if (has_next_tpdu model x) (hand_waiting_tpdus model n (hand_next_tpdu model x)) x (box x) (box_offers n (hand_next_tpdu model x)) refl
 
-box_concludes : (x : Core) → box (concludes model x) ≡ box x
+box_concludes : (x : Core) → box (conclude_event model x) ≡ box x
 box_concludes x = box_if (is_some x.released) x _ (box x) refl (box_offers most_offers x)
 
-box_says : (text : List ℕ) (x : Core) → box (says model text x) ≡ box x
+box_says : (text : List ℕ) (x : Core) → box (hand_text model text x) ≡ box x
 box_says text x = box_if (is_some_octets text && model.may_hand x.upper) _ x (box x) refl refl
 
-box_accepts : (text : List ℕ) (x : Core) → box (accepts model text x) ≡ box x
+box_accepts : (text : List ℕ) (x : Core) → box (accept_text model text x) ≡ box x
 box_accepts text x = box_if (is_some_octets text) _ x (box x) refl refl
 
-box_answers : (carrier : Carrier) (text : List ℕ) (x : Core) → box (answers model carrier text x) ≡ box x
+box_answers : (carrier : Carrier) (text : List ℕ) (x : Core) → box (hand_answer model carrier text x) ≡ box x
 box_answers InCr text x = box_accepts text x
 box_answers InCc text x = box_says text x
 box_answers InDt text x = box_says text (record x { upper = model.skips x.upper })
 
-box_connects : (text : List ℕ) (x : Core) → box (connects model text x) ≡ box x
+box_connects : (text : List ℕ) (x : Core) → box (connect_with_text model text x) ≡ box x
 box_connects text x = box_if (is_some_octets text) _ x (box x) refl refl
 
 -- the same, or with one message more
@@ -164,7 +164,7 @@ more_on : (q p r : KInbox) → More q p → r ≡ p → More q r
 more_on q p r (Same e) f = Same (f ∙ e)
 more_on q p r (One user e) f = One user (f ∙ e)
 
-more_acts : (carrier : Carrier) (report : Report) (octets : List ℕ) (x : Core) → More (box x) (box (acts model carrier report octets x))
+more_acts : (carrier : Carrier) (report : Report) (octets : List ℕ) (x : Core) → More (box x) (box (on_safety_report model carrier report octets x))
 more_acts carrier ToldAnswered octets x = Same (box_answers carrier octets x)
 more_acts carrier (ToldConnected peer) octets x = Same (box_answers carrier octets x)
 more_acts InCr (ToldAccepted user) octets x = Same refl
@@ -173,12 +173,12 @@ more_acts InDt (ToldAccepted user) octets x = One user refl
 more_acts carrier (ToldReleased why) octets x = Same (box_parts why octets x)
 more_acts carrier ToldIgnored octets x = Same refl
 
-more_text : (finds : Finds) (carrier : Carrier) (text : List ℕ) (x : Core) → More (box x) (box (text_comes model finds carrier text x))
+more_text : (finds : Finds) (carrier : Carrier) (text : List ℕ) (x : Core) → More (box x) (box (on_text model finds carrier text x))
 more_text finds carrier text x =
     let a = step (finds x.moment) x.safe.safety (Received text) in
-    more_acts carrier (report_of a.1) (sent_by a.1) (spoken model (Received text) a x)
+    more_acts carrier (report_of a.1) (sent_by a.1) (with_safety_step model (Received text) a x)
 
-more_does : (finds : Finds) (deed : Deed) (x : Core) → More (box x) (box (does model finds deed x))
+more_does : (finds : Finds) (deed : Deed) (x : Core) → More (box x) (box (on_transport_deed model finds deed x))
 more_does finds Nothing x = Same refl
 more_does finds (Called user) x = more_text finds InCr user x
 more_does finds (Confirmed user) x = more_text finds InCc user x
@@ -186,18 +186,18 @@ more_does finds (Message message) x = more_text finds InDt message x
 more_does finds (Disconnected user) x = Same (box_cut_off (why_of (di_in user (peer_flag x.safe.safety))) x)
 more_does finds (transport.Refused sub reason) x = Same (box_departs (by_this_end 2 sub) reason [] x)
 
-more_block : (finds : Finds) (joined : joining.Answer) (x : Core) → More (box x) (box (block_at model finds joined x))
+more_block : (finds : Finds) (joined : joining.Answer) (x : Core) → More (box x) (box (on_joined_block model finds joined x))
 more_block finds (Ok None) x = Same refl
 more_block finds (Ok (Some tpdu)) x = more_does finds (model.deed x.upper tpdu) (record x { upper = model.hears x.upper tpdu })
 more_block finds (Err fault) x = Same (box_departs (release_of BlockRefused) protocol_error [] x)
 
-box_up : (x : Core) → box (comes_up model x) ≡ box x
+box_up : (x : Core) → box (on_link_up model x) ≡ box x
 box_up x =
     let a = step no_keys x.safe.safety ConnectRequest in
     box_if (model.may_connect x.upper && is_ready x.safe.safety.phase) _ x (box x)
-    (box_connects (sent_by a.1) (spoken model ConnectRequest a x)) refl
+    (box_connects (sent_by a.1) (with_safety_step model ConnectRequest a x)) refl
 
-more_link : (finds : Finds) (payload : Option (List ℕ)) (up : Bool) (released : Option Release) (x : Core) → More (box x) (box (link_at model finds payload up released x))
+more_link : (finds : Finds) (payload : Option (List ℕ)) (up : Bool) (released : Option Release) (x : Core) → More (box x) (box (on_link_told model finds payload up released x))
 more_link finds (Some payload) up released x =
     let joined = joining.step x.joined payload in more_block finds joined.1 (record x { joined = joined.0 })
 more_link finds None true released x = Same (box_up x)
@@ -208,11 +208,11 @@ more_if : (b : Bool) (x y : Core) (q : KInbox) → More q (box x) → More q (bo
 more_if true x y q h g = h
 more_if false x y q h g = g
 
-more_received : (finds : Finds) (verdict : Verdict) (x : Core) → More (box x) (box (received model finds verdict x))
+more_received : (finds : Finds) (verdict : Verdict) (x : Core) → More (box x) (box (on_frame model finds verdict x))
 more_received finds verdict x =
     let deed = model.told x.moment verdict x.line in
     let y : Core = record x { line = model.receives x.moment verdict x.line } in
-    let z = link_at model finds deed.payload deed.up deed.released y in
+    let z = on_link_told model finds deed.payload deed.up deed.released y in
     more_if (is_some x.released) x _ (box x) (Same refl)
     (more_on (box x) (box z) _ (more_link finds deed.payload deed.up deed.released y) (box_concludes z))
 
@@ -263,35 +263,35 @@ told_news x =
 
 -- ---- the events
 
-box_started : (x : Core) → box (started model x) ≡ box x
+box_started : (x : Core) → box (on_start model x) ≡ box x
 box_started x = let y : Core = record x { line = model.starts x.moment x.line } in box_if (is_some x.released) x _ (box x) refl (box_concludes y)
 
-box_sent : (user : List ℕ) (x : Core) → box (sent model user x) ≡ box x
+box_sent : (user : List ℕ) (x : Core) → box (on_send model user x) ≡ box x
 box_sent user x =
     let a = step no_keys x.safe.safety (DataRequest user) in
-    let y = spoken model (DataRequest user) a x in
+    let y = with_safety_step model (DataRequest user) a x in
     let z : Core = record y { upper = model.sends y.upper user } in
-    box_concludes (says model (sent_by a.1) z) ∙ box_says (sent_by a.1) z
+    box_concludes (hand_text model (sent_by a.1) z) ∙ box_says (sent_by a.1) z
 
-box_left : (sub : ℕ) (x : Core) → box (left model sub x) ≡ box x
+box_left : (sub : ℕ) (x : Core) → box (on_release model sub x) ≡ box x
 box_left sub x =
     let a = step no_keys x.safe.safety (DisconnectRequest sub) in
     box_if (is_some x.released) x _ (box x) refl
-    (box_departs (release_of (User sub)) normal_disconnect (sent_by a.1) (spoken model (DisconnectRequest sub) a x))
+    (box_departs (release_of (User sub)) normal_disconnect (sent_by a.1) (with_safety_step model (DisconnectRequest sub) a x))
 
-box_time : (why : Option Release) (x : Core) → box (time_at model why x) ≡ box x
+box_time : (why : Option Release) (x : Core) → box (on_expiry model why x) ≡ box x
 box_time (Some why) x = refl
 box_time None x =
     let why = release_of SetUpTimeSpent in
     box_if (is_spent x) _ x (box x) (box_departs why normal_disconnect (di_of why x.safe.safety) x) refl
 
-box_ticked : (x : Core) → box (ticked model x) ≡ box x
+box_ticked : (x : Core) → box (on_tick model x) ≡ box x
 box_ticked x =
     let y : Core = record x { line = model.ticks x.moment x.line } in
-    let z = time_at model (model.given_up x.moment x.line) y in
+    let z = on_expiry model (model.given_up x.moment x.line) y in
     box_if (is_some x.released) x _ (box x) refl (box_concludes z ∙ box_time (model.given_up x.moment x.line) y)
 
-box_broken : (cause : Cause) (x : Core) → box (broken cause x) ≡ box x
+box_broken : (cause : Cause) (x : Core) → box (on_break cause x) ≡ box x
 box_broken cause x = box_if (is_some x.released) x _ (box x) refl refl
 
 -- what an event that accepts nothing leaves: the messages that waited
@@ -322,13 +322,13 @@ each_waits : (finds : Finds) (now : ℕ) (verdicts : List Verdict) (x : Core) �
     → waits_at (hears_each finds now verdicts x) ≡ waits_at x
 each_waits finds now [] x e = refl
 each_waits finds now (verdict ∷ verdicts) x e =
-    let y = comes model finds now verdict x in
+    let y = step_frame model finds now verdict x in
     let both : accepted_in (outcomes_of model y) ++ accepted_in (told_of_each finds now verdicts y) ≡ [] =
     sym (accepted_in-append (outcomes_of model y) (told_of_each finds now verdicts y)) ∙ e in
     let none : y.upper.news ≡ None =
     none_of y.upper.news (sym (told_news y) ∙ nil_first (accepted_in (outcomes_of model y)) (accepted_in (told_of_each finds now verdicts y)) both) in
     each_waits finds now verdicts y (nil_second (accepted_in (outcomes_of model y)) (accepted_in (told_of_each finds now verdicts y)) both)
-    ∙ more_none (begins_at model now x) y (more_received finds verdict (begins_at model now x)) none
+    ∙ more_none (new_event_at model now x) y (more_received finds verdict (new_event_at model now x)) none
 
 none_left : (ms : List (List ℕ)) → length ms ≡ 0 → ms ≡ []
 none_left [] e = refl
@@ -345,7 +345,7 @@ further (suc n) (m ∷ ms) = further n ms
 one_further : (n : ℕ) (ms : List (List ℕ)) → drop (n + 1) ms ≡ drop 1 (drop n ms)
 one_further n ms = subst (λ k. drop k ms ≡ drop 1 (drop n ms)) (suc_is n) (further n ms)
 
-take_waits : (x : Core) → waits_at (used model x) ≡ drop 1 (waits_at x)
+take_waits : (x : Core) → waits_at (on_take model x) ≡ drop 1 (waits_at x)
 take_waits x = elim (cases_Bool (length x.upper.accepted - x.upper.used == 0)) [
   | inl p ↦
       let e : waits_at x ≡ [] =
@@ -353,25 +353,25 @@ take_waits x = elim (cases_Bool (length x.upper.accepted - x.upper.used == 0)) [
       rw p (e ∙ ap (λ z. drop 1 z) (sym e))
   | inr p ↦
       let y : Core = record x { upper = model.uses x.upper } in
-      rw p (waits_alike y (concludes model y) (box_concludes y) ∙ one_further x.upper.used x.upper.accepted)
+      rw p (waits_alike y (conclude_event model y) (box_concludes y) ∙ one_further x.upper.used x.upper.accepted)
 ]
 
-sends_waits : (refused : Option SendRefusal) (now : ℕ) (user : List ℕ) (x : Core) → waits_at (sends_unless model refused now user x) ≡ waits_at x
+sends_waits : (refused : Option SendRefusal) (now : ℕ) (user : List ℕ) (x : Core) → waits_at (step_send_unless model refused now user x) ≡ waits_at x
 sends_waits (Some refusal) now user x = refl
 sends_waits None now user x =
-    waits_alike (begins_at model now x) (sent model user (begins_at model now x)) (box_sent user (begins_at model now x))
+    waits_alike (new_event_at model now x) (on_send model user (new_event_at model now x)) (box_sent user (new_event_at model now x))
 
 pub waits_move : WaitsMove
-waits_move now Start k e = let x = begins_at model now k.core in waits_alike x (started model x) (box_started x)
+waits_move now Start k e = let x = new_event_at model now k.core in waits_alike x (on_start model x) (box_started x)
 waits_move now (Come finds octets) k e =
-    each_waits finds now (news k.stream (take (used_of k octets) octets)) (begins_at model now k.core) e
+    each_waits finds now (news k.stream (take (used_of k octets) octets)) (new_event_at model now k.core) e
 waits_move now (Send user) k e = sends_waits (refusal_of model user k.core) now user k.core
-waits_move now Take k e = take_waits (begins_at model now k.core)
-waits_move now (Leave sub) k e = let x = begins_at model now k.core in waits_alike x (left model sub x) (box_left sub x)
-waits_move now Tick k e = let x = begins_at model now k.core in waits_alike x (ticked model x) (box_ticked x)
-waits_move now Ended k e = let x = begins model k.core in waits_alike x (broken LineEnded x) (box_broken LineEnded x)
-waits_move now Fault k e = let x = begins model k.core in waits_alike x (broken LineFailed x) (box_broken LineFailed x)
-waits_move now Stalled k e = let x = begins model k.core in waits_alike x (broken LineStalled x) (box_broken LineStalled x)
+waits_move now Take k e = take_waits (new_event_at model now k.core)
+waits_move now (Leave sub) k e = let x = new_event_at model now k.core in waits_alike x (on_release model sub x) (box_left sub x)
+waits_move now Tick k e = let x = new_event_at model now k.core in waits_alike x (on_tick model x) (box_ticked x)
+waits_move now Ended k e = let x = new_event model k.core in waits_alike x (on_break LineEnded x) (box_broken LineEnded x)
+waits_move now Fault k e = let x = new_event model k.core in waits_alike x (on_break LineFailed x) (box_broken LineFailed x)
+waits_move now Stalled k e = let x = new_event model k.core in waits_alike x (on_break LineStalled x) (box_broken LineStalled x)
 
 -- ---- an event that brings no message
 
@@ -387,12 +387,12 @@ taken_told message outcomes =
     accepted_in-append (if_taken message) outcomes ∙ ap (λ z. z ++ accepted_in outcomes) (none_taken message)
 
 sends_silent : (refused : Option SendRefusal) (now : ℕ) (user : List ℕ) (x : Core)
-    → accepted_in (if_refused refused (outcomes_of model (sends_unless model refused now user x))) ≡ []
+    → accepted_in (if_refused refused (outcomes_of model (step_send_unless model refused now user x))) ≡ []
 sends_silent (Some refusal) now user x = refl
 sends_silent None now user x =
-    silent_by (begins_at model now x) (sent model user (begins_at model now x)) refl (box_sent user (begins_at model now x))
+    silent_by (new_event_at model now x) (on_send model user (new_event_at model now x)) refl (box_sent user (new_event_at model now x))
 
-take_news : (x : Core) → x.upper.news ≡ None → (used model x).upper.news ≡ None
+take_news : (x : Core) → x.upper.news ≡ None → (on_take model x).upper.news ≡ None
 take_news x old = elim (cases_Bool (length x.upper.accepted - x.upper.used == 0)) [
   | inl p ↦ rw p old
   | inr p ↦
@@ -401,48 +401,48 @@ take_news x old = elim (cases_Bool (length x.upper.accepted - x.upper.used == 0)
 ]
 
 pub octets_bring : OctetsBring
-octets_bring now Start k p = let x = begins_at model now k.core in silent_by x (started model x) refl (box_started x)
+octets_bring now Start k p = let x = new_event_at model now k.core in silent_by x (on_start model x) refl (box_started x)
 octets_bring now (Come finds octets) k p = absurd (true≢false p)
 octets_bring now (Send user) k p = sends_silent (refusal_of model user k.core) now user k.core
 octets_bring now Take k p =
-    let y = used model (begins_at model now k.core) in
-    taken_told (model.oldest k.core.upper) (outcomes_of model y) ∙ told_news y ∙ ap option_to_list (take_news (begins_at model now k.core) refl)
-octets_bring now (Leave sub) k p = let x = begins_at model now k.core in silent_by x (left model sub x) refl (box_left sub x)
-octets_bring now Tick k p = let x = begins_at model now k.core in silent_by x (ticked model x) refl (box_ticked x)
-octets_bring now Ended k p = let x = begins model k.core in silent_by x (broken LineEnded x) refl (box_broken LineEnded x)
-octets_bring now Fault k p = let x = begins model k.core in silent_by x (broken LineFailed x) refl (box_broken LineFailed x)
-octets_bring now Stalled k p = let x = begins model k.core in silent_by x (broken LineStalled x) refl (box_broken LineStalled x)
+    let y = on_take model (new_event_at model now k.core) in
+    taken_told (model.oldest k.core.upper) (outcomes_of model y) ∙ told_news y ∙ ap option_to_list (take_news (new_event_at model now k.core) refl)
+octets_bring now (Leave sub) k p = let x = new_event_at model now k.core in silent_by x (on_release model sub x) refl (box_left sub x)
+octets_bring now Tick k p = let x = new_event_at model now k.core in silent_by x (on_tick model x) refl (box_ticked x)
+octets_bring now Ended k p = let x = new_event model k.core in silent_by x (on_break LineEnded x) refl (box_broken LineEnded x)
+octets_bring now Fault k p = let x = new_event model k.core in silent_by x (on_break LineFailed x) refl (box_broken LineFailed x)
+octets_bring now Stalled k p = let x = new_event model k.core in silent_by x (on_break LineStalled x) refl (box_broken LineStalled x)
 
 -- ---- a release
 
-take_stays : (why : Release) (x : Core) → x.released ≡ Some why → (used model x).released ≡ Some why
+take_stays : (why : Release) (x : Core) → x.released ≡ Some why → (on_take model x).released ≡ Some why
 take_stays why x e = elim (cases_Bool (length x.upper.accepted - x.upper.used == 0)) [ inl p ↦ rw p e | inr p ↦ rw p (rw e refl) ]
 
 each_stays : (finds : Finds) (now : ℕ) (verdicts : List Verdict) (why : Release) (x : Core) → x.released ≡ Some why
     → (hears_each finds now verdicts x).released ≡ Some why
 each_stays finds now [] why x e = e
-each_stays finds now (verdict ∷ verdicts) why x e = each_stays finds now verdicts why (comes model finds now verdict x) (rw e refl)
+each_stays finds now (verdict ∷ verdicts) why x e = each_stays finds now verdicts why (step_frame model finds now verdict x) (rw e refl)
 
 pub release_stays : ReleaseStays
 release_stays now Start k why e = rw e refl
 release_stays now (Come finds octets) k why e =
-    each_stays finds now (news k.stream (take (used_of k octets) octets)) why (begins_at model now k.core) e
+    each_stays finds now (news k.stream (take (used_of k octets) octets)) why (new_event_at model now k.core) e
 release_stays now (Send user) k why e = rw e refl
-release_stays now Take k why e = take_stays why (begins_at model now k.core) e
+release_stays now Take k why e = take_stays why (new_event_at model now k.core) e
 release_stays now (Leave sub) k why e = rw e refl
 release_stays now Tick k why e = rw e refl
 release_stays now Ended k why e = rw e refl
 release_stays now Fault k why e = rw e refl
 release_stays now Stalled k why e = rw e refl
 
-broken_is : (cause : Cause) (x : Core) → is_some (broken cause x).released ≡ true
+broken_is : (cause : Cause) (x : Core) → is_some (on_break cause x).released ≡ true
 broken_is cause x = elim (cases_Bool (is_some x.released)) [ inl p ↦ rw p p | inr p ↦ rw p refl ]
 
 pub breaks_release : BreaksRelease
 breaks_release = record {
-  ended = λ now k. broken_is LineEnded (begins model k.core);
-  fault = λ now k. broken_is LineFailed (begins model k.core);
-  stalled = λ now k. broken_is LineStalled (begins model k.core);
+  ended = λ now k. broken_is LineEnded (new_event model k.core);
+  fault = λ now k. broken_is LineFailed (new_event model k.core);
+  stalled = λ now k. broken_is LineStalled (new_event model k.core);
 }
 
 pub released_want_none : ReleasedWantNone
@@ -453,12 +453,12 @@ each_none : ReleasedRest → (finds : Finds) (now : ℕ) (verdicts : List Verdic
 each_none rest finds now [] why x e = refl
 each_none rest finds now (verdict ∷ verdicts) why x e =
     let silent = (rest x why e).comes finds now verdict in
-    let y = comes model finds now verdict x in
+    let y = step_frame model finds now verdict x in
     ap (λ z. z ++ told_of_each finds now verdicts y) silent.1 ∙ each_none rest finds now verdicts why y silent.0
 
 pub released_tell_none : ReleasedRest → ReleasedTellNone
 released_tell_none rest now finds octets k why e =
-    each_none rest finds now (news k.stream (take (used_of k octets) octets)) why (begins_at model now k.core) e
+    each_none rest finds now (news k.stream (take (used_of k octets) octets)) why (new_event_at model now k.core) e
 
 -- ---- octets that are used
 

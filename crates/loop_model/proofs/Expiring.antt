@@ -6,7 +6,7 @@ use Rattle.std.proofs.lemmas.Bool.{cases_Bool}
 use Rattle.er_base.specs.declared.release.Release.{Release}
 use Rattle.er_settings.specs.Ranges.{AllAllowed}
 use Rattle.safety_automaton.specs.Keys.{key_at}
-use Rattle.end_model.specs.Ends.{End as Ended_at}
+use Rattle.er_end_model.specs.Ends.{End as Ended_at}
 use Rattle.trace_model.specs.Connections.{happens}
 use Rattle.loop_model.proofs.EndKeepings.{ReleaseStays, BreaksRelease}
 use Rattle.loop_model.proofs.EndKeepings.{StepsAlike, MadeStands, ShowsAlike}

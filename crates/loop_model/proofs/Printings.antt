@@ -4,12 +4,12 @@ use Rattle.std.proofs.Common.{if◌then◌else◌, ◌≡◌, ℕ, ◌+◌, max,
 use Rattle.std.specs.Prelude.{◌==◌, nat_lt}
 use Rattle.std.proofs.lemmas.Bool.{cases_Bool}
 use Rattle.er_base.specs.LineTexts.{line_text}
-use Rattle.er_settings.specs.declared.settings.Settings.{Settings}
+use Rattle.er_settings.specs.Values.{Settings}
 use Rattle.er_settings.specs.Ranges.{AllAllowed}
 use Rattle.safety_automaton.specs.Keys.{key_at}
-use Rattle.end_model.specs.Steps.{Finds}
-use Rattle.end_model.specs.Ends.{End, opened, step, Call as CallsWith, Answer as AnswersWith}
-use Rattle.end_model.specs.Ends as end
+use Rattle.er_end_model.specs.Steps.{Finds}
+use Rattle.er_end_model.specs.Ends.{End, opened, step, Call as CallsWith, Answer as AnswersWith}
+use Rattle.er_end_model.specs.Ends as end
 use Rattle.loop_model.proofs.EndKeepings.{EndStands, StepsAlike, MadeStands}
 use Rattle.er_trace.specs.declared.entry.Entry.{Entry as Event_line}
 use Rattle.er_trace.specs.declared.event.Event.TheVariants as event

@@ -6,9 +6,9 @@ use Rattle.std.proofs.lemmas.Bool.{cases_Bool}
 use Rattle.std.proofs.Math.Nat.{le-max_left}
 use Rattle.er_settings.specs.Ranges.{AllAllowed}
 use Rattle.safety_automaton.specs.Keys.{key_at}
-use Rattle.end_model.specs.Ends.{End}
-use Rattle.end_model.specs.Layers.{model}
-use Rattle.end_model.specs.Outcomes.{Outcome}
+use Rattle.er_end_model.specs.Ends.{End}
+use Rattle.er_end_model.specs.Layers.{model}
+use Rattle.er_end_model.specs.Outcomes.{Outcome}
 use Rattle.loop_model.proofs.EndKeepings.{waiting_in}
 use Rattle.loop_model.proofs.EndKeepings.{WaitsMove, OctetsBring, ReleaseStays, BreaksRelease}
 use Rattle.loop_model.proofs.EndKeepings.{EndStands, StepsAlike, MadeStands, ShowsAlike}

@@ -6,7 +6,7 @@ use Rattle.std.proofs.lemmas.Bool.{cases_Bool}
 use Rattle.er_base.specs.declared.release.Release.{Release}
 use Rattle.loop_model.proofs.EndKeepings.{waiting_in}
 use Rattle.loop_model.proofs.EndKeepings.{left_by, is_octets, WaitsMove, OctetsBring, ReleaseStays, BreaksRelease}
-use Rattle.end_model.specs.Ends as end
+use Rattle.er_end_model.specs.Ends as end
 use Rattle.er_users.specs.Users.{Mind, Heard, Said, said}
 use Rattle.link_trait.specs.Wires.{Call, Reading, Gave, NotNow, End, Failed, Reads}
 use Rattle.loop_model.specs.Journals.{Entry}

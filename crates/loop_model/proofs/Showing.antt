@@ -3,7 +3,7 @@ use Rattle.loop_model.specs.Ends.{used_behind}
 use Rattle.std.proofs.Common.{◌≡◌, ℕ, suc, inl, inr, false, List, [], ◌∷◌, ◌++◌, take, refl, sym, subst}
 use Rattle.std.proofs.lemmas.Bool.{cases_Bool}
 use Rattle.hdlc_frames.specs.Deframing.{has_verdicts}
-use Rattle.station_model.specs.Events.{news}
+use Rattle.hdlc_station_model.specs.Events.{news}
 use Rattle.loop_model.specs.Shows.{closes_early, EndsShow}
 use Rattle.loop_model.proofs.Cutting.{used_more, used_one, used_all}
 

@@ -4,9 +4,9 @@ use Rattle.std.proofs.Common.{if◌then◌else◌, ◌≡◌, ℕ, ◌+◌, ◌-
 use Rattle.std.specs.Prelude.{◌==◌, nat_lt, is_some}
 use Rattle.std.proofs.lemmas.Bool.{cases_Bool}
 use Rattle.er_base.specs.declared.release.Release.{Release}
-use Rattle.end_model.specs.Outcomes.{Outcome}
-use Rattle.end_model.specs.Steps.{if_taken, begins_at, used, outcomes_of as shown_by}
-use Rattle.end_model.specs.Layers.{model}
+use Rattle.er_end_model.specs.Outcomes.{Outcome}
+use Rattle.er_end_model.specs.Steps.{if_taken, new_event_at, on_take, outcomes_of as shown_by}
+use Rattle.er_end_model.specs.Layers.{model}
 use Rattle.loop_model.proofs.EndKeepings.{ReleaseStays, BreaksRelease}
 use Rattle.link_trait.specs.Wires.{Call, Reading, Gave, NotNow, End, Failed}
 use Rattle.link_trait.specs.declared.wires.WriteAnswer.{WriteAnswer}
@@ -56,8 +56,8 @@ after_none r m k (Begins engine rbc rb) why p e = absurd p
 after_none r m k (Hears octets) why p e = absurd p
 after_none r m k (Sends text) why p e = rw e refl
 after_none r m k Takes why p e =
-    let x = begins_at model m k.core in
-    taken_none (model.oldest k.core.upper) (shown_by model (used model x))
+    let x = new_event_at model m k.core in
+    taken_none (model.oldest k.core.upper) (shown_by model (on_take model x))
     ∙ elim (cases_Bool (length k.core.upper.accepted - k.core.upper.used == 0)) [ inl q ↦ rw q refl | inr q ↦ rw q (rw e refl) ]
 after_none r m k (Leaves sub) why p e = rw e refl
 after_none r m k Ticks why p e = absurd p

@@ -8,9 +8,9 @@ use Rattle.std.proofs.lemmas.Bool.{cases_Bool, lt-leb}
 use Rattle.std.proofs.lemmas.List.Folds.{list_any-append}
 use Rattle.des_block.specs.declared.triple_key.TripleKey.{TripleKey}
 use Rattle.er_base.specs.LineTexts.{line_text}
-use Rattle.er_settings.specs.declared.settings.Settings.{Settings}
-use Rattle.end_model.specs.Steps.{Finds}
-use Rattle.end_model.specs.Ends.{End}
+use Rattle.er_settings.specs.Values.{Settings}
+use Rattle.er_end_model.specs.Steps.{Finds}
+use Rattle.er_end_model.specs.Ends.{End}
 use Rattle.er_trace.specs.declared.entry.Entry.{Entry as Event_line}
 use Rattle.er_trace.specs.declared.event.Event.{Event}
 use Rattle.er_trace.specs.declared.event.Event.TheVariants as event

@@ -3,11 +3,11 @@
 use Rattle.loop_model.specs.Ends.{ModelEnd, model_ends, used_of}
 use Rattle.std.specs.Prelude.{ℕ, ◌≡◌, Bool, true, false, not, ◌||◌, List, [], ◌∷◌, ◌++◌, length, Option, Some, None, is_some}
 use Rattle.hdlc_frames.specs.Deframing.{has_verdicts}
-use Rattle.station_model.specs.Events.{news}
-use Rattle.er_settings.specs.declared.settings.Settings.{Settings}
+use Rattle.hdlc_station_model.specs.Events.{news}
+use Rattle.er_settings.specs.Values.{Settings}
 use Rattle.safety_automaton.specs.Keys.{key_at}
-use Rattle.end_model.specs.Steps.{Finds}
-use Rattle.end_model.specs.Ends.{End}
+use Rattle.er_end_model.specs.Steps.{Finds}
+use Rattle.er_end_model.specs.Ends.{End}
 use Rattle.er_trace.specs.declared.event.Event.{Event}
 use Rattle.er_trace.specs.declared.event.Event.TheVariants.{Call, Answer, Octets, Send, Take, Release, Tick, Ended, Fault, Stalled, Full, Unserved}
 use Rattle.trace_model.specs.Connections.{happens}

@@ -2,11 +2,11 @@
 use Rattle.std.specs.Prelude.{ℕ, ◌+◌, List, [], ◌∷◌, ◌++◌, length, take, Option, is_some, if◌then◌else◌}
 use Rattle.er_base.specs.declared.release.Release.{Release}
 use Rattle.hdlc_frames.specs.Deframing.{has_verdicts}
-use Rattle.station_model.specs.Events.{news}
-use Rattle.end_model.specs.Outcomes.{Outcome}
-use Rattle.end_model.specs.Layers as layers
-use Rattle.end_model.specs.Steps as steps
-use Rattle.end_model.specs.Ends.{Opening, Event, Start, Come, Send, Take, Leave, Tick, Ended, Fault, Stalled, End, opened, step}
+use Rattle.hdlc_station_model.specs.Events.{news}
+use Rattle.er_end_model.specs.Outcomes.{Outcome}
+use Rattle.er_end_model.specs.Layers as layers
+use Rattle.er_end_model.specs.Steps as steps
+use Rattle.er_end_model.specs.Ends.{Opening, Event, Start, Come, Send, Take, Leave, Tick, Ended, Fault, Stalled, End, opened, step}
 
 -- what ends of a kind do
 pub record EndOps (E : Type 0) : Type 0 where

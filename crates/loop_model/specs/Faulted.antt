@@ -2,7 +2,7 @@
 use Rattle.loop_model.specs.Ends.{ModelEnd}
 use Rattle.std.specs.Prelude.{ℕ, ◌≡◌, Bool, false, not, ◌&&◌, ◌||◌, if◌then◌else◌, List, [], ◌∷◌, Option, Some, None, is_some}
 use Rattle.safety_automaton.specs.Keys.{key_at}
-use Rattle.end_model.specs.Ends.{End}
+use Rattle.er_end_model.specs.Ends.{End}
 use Rattle.trace_model.specs.Connections.{end_at}
 use Rattle.link_trait.specs.Wires as wires
 use Rattle.loop_model.specs.Journals.{Entry, lines_of}

@@ -1,8 +1,8 @@
 -- The journal of a loop: what came at the ends of its connections, and what came of it; and how it is printed (this profile).
 use Rattle.std.specs.Prelude.{ℕ, List, [], ◌∷◌, ◌++◌, map}
 use Rattle.er_base.specs.LineTexts.{line_text}
-use Rattle.er_settings.specs.declared.settings.Settings.{Settings}
-use Rattle.end_model.specs.Outcomes.{Outcome}
+use Rattle.er_settings.specs.Values.{Settings}
+use Rattle.er_end_model.specs.Outcomes.{Outcome}
 use Rattle.er_trace.specs.declared.entry.Entry.{Entry as Event_line}
 use Rattle.er_trace.specs.declared.event.Event.{Event}
 use Rattle.er_trace.specs.Texts.{header_words, entry_words}

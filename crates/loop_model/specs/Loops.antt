@@ -1,11 +1,11 @@
 -- The loop over the sessions of many connections (this profile): before each turn ticks and closings, then the turn, then what happened.
 use Rattle.std.specs.Prelude.{ℕ, ◌+◌, ◌-◌, ◌==◌, nat_lt, max, Bool, true, false, ◌&&◌, if◌then◌else◌, List, [], ◌∷◌, ◌++◌, length, take, drop, slice_get, Option, Some, None}
 use Rattle.rand_core.specs.Stream.{Stream, next_u64}
-use Rattle.er_settings.specs.declared.settings.Settings.{Settings}
+use Rattle.er_settings.specs.Values.{Settings}
 use Rattle.des_block.specs.declared.triple_key.TripleKey.{TripleKey}
 use Rattle.safety_automaton.specs.Keys as keys
-use Rattle.end_model.specs.Ends.{Call as CallsWith, Answer as AnswersWith}
-use Rattle.end_model.specs.Steps.{first_of as first_moment}
+use Rattle.er_end_model.specs.Ends.{Call as CallsWith, Answer as AnswersWith}
+use Rattle.er_end_model.specs.Steps.{first_of as first_moment}
 use Rattle.er_trace.specs.declared.event.Event.{Event}
 use Rattle.er_trace.specs.declared.event.Event.TheVariants as event
 use Rattle.er_users.specs.Users.{Mind}

@@ -2,9 +2,9 @@
 use Rattle.loop_model.specs.Ends.{ModelEnd, model_ends}
 use Rattle.std.specs.Prelude.{ℕ, ◌≡◌, ◌==◌, Bool, true, false, not, ◌&&◌, ◌||◌, List, [], ◌∷◌, ◌++◌, length, take, is_some}
 use Rattle.hdlc_frames.specs.Deframing.{has_verdicts}
-use Rattle.station_model.specs.Events.{news}
-use Rattle.end_model.specs.Layers as layers
-use Rattle.end_model.specs.Steps.{deadline}
+use Rattle.hdlc_station_model.specs.Events.{news}
+use Rattle.er_end_model.specs.Layers as layers
+use Rattle.er_end_model.specs.Steps.{deadline}
 use Rattle.loop_model.specs.Cuts.{closes}
 
 -- whether one of the octets but the last closes a frame, behind all that came

@@ -3,7 +3,7 @@ use Rattle.std.proofs.Common.{◌≡◌, ℕ, ◌+◌, inl, inr, ◌||◌, List,
 use Rattle.std.specs.Prelude.{nat_lt, is_some, not}
 use Rattle.std.proofs.lemmas.Bool.{cases_Bool}
 use Rattle.er_base.specs.declared.release.Release.{Release}
-use Rattle.end_model.specs.Outcomes.{Outcome}
+use Rattle.er_end_model.specs.Outcomes.{Outcome}
 use Rattle.er_trace.specs.declared.event.Event.{Event}
 use Rattle.er_trace.specs.declared.event.Event.TheVariants as event
 use Rattle.er_users.specs.Users.{Kind, Echo, Tally, Lister, Silent, Callers, Mind, Heard, Released, Said, said, tells_more}

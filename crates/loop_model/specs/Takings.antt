@@ -2,8 +2,8 @@
 use Rattle.loop_model.specs.Ends.{ModelEnd}
 use Rattle.std.specs.Prelude.{ℕ, ◌≡◌, ◌≤◌, Option, Some, None}
 use Rattle.safety_automaton.specs.Keys.{key_at}
-use Rattle.end_model.specs.Layers as layers
-use Rattle.end_model.specs.Ends.{End}
+use Rattle.er_end_model.specs.Layers as layers
+use Rattle.er_end_model.specs.Ends.{End}
 use Rattle.er_trace.specs.declared.event.Event.{Event}
 use Rattle.er_trace.specs.declared.event.Event.TheVariants.{Call, Answer, Octets, Send, Take, Release, Tick, Ended, Fault, Stalled, Full, Unserved}
 use Rattle.trace_model.specs.Connections.{end_at}

@@ -1,6 +1,6 @@
 -- What the loop does at one session (this profile): a tick, a read, a write, and what follows them, writing and closing.
 use Rattle.std.specs.Prelude.{ℕ, ◌==◌, nat_le, Bool, true, false, ◌&&◌, ◌||◌, if◌then◌else◌, List, [], ◌∷◌, length, drop, Option, Some, None}
-use Rattle.end_model.specs.Steps.{first_of as first_moment}
+use Rattle.er_end_model.specs.Steps.{first_of as first_moment}
 use Rattle.link_trait.specs.Wires.{Reading, Gave, NotNow, End, Failed, Reads, Writes, Closes}
 use Rattle.link_trait.specs.declared.wires.WriteAnswer.{WriteAnswer}
 use Rattle.link_trait.specs.declared.wires.WriteAnswer.TheVariants as write

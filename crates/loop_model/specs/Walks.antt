@@ -1,10 +1,10 @@
 -- The events of a connection, one after the other, each at the end of the end model that those before it lead to; and the end of a session.
 use Rattle.loop_model.specs.Ends.{ModelEnd}
 use Rattle.std.specs.Prelude.{ℕ, ◌≡◌, List, [], ◌∷◌, Option, Some}
-use Rattle.er_settings.specs.declared.settings.Settings.{Settings}
+use Rattle.er_settings.specs.Values.{Settings}
 use Rattle.safety_automaton.specs.Keys.{key_at}
-use Rattle.end_model.specs.Steps.{Finds}
-use Rattle.end_model.specs.Ends.{End}
+use Rattle.er_end_model.specs.Steps.{Finds}
+use Rattle.er_end_model.specs.Ends.{End}
 use Rattle.er_trace.specs.declared.event.Event.{Event}
 use Rattle.trace_model.specs.Connections.{happens, end_at}
 use Rattle.loop_model.specs.Journals.{Entry, lines_of}

@@ -60,7 +60,7 @@ pub fn octets_taken()
 pub fn replies()
     ensures { UsersReply }
 {
-    end_model::laws::released_rest();
+    er_end_model::laws::released_rest();
 }
 
 /// What a user is told, for users that tell what they heard. An event that the loop gives an end, with all that follows it, lets the user of the
@@ -73,7 +73,7 @@ pub fn hearing()
     ensures speech { SpeechIsHeard }
     ensures live { UsersHear }
 {
-    end_model::laws::released_rest();
+    er_end_model::laws::released_rest();
 }
 
 /// No call is made on a connection that was closed.

@@ -3,8 +3,8 @@ use Rattle.loop_model.specs.Ends.{ModelEnd, model_ends}
 use Rattle.std.proofs.Common.{◌≡◌, ◌∙◌, ℕ, max, inl, inr, false, List, [], ◌∷◌, ◌++◌, map, Option, Some, None, refl, sym, ap, subst, append_assoc, true≢false}
 use Rattle.std.proofs.lemmas.Bool.{cases_Bool}
 use Rattle.safety_automaton.specs.Keys.{key_at}
-use Rattle.end_model.specs.Steps.{Finds}
-use Rattle.end_model.specs.Laws.{EventsSpeakOnce}
+use Rattle.er_end_model.specs.Steps.{Finds}
+use Rattle.er_end_model.specs.Laws.{EventsSpeakOnce}
 use Rattle.er_trace.specs.declared.entry.Entry.{Entry as Event_line}
 use Rattle.er_trace.specs.declared.event.Event.{Event}
 use Rattle.er_trace.specs.declared.event.Event.TheVariants as event
@@ -27,7 +27,7 @@ use Rattle.loop_model.specs.Parts as parts
 use Rattle.loop_model.specs.Laws.{ConnectionsAreIsolated}
 use Rattle.loop_model.specs.Recordings.{RecordingsReplay}
 use Rattle.loop_model.specs.Openings.{openings, closed_by, opening_of, openings_due, openings_unless, OpeningsAreTold}
-use Rattle.end_bounds.specs.Shorts.{OutcomesAreShort}
+use Rattle.loop_recordings.specs.Shorts.{OutcomesAreShort}
 use Rattle.loop_recordings.specs.Recordings.{FindsToo, DialsAreReplays, CallersKeySuffices}
 use Rattle.loop_recordings.proofs.Lookups.{IsFoundToo, AreFoundToo, found_alike, also_taken, same_printed}
 use Rattle.loop_recordings.proofs.Handlings.{none_two, IsFirst, served_first}

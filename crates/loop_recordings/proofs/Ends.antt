@@ -4,20 +4,20 @@ use Rattle.std.specs.Prelude.{is_some, if◌then◌else◌}
 use Rattle.des_block.specs.declared.triple_key.TripleKey.{TripleKey}
 use Rattle.er_base.specs.declared.release.Release.{Release}
 use Rattle.er_base.specs.declared.cause.Cause.TheVariants.{LineEnded, LineFailed, LineStalled}
-use Rattle.er_settings.specs.declared.settings.Settings.{Settings}
+use Rattle.er_settings.specs.Values.{Settings}
 use Rattle.hdlc_frames.specs.Framing.{Verdict}
 use Rattle.t70_header.specs.Joining as joining
 use Rattle.x224_class2.specs.Transport.{Deed, Nothing, Called, Confirmed, Message, Disconnected}
 use Rattle.x224_class2.specs.Transport as transport
 use Rattle.safety_automaton.specs.Reports.{report_of}
 use Rattle.safety_automaton.specs.Safety.{Safety, Received, sent_by}
-use Rattle.end_model.specs.Outcomes.{SendRefusal}
-use Rattle.end_model.specs.Steps.{Finds, begins_at, Carrier, InCr, InCc, InDt, acts, spoken, text_comes, does, tpdu_comes, block_at, block_comes, link_at, concludes, received, comes, refusal_of, sends_unless, outcomes_of}
-use Rattle.end_model.specs.Layers.{Spoken, Core, model}
-use Rattle.end_model.specs.Ends as ends
-use Rattle.station_model.specs.Events.{news}
-use Rattle.end_model.specs.Ends.{End, Opening, opened, hears_each, told_of_each}
-use Rattle.end_model.specs.Laws.{IsSane, IsStep, SpeaksOnce, EventsSpeakOnce}
+use Rattle.er_end_model.specs.Outcomes.{SendRefusal}
+use Rattle.er_end_model.specs.Steps.{Finds, new_event_at, Carrier, InCr, InCc, InDt, on_safety_report, with_safety_step, on_text, on_transport_deed, on_tpdu, on_joined_block, on_block, on_link_told, conclude_event, on_frame, step_frame, refusal_of, step_send_unless, outcomes_of}
+use Rattle.er_end_model.specs.Layers.{Spoken, Core, model}
+use Rattle.er_end_model.specs.Ends as ends
+use Rattle.hdlc_station_model.specs.Events.{news}
+use Rattle.er_end_model.specs.Ends.{End, Opening, opened, hears_each, told_of_each}
+use Rattle.er_end_model.specs.Laws.{IsSane, IsStep, SpeaksOnce, EventsSpeakOnce}
 use Rattle.er_trace.specs.declared.event.Event.{Event}
 use Rattle.er_trace.specs.declared.event.Event.TheVariants as event
 use Rattle.trace_model.specs.Connections.{goes_on, called, happens}
@@ -40,11 +40,11 @@ calls_behind key_of x y h once =
 -- ---- a frame, however keys are looked up
 
 module _ (f g : Finds) where
-  same_text : (carrier : Carrier) (text : List ℕ) (x : Core) → asks x.safe.safety.phase ≡ false → text_comes model f carrier text x ≡ text_comes model g carrier text x
+  same_text : (carrier : Carrier) (text : List ℕ) (x : Core) → asks x.safe.safety.phase ≡ false → on_text model f carrier text x ≡ on_text model g carrier text x
   same_text carrier text x quiet =
-      ap (λ a. acts model carrier (report_of a.1) (sent_by a.1) (spoken model (Received text) a x)) (same_step (f x.moment) (g x.moment) x.safe.safety (Received text) quiet)
+      ap (λ a. on_safety_report model carrier (report_of a.1) (sent_by a.1) (with_safety_step model (Received text) a x)) (same_step (f x.moment) (g x.moment) x.safe.safety (Received text) quiet)
 
-  same_deed : (deed : Deed) (x : Core) → asks x.safe.safety.phase ≡ false → does model f deed x ≡ does model g deed x
+  same_deed : (deed : Deed) (x : Core) → asks x.safe.safety.phase ≡ false → on_transport_deed model f deed x ≡ on_transport_deed model g deed x
   same_deed Nothing x quiet = refl
   same_deed (Called user) x quiet = same_text InCr user x quiet
   same_deed (Confirmed user) x quiet = same_text InCc user x quiet
@@ -52,73 +52,73 @@ module _ (f g : Finds) where
   same_deed (Disconnected user) x quiet = refl
   same_deed (transport.Refused sub reason) x quiet = refl
 
-  same_tpdu : (tpdu : List ℕ) (x : Core) → asks x.safe.safety.phase ≡ false → tpdu_comes model f tpdu x ≡ tpdu_comes model g tpdu x
+  same_tpdu : (tpdu : List ℕ) (x : Core) → asks x.safe.safety.phase ≡ false → on_tpdu model f tpdu x ≡ on_tpdu model g tpdu x
   same_tpdu tpdu x quiet = same_deed (model.deed x.upper tpdu) (record x { upper = model.hears x.upper tpdu }) quiet
 
-  same_joined : (answer : joining.Answer) (x : Core) → asks x.safe.safety.phase ≡ false → block_at model f answer x ≡ block_at model g answer x
+  same_joined : (answer : joining.Answer) (x : Core) → asks x.safe.safety.phase ≡ false → on_joined_block model f answer x ≡ on_joined_block model g answer x
   same_joined (Ok None) x quiet = refl
   same_joined (Ok (Some tpdu)) x quiet = same_tpdu tpdu x quiet
   same_joined (Err fault) x quiet = refl
 
-  same_block : (block : List ℕ) (x : Core) → asks x.safe.safety.phase ≡ false → block_comes model f block x ≡ block_comes model g block x
+  same_block : (block : List ℕ) (x : Core) → asks x.safe.safety.phase ≡ false → on_block model f block x ≡ on_block model g block x
   same_block block x quiet = same_joined (joining.step x.joined block).1 (record x { joined = (joining.step x.joined block).0 }) quiet
 
   same_link : (payload : Option (List ℕ)) (up : Bool) (released : Option Release) (x : Core) → asks x.safe.safety.phase ≡ false
-      → link_at model f payload up released x ≡ link_at model g payload up released x
+      → on_link_told model f payload up released x ≡ on_link_told model g payload up released x
   same_link (Some payload) up released x quiet = same_block payload x quiet
   same_link None true released x quiet = refl
   same_link None false (Some why) x quiet = refl
   same_link None false None x quiet = refl
 
-  same_received : (verdict : Verdict) (x : Core) → asks x.safe.safety.phase ≡ false → received model f verdict x ≡ received model g verdict x
+  same_received : (verdict : Verdict) (x : Core) → asks x.safe.safety.phase ≡ false → on_frame model f verdict x ≡ on_frame model g verdict x
   same_received verdict x quiet =
       let deed = model.told x.moment verdict x.line in
-      ap (λ z. if is_some x.released then x else concludes model z)
+      ap (λ z. if is_some x.released then x else conclude_event model z)
       (same_link deed.payload deed.up deed.released (record x { line = model.receives x.moment verdict x.line }) quiet)
 
-  same_frame : (now : ℕ) (verdict : Verdict) (x : Core) → asks x.safe.safety.phase ≡ false → comes model f now verdict x ≡ comes model g now verdict x
-  same_frame now verdict x quiet = same_received verdict (begins_at model now x) quiet
+  same_frame : (now : ℕ) (verdict : Verdict) (x : Core) → asks x.safe.safety.phase ≡ false → step_frame model f now verdict x ≡ step_frame model g now verdict x
+  same_frame now verdict x quiet = same_received verdict (new_event_at model now x) quiet
 
 -- ---- the events of an end that calls
 
 module _ (speak : EventsSpeakOnce) where
-  frame_calls : (f : Finds) (now : ℕ) (verdict : Verdict) (x : Core) → Calls x → Calls (comes model f now verdict x)
-  frame_calls f now verdict x h = calls_behind (f (max x.moment now)) x (comes model f now verdict x) h (speak.comes f now verdict x h.sane)
+  frame_calls : (f : Finds) (now : ℕ) (verdict : Verdict) (x : Core) → Calls x → Calls (step_frame model f now verdict x)
+  frame_calls f now verdict x h = calls_behind (f (max x.moment now)) x (step_frame model f now verdict x) h (speak.comes f now verdict x h.sane)
 
   each_calls : (f : Finds) (now : ℕ) (verdicts : List Verdict) (x : Core) → Calls x → Calls (hears_each f now verdicts x)
   each_calls f now [] x h = h
-  each_calls f now (verdict ∷ verdicts) x h = each_calls f now verdicts (comes model f now verdict x) (frame_calls f now verdict x h)
+  each_calls f now (verdict ∷ verdicts) x h = each_calls f now verdicts (step_frame model f now verdict x) (frame_calls f now verdict x h)
 
   same_hears : (f g : Finds) (now : ℕ) (verdicts : List Verdict) (x : Core) → Calls x → hears_each f now verdicts x ≡ hears_each g now verdicts x
   same_hears f g now [] x h = refl
   same_hears f g now (verdict ∷ verdicts) x h =
-      same_hears f g now verdicts (comes model f now verdict x) (frame_calls f now verdict x h)
+      same_hears f g now verdicts (step_frame model f now verdict x) (frame_calls f now verdict x h)
       ∙ ap (hears_each g now verdicts) (same_frame f g now verdict x h.quiet)
 
   same_told : (f g : Finds) (now : ℕ) (verdicts : List Verdict) (x : Core) → Calls x → told_of_each f now verdicts x ≡ told_of_each g now verdicts x
   same_told f g now [] x h = refl
   same_told f g now (verdict ∷ verdicts) x h =
-      ap (λ z. outcomes_of model (comes model f now verdict x) ++ z) (same_told f g now verdicts (comes model f now verdict x) (frame_calls f now verdict x h))
+      ap (λ z. outcomes_of model (step_frame model f now verdict x) ++ z) (same_told f g now verdicts (step_frame model f now verdict x) (frame_calls f now verdict x h))
       ∙ ap (λ y. outcomes_of model y ++ told_of_each g now verdicts y) (same_frame f g now verdict x h.quiet)
 
-  begun_calls : (now : ℕ) (x : Core) → Calls x → Calls (begins_at model now x)
+  begun_calls : (now : ℕ) (x : Core) → Calls x → Calls (new_event_at model now x)
   begun_calls now x h = record { sane = h.sane; quiet = h.quiet }
 
   same_come : (f g : Finds) (now : ℕ) (octets : List ℕ) (m : End) → Calls m.core → ends.step now (ends.Come f octets) m ≡ ends.step now (ends.Come g octets) m
   same_come f g now octets m h =
-      let x = begins_at model now m.core in
+      let x = new_event_at model now m.core in
       let verdicts = news m.stream octets in
       let b = begun_calls now m.core h in
       ap (λ core. (record { stream = m.stream ++ octets; core = core }, told_of_each f now verdicts x)) (same_hears f g now verdicts x b)
       ∙ ap (λ told. (record { stream = m.stream ++ octets; core = hears_each g now verdicts x }, told)) (same_told f g now verdicts x b)
 
-  sends_calls : (refusal : Option SendRefusal) (now : ℕ) (user : List ℕ) (x : Core) → Calls x → Calls (sends_unless model refusal now user x)
+  sends_calls : (refusal : Option SendRefusal) (now : ℕ) (user : List ℕ) (x : Core) → Calls x → Calls (step_send_unless model refusal now user x)
   sends_calls (Some refusal) now user x h = h
   sends_calls None now user x h = calls_behind _ x _ h (speak.sends now user x h.sane)
 
   step_calls : (now : ℕ) (e : ends.Event) (m : End) → Calls m.core → Calls (ends.step now e m).0.core
   step_calls now ends.Start m h = calls_behind _ m.core _ h (speak.starts now m.core h.sane)
-  step_calls now (ends.Come f octets) m h = each_calls f now (news m.stream octets) (begins_at model now m.core) (begun_calls now m.core h)
+  step_calls now (ends.Come f octets) m h = each_calls f now (news m.stream octets) (new_event_at model now m.core) (begun_calls now m.core h)
   step_calls now (ends.Send user) m h = sends_calls (refusal_of model user m.core) now user m.core h
   step_calls now ends.Take m h = calls_behind _ m.core _ h (speak.uses now m.core h.sane)
   step_calls now (ends.Leave sub) m h = calls_behind _ m.core _ h (speak.leaves now sub m.core h.sane)

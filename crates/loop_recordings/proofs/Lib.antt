@@ -1,3 +1,13 @@
+pub mod Lists
+pub mod Octets
+pub mod Below
+pub mod Lines
+pub mod Heard
+pub mod Transports
+pub mod Receptions
+pub mod Holds
+pub mod Events
+pub mod KnownAnswers
 pub mod Readings
 pub mod Replaying
 pub mod Sides

@@ -2,14 +2,14 @@
 use Rattle.std.proofs.Common.{◌≡◌, ◌∙◌, ℕ, Bool, true, false, List, [], ◌∷◌, ◌++◌, length, filter, Option, Some, None, refl, sym, ap, subst, append_assoc}
 use Rattle.std.specs.Prelude.{nat_lt, ◌==◌, if◌then◌else◌}
 use Rattle.er_base.specs.LineTexts.{line_text}
-use Rattle.er_settings.specs.declared.settings.Settings.{Settings}
+use Rattle.er_settings.specs.Values.{Settings}
 use Rattle.er_trace.specs.declared.entry.Entry.{Entry}
 use Rattle.er_trace.specs.declared.event.Event.{Event}
 use Rattle.er_trace.specs.declared.event.Event.TheVariants as event
 use Rattle.er_trace.specs.Texts.{header_words, entry_words}
-use Rattle.end_model.specs.Steps.{Finds}
-use Rattle.end_model.specs.Ends.{End}
-use Rattle.end_model.specs.Laws.{EventsSpeakOnce}
+use Rattle.er_end_model.specs.Steps.{Finds}
+use Rattle.er_end_model.specs.Ends.{End}
+use Rattle.er_end_model.specs.Laws.{EventsSpeakOnce}
 use Rattle.trace_model.specs.declared.replay_fault.ReplayFault.{ReplayFault}
 use Rattle.trace_model.specs.declared.replay_fault.ReplayFault.TheVariants.{MomentBack, ConnTwice}
 use Rattle.trace_model.specs.Connections.{happens, happens_at, end_behind, end_at}

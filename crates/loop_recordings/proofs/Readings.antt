@@ -2,11 +2,11 @@
 use Rattle.loop_model.specs.Ends.{ModelEnd}
 use Rattle.std.proofs.Common.{◌≡◌, ℕ, ◌+◌, ◌<◌, ◌≤◌, ◌^◌, inl, List, [], ◌∷◌, ◌++◌, map, length, Ok, refl, sym, ◌∙◌, ap, subst, append_assoc, arith}
 use Rattle.er_base.specs.LineTexts.{line_text, lines_text}
-use Rattle.er_settings.specs.declared.settings.Settings.{Settings}
+use Rattle.er_settings.specs.Values.{Settings}
 use Rattle.er_settings.specs.Ranges.{AllAllowed, usual_settings}
 use Rattle.safety_automaton.specs.Keys.{key_at}
-use Rattle.end_model.specs.Outcomes.{SendRefusal, RefusedReleased, RefusedNotConnected, RefusedLength, RefusedFull, Outcome, ConnectedTo, Accepted, Taken, NothingToTake, Refused, WasReleased, Octets}
-use Rattle.end_model.specs.Steps.{Finds}
+use Rattle.er_end_model.specs.Outcomes.{SendRefusal, RefusedReleased, RefusedNotConnected, RefusedLength, RefusedFull, Outcome, ConnectedTo, Accepted, Taken, NothingToTake, Refused, WasReleased, Octets}
+use Rattle.er_end_model.specs.Steps.{Finds}
 use Rattle.er_trace.specs.declared.entry.Entry.{Entry as Event_line}
 use Rattle.er_trace.specs.Files.{trace_of}
 use Rattle.er_trace.specs.Laws.{Printed, Event, Told, printed_words, AllCanBePrinted, text_printed, entries_printed, PrintedIsRead}
@@ -18,7 +18,7 @@ use Rattle.loop_model.specs.Loops.{Plan, Course, printed}
 use Rattle.loop_model.specs.Laws.{AreTold, IsIsolated}
 use Rattle.loop_model.specs.Recordings.{AreEvents}
 use Rattle.loop_model.specs.Grammar.{RefusalHasOctets, HasOctets, HaveOctets, AreInGrammar}
-use Rattle.end_bounds.specs.Shorts.{IsShortRefusal, IsShort, AreShort, OutcomesAreShort}
+use Rattle.loop_recordings.specs.Shorts.{IsShortRefusal, IsShort, AreShort, OutcomesAreShort}
 use Rattle.loop_recordings.specs.Recordings.{recording_of, IsRecorded}
 
 -- ---- the lines of a journal

@@ -5,7 +5,7 @@ use Rattle.er_trace.specs.Laws.{PrintedIsRead}
 use Rattle.loop_model.specs.Journals.{text, header}
 use Rattle.loop_model.specs.Outs.{Out}
 use Rattle.loop_model.specs.Loops.{Plan, Course, printed}
-use Rattle.end_bounds.specs.Shorts.{OutcomesAreShort}
+use Rattle.loop_recordings.specs.Shorts.{OutcomesAreShort}
 use Rattle.loop_recordings.specs.Recordings.{recording_of, RecordingsAreReplays}
 use Rattle.loop_recordings.proofs.Readings.{recording_read}
 

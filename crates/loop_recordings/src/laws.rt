@@ -1,13 +1,28 @@
 //! What holds of the recordings of a loop, as facts that a caller can cite.
 
+ghost use Rattle.loop_recordings.specs.Shorts.{OutcomesAreShort};
 ghost use Rattle.loop_recordings.specs.Recordings.{RecordingsAreReplays, DialsAreReplays, CallersKeySuffices};
+
+/// With the usual settings each outcome of each event of a trace is short, whatever the events before it and however keys are looked up:
+/// the peer's number is an ETCS number, a message has at most 1,023 octets, and at most 2,700 octets go to the line at once.
+pub fn outcomes_are_short()
+    ensures { OutcomesAreShort }
+{
+    hdlc_frames::laws::frame_length();
+    hdlc_frames::laws::control_length();
+    x224_tpdu::laws::reading();
+    x224_class2::laws::segments();
+    safety_automaton::laws::steps();
+    safety_automaton::laws::valid_sides();
+    safety_automaton::laws::lengths();
+}
 
 /// The recording of a loop with the usual settings is its own replay: it is read as a trace, of which a replay with the loop's keys refuses
 /// no event, and prints the same text.
 pub fn recordings()
     ensures { RecordingsAreReplays }
 {
-    end_bounds::laws::outcomes_are_short();
+    outcomes_are_short();
     er_trace::laws::printed_is_read();
 }
 
@@ -17,9 +32,9 @@ pub fn dials()
     ensures own { DialsAreReplays }
     ensures caller { CallersKeySuffices }
 {
-    end_bounds::laws::outcomes_are_short();
+    outcomes_are_short();
     er_trace::laws::printed_is_read();
-    end_model::laws::events_speak_once();
+    er_end_model::laws::events_speak_once();
     loop_model::laws::journal();
     loop_model::laws::recordings();
     loop_model::laws::openings();

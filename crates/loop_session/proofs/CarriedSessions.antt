@@ -2,8 +2,8 @@
 use Rattle.std.proofs.Common.{◌≡◌, ◌∙◌, ℕ, ◌+◌, true, ◌||◌, List, [], ◌∷◌, ◌++◌, length, take, drop, Option, Some, None, refl, ap, ap₂}
 use Rattle.std.specs.Prelude.{◌==◌, nat_lt}
 use Rattle.er_base.specs.declared.release.Release.{Release}
-use Rattle.er_settings.specs.declared.settings.Settings.{Settings}
-use Rattle.end_model.specs.Outcomes.{Outcome}
+use Rattle.er_settings.specs.Values.{Settings}
+use Rattle.er_end_model.specs.Outcomes.{Outcome}
 use Rattle.er_trace.specs.declared.event.Event.{Event}
 use Rattle.er_trace.specs.declared.event.Event.TheVariants as event
 use Rattle.er_users.specs.Users.{Mind, Said}

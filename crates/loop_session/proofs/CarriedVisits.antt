@@ -1,8 +1,8 @@
 -- What a loop does in a visit of a session, carried to ends of another kind.
 use Rattle.std.proofs.Common.{◌≡◌, ◌∙◌, ℕ, Bool, true, false, ◌&&◌, ◌||◌, List, length, Option, refl, ap}
 use Rattle.std.specs.Prelude.{◌==◌, is_some}
-use Rattle.er_settings.specs.declared.settings.Settings.{Settings}
-use Rattle.end_model.specs.Steps.{first_of as first_moment}
+use Rattle.er_settings.specs.Values.{Settings}
+use Rattle.er_end_model.specs.Steps.{first_of as first_moment}
 use Rattle.link_trait.specs.Wires.{Reading, Gave, NotNow, End, Failed, Reads, Writes}
 use Rattle.link_trait.specs.declared.wires.WriteAnswer.{WriteAnswer}
 use Rattle.link_trait.specs.declared.wires.WriteAnswer.TheVariants as write

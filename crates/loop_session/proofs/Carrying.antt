@@ -1,8 +1,8 @@
 -- A loop over ends of one kind, carried to ends of another kind: what is carried, and parts one behind another.
 use Rattle.std.proofs.Common.{◌≡◌, ◌∙◌, ℕ, Bool, true, false, if◌then◌else◌, List, [], ◌∷◌, ◌++◌, refl, ap}
 use Rattle.des_block.specs.declared.triple_key.TripleKey.{TripleKey}
-use Rattle.er_settings.specs.declared.settings.Settings.{Settings}
-use Rattle.end_model.specs.Ends.{Call as CallsWith, Answer as AnswersWith, Event}
+use Rattle.er_settings.specs.Values.{Settings}
+use Rattle.er_end_model.specs.Ends.{Call as CallsWith, Answer as AnswersWith, Event}
 use Rattle.link_trait.specs.Wires.{Call}
 use Rattle.loop_model.specs.Ends.{EndOps}
 use Rattle.loop_model.specs.Journals.{Entry}

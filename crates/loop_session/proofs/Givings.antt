@@ -1,7 +1,7 @@
 -- The octets among the outcomes of an event are those that the end gave.
 use Rattle.std.proofs.Common.{◌≡◌, ℕ, List, [], ◌∷◌, ◌++◌, Option, Some, None, refl, append-nil}
 use Rattle.er_base.specs.declared.release.Release.{Release}
-use Rattle.end_model.specs.Steps.{if_connected, if_accepted, if_released, if_octets, outcomes_of}
+use Rattle.er_end_model.specs.Steps.{if_connected, if_accepted, if_released, if_octets, outcomes_of}
 use Rattle.er_end.specs.KeptLayers.{KCore, kept}
 use Rattle.loop_model.specs.Sessions.{octets_in, heard_in}
 use Rattle.loop_session.specs.Giving.{peer_heard}

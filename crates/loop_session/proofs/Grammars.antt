@@ -3,9 +3,9 @@ use Rattle.std.proofs.Common.{Bor, ◌≡◌, ◌<◌, ◌≤◌, ℕ, ◌^◌, 
 use Rattle.er_base.specs.Octets.{AreOctets}
 use Rattle.er_base.specs.declared.release.Release.{Release}
 use Rattle.er_trace.specs.Ranges.{IsOctet, IsInRange}
-use Rattle.end_model.specs.Outcomes.{Outcome}
-use Rattle.end_model.specs.Ends as end
-use Rattle.end_model.specs.Steps.{if_connected, if_accepted, if_released, if_octets, outcomes_of}
+use Rattle.er_end_model.specs.Outcomes.{Outcome}
+use Rattle.er_end_model.specs.Ends as end
+use Rattle.er_end_model.specs.Steps.{if_connected, if_accepted, if_released, if_octets, outcomes_of}
 use Rattle.er_end.specs.declared.deeds.Deeds.{Deeds}
 use Rattle.er_end.specs.Inboxes.{first_in}
 use Rattle.er_end.specs.KeptEnds.{KEnd, after_take, waiting_in, tells}

@@ -1,10 +1,10 @@
 -- What a user may have heard and said.
 use Rattle.std.proofs.Common.{◌≡◌, ◌∙◌, ℕ, List, [], ◌∷◌, ◌++◌, ◌+◌, Option, Some, None, refl, ap, sym}
 use Rattle.er_base.specs.declared.release.Release.{Release}
-use Rattle.end_model.specs.Outcomes.{SendRefusal}
-use Rattle.end_model.specs.Ends as end
-use Rattle.end_model.specs.Ends.{if_refused}
-use Rattle.end_model.specs.Steps.{if_connected, if_accepted, if_released, if_octets}
+use Rattle.er_end_model.specs.Outcomes.{SendRefusal}
+use Rattle.er_end_model.specs.Ends as end
+use Rattle.er_end_model.specs.Ends.{if_refused}
+use Rattle.er_end_model.specs.Steps.{if_connected, if_accepted, if_released, if_octets}
 use Rattle.loop_session.specs.Keeping.{kept_ends}
 use Rattle.er_end.specs.KeptLayers.{kept}
 use Rattle.er_end.specs.KeptEnds.{KEnd, refusal, after_send, told_by, tells}

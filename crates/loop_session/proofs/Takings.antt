@@ -3,9 +3,9 @@ use Rattle.std.proofs.Common.{◌≡◌, ◌<◌, ℕ, zero, suc, ◌==◌, fals
 use Rattle.std.proofs.lemmas.Bool.{cases_Bool}
 use Rattle.er_base.specs.LineTexts.{line_text}
 use Rattle.er_trace.specs.Texts.{outcome_words}
-use Rattle.end_model.specs.Outcomes.{Outcome, Taken, NothingToTake}
-use Rattle.end_model.specs.Ends as end
-use Rattle.end_model.specs.Steps.{begins_at, offers, gives_next, goes_on, concludes, most_offers, if_taken, if_octets, outcomes_of}
+use Rattle.er_end_model.specs.Outcomes.{Outcome, Taken, NothingToTake}
+use Rattle.er_end_model.specs.Ends as end
+use Rattle.er_end_model.specs.Steps.{new_event_at, hand_waiting_tpdus, hand_next_tpdu, has_next_tpdu, conclude_event, most_offers, if_taken, if_octets, outcomes_of}
 use Rattle.er_end.specs.Inboxes.{first_in}
 use Rattle.er_end.specs.KeptLayers.{KCore, kept}
 use Rattle.er_end.specs.KeptEnds.{KEnd, after_take, waiting_in, told_by, tells}
@@ -21,15 +21,15 @@ record IsQuiet (x : KCore) : Type 0 where
   leaves : x.leaves ≡ None
   fresh : x.upper.inbox.fresh ≡ false
 
-offers_quietly : (n : ℕ) (x : KCore) → IsQuiet x → IsQuiet (offers kept n x)
-unfolding offers
+offers_quietly : (n : ℕ) (x : KCore) → IsQuiet x → IsQuiet (hand_waiting_tpdus kept n x)
+unfolding hand_waiting_tpdus
 offers_quietly zero x q = q
-offers_quietly (suc n) x q = elim (cases_Bool (goes_on kept x)) [
-  | inl p ↦ rw p (offers_quietly n (gives_next kept x) (record { connected = q.connected; leaves = q.leaves; fresh = q.fresh }))
+offers_quietly (suc n) x q = elim (cases_Bool (has_next_tpdu kept x)) [
+  | inl p ↦ rw p (offers_quietly n (hand_next_tpdu kept x) (record { connected = q.connected; leaves = q.leaves; fresh = q.fresh }))
   | inr p ↦ rw p q
 ]
 
-concludes_quietly : (x : KCore) → IsQuiet x → IsQuiet (concludes kept x)
+concludes_quietly : (x : KCore) → IsQuiet x → IsQuiet (conclude_event kept x)
 concludes_quietly x q = elim (cases_Bool (is_some x.released)) [
   | inl p ↦ rw p q
   | inr p ↦ rw p (let o = offers_quietly most_offers x q in record { connected = o.connected; leaves = o.leaves; fresh = o.fresh })
@@ -39,7 +39,7 @@ takes_quietly : (now : ℕ) (k : KEnd) → IsQuiet (after_take now k).core
 unfolding after_take
 takes_quietly now k = elim (cases_Bool (length (waiting_in k) == 0)) [
   | inl p ↦ rw p (record { connected = refl; leaves = refl; fresh = refl })
-  | inr p ↦ rw p (concludes_quietly (let x = begins_at kept now k.core in record x { upper = kept.uses x.upper }) (record { connected = refl; leaves = refl; fresh = refl }))
+  | inr p ↦ rw p (concludes_quietly (let x = new_event_at kept now k.core in record x { upper = kept.uses x.upper }) (record { connected = refl; leaves = refl; fresh = refl }))
 ]
 
 quiet_outcomes : (x : KCore) → IsQuiet x → outcomes_of kept x ≡ if_octets x.line.out

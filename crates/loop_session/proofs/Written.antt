@@ -8,7 +8,7 @@ use Rattle.er_base.specs.declared.no_memory.NoMemory.{NoMemory as Want}
 use Rattle.er_trace.specs.declared.event.Event.{Event}
 use Rattle.er_trace.specs.Texts.{entry_words}
 use Rattle.trace_model.specs.Printed.{outcomes_text}
-use Rattle.end_model.specs.Ends.{Send}
+use Rattle.er_end_model.specs.Ends.{Send}
 use Rattle.er_end.specs.KeptEnds.{KEnd, happens, tells}
 use Rattle.er_users.specs.Saying.{Spoken}
 use Rattle.er_users.specs.Users.{Mind, Heard}

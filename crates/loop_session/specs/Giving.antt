@@ -5,7 +5,7 @@ use Rattle.loop_session.specs.Keeping.{kept_ends}
 use Rattle.std.specs.Prelude.{◌≡◌, ℕ, ◌+◌, nat_lt, not, Bool, ◌||◌, if◌then◌else◌, List, ◌++◌, length, Option, Some, None, Result, Ok, Err}
 use Rattle.er_users.specs.Saying.{Spoken}
 use Rattle.er_users.specs.Users.{Mind, Heard, Connected, Said}
-use Rattle.end_model.specs.Outcomes.{Outcome}
+use Rattle.er_end_model.specs.Outcomes.{Outcome}
 use Rattle.er_trace.specs.declared.event.Event.{Event}
 use Rattle.loop_model.specs.Grammar.{IsInGrammar}
 use Rattle.loop_model.specs.Journals.{Entry, entry_text}

@@ -6,6 +6,7 @@ ghost use Rattle.loop_session.specs.Parts.{Puts};
 
 use crate::loop_fault::LoopFault;
 use crate::scratch::Scratch;
+use er_base::Moment;
 use er_trace::{Entry, Event, print_entry};
 use link_trait::Sink;
 
@@ -24,9 +25,9 @@ pub fn write_lines<S: Sink>(lines: &[u8], sink: &mut S) -> Result<(), LoopFault>
     }
 }
 
-/// Writes the line of an event that has no outcome.
+/// Writes the line of an event that has no outcome; its moment is in its range by its type.
 pub fn write_event<S: Sink>(
-    moment: u64,
+    moment: Moment,
     conn: u64,
     event: Event,
     scratch: &mut Scratch,
@@ -34,11 +35,12 @@ pub fn write_event<S: Sink>(
 ) -> Result<(), LoopFault>
     ensures puts { Puts (S.state sink.old) (S.state sink.new)
         (text (record { moment = moment; conn = conn; event = event; outcomes = [] } ∷ [])) result }
+    ensures within { moment ≤ 1000000000000000 }
     ensures later { (S.state sink.old).faults ≤ (S.state sink.new).faults }
 {
     let entry = Entry {
         line: 0,
-        moment,
+        moment: moment.get(),
         conn,
         event,
     };

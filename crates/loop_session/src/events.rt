@@ -33,28 +33,20 @@ impl<U: SafeUser> Session<U> {
     fn follow<S: Sink>(
         &mut self,
         came: Came,
-        when: When,
+        when: &When,
         scratch: &mut Scratch,
         sink: &mut S,
     ) -> Result<(), LoopFault>
-        requires moment { when.moment ≤ 1000000000000000 }
-        requires setup { when.setup ≤ 600000 }
         ensures chooses { (entries : List keys.Entry) (s : LoopSession KEnd) (g : Given)
-            → Gave (rules entries when.setup) when.moment s g self.old scratch.old.line.items came.fits
-            → self.old.mind ≡ s.mind → heard_in (outcomes_of kept_ends (rules entries when.setup) when.moment s.end g) ≡ peer_heard came.connected
-            → Chooses (S.state sink.old) (S.state sink.new) self.new (handled kept_ends (rules entries when.setup) when.moment s g) result }
+            → Gave (rules entries when.now.setup) when.now.moment s g self.old scratch.old.line.items came.fits
+            → self.old.mind ≡ s.mind → heard_in (outcomes_of kept_ends (rules entries when.now.setup) when.now.moment s.end g) ≡ peer_heard came.connected
+            → Chooses (S.state sink.old) (S.state sink.new) self.new (handled kept_ends (rules entries when.now.setup) when.now.moment s g) result }
         ensures number { self.new.number ≡ self.old.number }
         ensures later { (S.state sink.old).faults ≤ (S.state sink.new).faults }
     {
         hear_connected(&mut self.user, came.connected, &mut scratch.replies);
-        match self.answer(came.fits, when.moment, scratch, sink) {
-            Ok(()) => {}
-            Err(fault) => return Err(fault),
-        }
-        match self.take_all(when.moment, scratch, sink) {
-            Ok(()) => {}
-            Err(fault) => return Err(fault),
-        }
+        self.answer(came.fits, when.moment, scratch, sink)?;
+        self.take_all(when.moment, scratch, sink)?;
         self.part(when);
         Ok(())
     }
@@ -62,14 +54,12 @@ impl<U: SafeUser> Session<U> {
     /// A moment has come.
     pub fn tick<S: Sink>(
         &mut self,
-        when: When,
+        when: &When,
         scratch: &mut Scratch,
         sink: &mut S,
     ) -> Result<(), LoopFault>
-        requires moment { when.moment ≤ 1000000000000000 }
-        requires setup { when.setup ≤ 600000 }
         ensures chooses { (entries : List keys.Entry) → Chooses (S.state sink.old) (S.state sink.new) self.new
-            (handled kept_ends (rules entries when.setup) when.moment self.old Ticks) result }
+            (handled kept_ends (rules entries when.now.setup) when.now.moment self.old Ticks) result }
         ensures number { self.new.number ≡ self.old.number }
         ensures later { (S.state sink.old).faults ≤ (S.state sink.new).faults }
     {
@@ -88,16 +78,12 @@ impl<U: SafeUser> Session<U> {
     pub fn call<S: Sink>(
         &mut self,
         call: &Called,
-        when: When,
+        when: &When,
         scratch: &mut Scratch,
         sink: &mut S,
     ) -> Result<(), LoopFault>
-        requires moment { when.moment ≤ 1000000000000000 }
-        requires engine { call.now.engine < 2 ^ 24 }
-        requires rbc { call.now.rbc < 2 ^ 24 }
-        requires setup { when.setup ≤ 600000 }
         ensures chooses { (entries : List keys.Entry) → Chooses (S.state sink.old) (S.state sink.new) self.new
-            (handled kept_ends (rules entries when.setup) when.moment self.old (Begins call.now.engine call.now.rbc call.now.rb)) result }
+            (handled kept_ends (rules entries when.now.setup) when.now.moment self.old (Begins call.now.engine call.now.rbc call.now.rb)) result }
         ensures number { self.new.number ≡ self.old.number }
         ensures later { (S.state sink.old).faults ≤ (S.state sink.new).faults }
     {
@@ -116,14 +102,12 @@ impl<U: SafeUser> Session<U> {
     /// The line ended: the connection is to be closed.
     pub fn ended<S: Sink>(
         &mut self,
-        when: When,
+        when: &When,
         scratch: &mut Scratch,
         sink: &mut S,
     ) -> Result<(), LoopFault>
-        requires moment { when.moment ≤ 1000000000000000 }
-        requires setup { when.setup ≤ 600000 }
         ensures chooses { (entries : List keys.Entry) → Chooses (S.state sink.old) (S.state sink.new) self.new
-            (handled kept_ends (rules entries when.setup) when.moment self.old Ends) result }
+            (handled kept_ends (rules entries when.now.setup) when.now.moment self.old Ends) result }
         ensures number { self.new.number ≡ self.old.number }
         ensures later { (S.state sink.old).faults ≤ (S.state sink.new).faults }
     {
@@ -142,14 +126,12 @@ impl<U: SafeUser> Session<U> {
     /// The line failed: the connection is to be closed.
     pub fn fault<S: Sink>(
         &mut self,
-        when: When,
+        when: &When,
         scratch: &mut Scratch,
         sink: &mut S,
     ) -> Result<(), LoopFault>
-        requires moment { when.moment ≤ 1000000000000000 }
-        requires setup { when.setup ≤ 600000 }
         ensures chooses { (entries : List keys.Entry) → Chooses (S.state sink.old) (S.state sink.new) self.new
-            (handled kept_ends (rules entries when.setup) when.moment self.old Faults) result }
+            (handled kept_ends (rules entries when.now.setup) when.now.moment self.old Faults) result }
         ensures number { self.new.number ≡ self.old.number }
         ensures later { (S.state sink.old).faults ≤ (S.state sink.new).faults }
     {
@@ -170,15 +152,13 @@ impl<U: SafeUser> Session<U> {
         &mut self,
         octets: &[u8],
         keys: &K,
-        when: When,
+        when: &When,
         scratch: &mut Scratch,
         sink: &mut S,
     ) -> Result<usize, LoopFault>
-        requires moment { when.moment ≤ 1000000000000000 }
-        requires octets { length octets.now ≤ 4096 }
-        requires setup { when.setup ≤ 600000 }
+        requires { length octets.now ≤ 4096 }
         ensures chooses { Chooses (S.state sink.old) (S.state sink.new) self.new
-            (handled kept_ends (rules (K.entries keys.now) when.setup) when.moment self.old (Hears octets.now)) result }
+            (handled kept_ends (rules (K.entries keys.now) when.now.setup) when.now.moment self.old (Hears octets.now)) result }
         ensures used { IfOk result (λ used. used ≡ used_of self.old.end octets.now) }
         ensures within { IfOk result (λ used. used ≤ length octets.now) }
         ensures moves { IfOk result (λ used. 0 < length octets.now → 0 < used) }
@@ -195,10 +175,8 @@ impl<U: SafeUser> Session<U> {
             &mut scratch.line,
             &mut self.output,
         )?;
-        match self.follow(given.1, when, scratch, sink) {
-            Ok(()) => Ok(given.0),
-            Err(fault) => Err(fault),
-        }
+        self.follow(given.1, when, scratch, sink)?;
+        Ok(given.0)
     }
 
     /// The octets of a read come: they are given to the end frame by frame, until the session breaks off.
@@ -206,15 +184,13 @@ impl<U: SafeUser> Session<U> {
         &mut self,
         octets: &[u8],
         keys: &K,
-        when: When,
+        when: &When,
         scratch: &mut Scratch,
         sink: &mut S,
     ) -> Result<(), LoopFault>
-        requires moment { when.moment ≤ 1000000000000000 }
-        requires octets { length octets.now ≤ 4096 }
-        requires setup { when.setup ≤ 600000 }
+        requires { length octets.now ≤ 4096 }
         ensures chooses { Chooses (S.state sink.old) (S.state sink.new) self.new
-            (pours kept_ends (rules (K.entries keys.now) when.setup) when.moment self.old octets.now) result }
+            (pours kept_ends (rules (K.entries keys.now) when.now.setup) when.now.moment self.old octets.now) result }
         ensures number { self.new.number ≡ self.old.number }
         ensures later { (S.state sink.old).faults ≤ (S.state sink.new).faults }
     {
@@ -223,10 +199,7 @@ impl<U: SafeUser> Session<U> {
             if self.is_broken() {
                 return Ok(());
             }
-            match self.hear(behind(octets, at), keys, when, scratch, sink) {
-                Ok(used) => at += used,
-                Err(fault) => return Err(fault),
-            }
+            at += self.hear(behind(octets, at), keys, when, scratch, sink)?;
         }
         Ok(())
     }

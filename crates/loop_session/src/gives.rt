@@ -5,31 +5,34 @@ ghost use Rattle.safety_automaton.specs.Keys.{key_at};
 ghost use Rattle.er_base.specs.LineTexts.{line_text};
 ghost use Rattle.er_trace.specs.Texts.{entry_words};
 ghost use Rattle.er_trace.specs.declared.event.Event.TheVariants as event;
-ghost use Rattle.end_model.specs.Ends.{Start, Come, Send, Take, Leave, Tick, Ended, Fault, Stalled};
+ghost use Rattle.er_end_model.specs.Ends.{Start, Come, Send, Take, Leave, Tick, Ended, Fault, Stalled};
+ghost use Rattle.er_end_model.specs.Steps.{outcomes_of};
 ghost use Rattle.er_end.specs.KeptEnds.{happens, tells, used_of};
+ghost use Rattle.er_end.specs.KeptLayers.{KCore, kept};
+ghost use Rattle.er_end.specs.Shown.{Shows};
 ghost use Rattle.trace_model.specs.Printed.{outcomes_text};
 ghost use Rattle.loop_model.specs.Sessions.{octets_in, heard_in, refused_in, refusal_heard, notes};
-ghost use Rattle.loop_model.specs.Grammar.{IsInGrammar};
+ghost use Rattle.loop_model.specs.Grammar.{IsInGrammar, HaveOctets};
 ghost use Rattle.loop_session.specs.Giving.{happened, Joins, JoinsCame, too_many, joined_to, peer_heard, HeardSo};
 
 use crate::hearing::{hear_message, hear_refused};
 use crate::join::join_waiting;
 use crate::ranges::{see_deeds, see_octets, see_refusal, see_word};
 use bytes::BytesMut;
-use end_lines::{tell, tell_empty, tell_octets, tell_refused, tell_taken};
-use er_base::NoMemory;
-use er_end::End;
+use er_base::{EtcsNumber, Moment, NoMemory};
+use er_end::{Deeds, End};
 use er_trace::{Entry, Event, print_entry, print_octets, print_send};
 use er_users::{Replies, SafeUser};
 use safety_automaton::KeyFinder;
+use trace_lines::{tell, tell_empty, tell_octets, tell_refused, tell_taken};
 
 /// What an engine calls with.
-#[derive(Clone, Copy, Debug, PartialEq, Eq)]
+#[derive(Clone, Copy)]
 pub struct Called {
-    /// The engine's ETCS number, below 2^24.
-    pub engine: u32,
-    /// That of the radio block centre, below 2^24.
-    pub rbc: u32,
+    /// The engine's ETCS number.
+    pub engine: EtcsNumber,
+    /// That of the radio block centre.
+    pub rbc: EtcsNumber,
     /// The engine's random number.
     pub rb: u64,
 }
@@ -44,28 +47,49 @@ pub struct Came {
 }
 
 // The line of an event.
-fn put(moment: u64, conn: u64, event: Event, line: &mut Vec<u8>) -> Result<(), NoMemory>
+fn put(moment: Moment, conn: u64, event: Event, line: &mut Vec<u8>) -> Result<(), NoMemory>
     ensures { OnOk result (line.new.items ≡ line.old.items ++ line_text (entry_words moment conn event)) }
 {
     let entry = Entry {
         line: 0,
-        moment,
+        moment: moment.get(),
         conn,
         event,
     };
     print_entry(&entry, line)
 }
 
-/// A moment has come.
-#[tactic(auto, using(crate::proofs::Givings::octets_told, crate::proofs::Givings::heard_told, crate::proofs::Grammars::happens_so))]
-pub fn give_tick(
-    end: &mut End,
+// What came of an event is told, and the octets that the end gave join those that wait.
+#[tactic(auto, using(crate::proofs::Givings::octets_told, crate::proofs::Givings::heard_told))]
+fn conclude(
     conn: u64,
-    moment: u64,
+    deeds: &Deeds<'_>,
     line: &mut Vec<u8>,
     output: &mut BytesMut,
 ) -> Result<Came, NoMemory>
-    requires { moment ≤ 1000000000000000 }
+    ensures octets { (x : KCore) → Shows deeds.now x → HaveOctets (outcomes_of kept x) }
+    ensures text { (x : KCore) → Shows deeds.now x → OnOk result (line.new.items ≡ line.old.items ++ outcomes_text conn (outcomes_of kept x)) }
+    ensures joins { (x : KCore) → Shows deeds.now x → JoinsCame result output.old.items output.new.items (octets_in (outcomes_of kept x)) }
+    ensures heard { (x : KCore) → Shows deeds.now x → IfOk result (λ came. heard_in (outcomes_of kept x) ≡ peer_heard came.connected) }
+{
+    see_deeds(deeds);
+    tell(conn, deeds, line)?;
+    let fits = join_waiting(output, deeds.out)?;
+    Ok(Came {
+        connected: deeds.connected,
+        fits,
+    })
+}
+
+/// A moment has come.
+#[tactic(auto, using(crate::proofs::Grammars::happens_so))]
+pub fn give_tick(
+    end: &mut End,
+    conn: u64,
+    moment: Moment,
+    line: &mut Vec<u8>,
+    output: &mut BytesMut,
+) -> Result<Came, NoMemory>
     ensures end { OnOk result (end.new ≡ happens moment Tick end.old) }
     ensures grammar { OnOk result (IsInGrammar (happened moment conn event.Tick (tells moment Tick end.old))) }
     ensures text { OnOk result (line.new.items
@@ -74,14 +98,8 @@ pub fn give_tick(
     ensures heard { IfOk result (λ came. heard_in (tells moment Tick end.old) ≡ peer_heard came.connected) }
 {
     put(moment, conn, Event::Tick, line)?;
-    let deeds = end.tick(moment);
-    see_deeds(&deeds);
-    tell(conn, &deeds, line)?;
-    let fits = join_waiting(output, deeds.out)?;
-    Ok(Came {
-        connected: deeds.connected,
-        fits,
-    })
+    let deeds = end.tick(moment.get());
+    conclude(conn, &deeds, line, output)
 }
 
 /// The user releases, with this sub-reason: whether the octets that the end gives fit.
@@ -89,12 +107,11 @@ pub fn give_tick(
 pub fn give_release(
     end: &mut End,
     conn: u64,
-    moment: u64,
+    moment: Moment,
     sub: u8,
     line: &mut Vec<u8>,
     output: &mut BytesMut,
 ) -> Result<bool, NoMemory>
-    requires { moment ≤ 1000000000000000 }
     ensures end { OnOk result (end.new ≡ happens moment (Leave sub) end.old) }
     ensures grammar { OnOk result (IsInGrammar (happened moment conn (event.Release sub) (tells moment (Leave sub) end.old))) }
     ensures text { OnOk result (line.new.items
@@ -102,7 +119,7 @@ pub fn give_release(
     ensures joins { Joins result output.old.items output.new.items (octets_in (tells moment (Leave sub) end.old)) }
 {
     put(moment, conn, Event::Release(sub), line)?;
-    let deeds = end.release(moment, sub);
+    let deeds = end.release(moment.get(), sub);
     see_deeds(&deeds);
     tell(conn, &deeds, line)?;
     join_waiting(output, deeds.out)
@@ -115,13 +132,12 @@ pub fn give_send<U: SafeUser>(
     end: &mut End,
     user: &mut Option<U>,
     conn: u64,
-    moment: u64,
+    moment: Moment,
     text: &[u8],
     line: &mut Vec<u8>,
     output: &mut BytesMut,
 ) -> Result<bool, NoMemory>
-    requires moment { moment ≤ 1000000000000000 }
-    requires text { length text.now ≤ 4096 }
+    requires { length text.now ≤ 4096 }
     ensures end { OnOk result (end.new ≡ happens moment (Send text.now) end.old) }
     ensures grammar { OnOk result (IsInGrammar (happened moment conn (event.Send text.now) (tells moment (Send text.now) end.old))) }
     ensures text { OnOk result (line.new.items
@@ -129,8 +145,8 @@ pub fn give_send<U: SafeUser>(
     ensures joins { Joins result output.old.items output.new.items (octets_in (tells moment (Send text.now) end.old)) }
     ensures heard { OnOk result (option_map U.mind user.new ≡ notes (refusal_heard text.now (refused_in (tells moment (Send text.now) end.old))) (option_map U.mind user.old)) }
 {
-    print_send(moment, conn, text, line)?;
-    match end.send(moment, text) {
+    print_send(moment.get(), conn, text, line)?;
+    match end.send(moment.get(), text) {
         Ok(deeds) => {
             see_deeds(&deeds);
             tell(conn, &deeds, line)?;
@@ -151,12 +167,11 @@ pub fn give_take<U: SafeUser>(
     end: &mut End,
     user: &mut Option<U>,
     conn: u64,
-    moment: u64,
+    moment: Moment,
     replies: &mut Replies,
     line: &mut Vec<u8>,
     output: &mut BytesMut,
 ) -> Result<bool, NoMemory>
-    requires { moment ≤ 1000000000000000 }
     ensures end { OnOk result (end.new ≡ happens moment Take end.old) }
     ensures grammar { OnOk result (IsInGrammar (happened moment conn event.Take (tells moment Take end.old))) }
     ensures text { OnOk result (line.new.items
@@ -165,7 +180,7 @@ pub fn give_take<U: SafeUser>(
     ensures heard { OnOk result (HeardSo (option_map U.mind user.old) (heard_in (tells moment Take end.old)) (option_map U.mind user.new) replies.new) }
 {
     put(moment, conn, Event::Take, line)?;
-    match end.take(moment) {
+    match end.take(moment.get()) {
         Some(taken) => {
             see_octets(taken.text);
             see_octets(taken.out);
@@ -187,10 +202,9 @@ pub fn give_take<U: SafeUser>(
 pub fn give_stalled(
     end: &mut End,
     conn: u64,
-    moment: u64,
+    moment: Moment,
     line: &mut Vec<u8>,
 ) -> Result<(), NoMemory>
-    requires { moment ≤ 1000000000000000 }
     ensures end { OnOk result (end.new ≡ happens moment Stalled end.old) }
     ensures grammar { OnOk result (IsInGrammar (happened moment conn event.Stalled (tells moment Stalled end.old))) }
     ensures text { OnOk result (line.new.items
@@ -203,15 +217,14 @@ pub fn give_stalled(
 }
 
 /// The line ended.
-#[tactic(auto, using(crate::proofs::Givings::octets_told, crate::proofs::Givings::heard_told, crate::proofs::Grammars::happens_so))]
+#[tactic(auto, using(crate::proofs::Grammars::happens_so))]
 pub fn give_ended(
     end: &mut End,
     conn: u64,
-    moment: u64,
+    moment: Moment,
     line: &mut Vec<u8>,
     output: &mut BytesMut,
 ) -> Result<Came, NoMemory>
-    requires { moment ≤ 1000000000000000 }
     ensures end { OnOk result (end.new ≡ happens moment Ended end.old) }
     ensures grammar { OnOk result (IsInGrammar (happened moment conn event.Ended (tells moment Ended end.old))) }
     ensures text { OnOk result (line.new.items
@@ -221,25 +234,18 @@ pub fn give_ended(
 {
     put(moment, conn, Event::Ended, line)?;
     let deeds = end.ended();
-    see_deeds(&deeds);
-    tell(conn, &deeds, line)?;
-    let fits = join_waiting(output, deeds.out)?;
-    Ok(Came {
-        connected: deeds.connected,
-        fits,
-    })
+    conclude(conn, &deeds, line, output)
 }
 
 /// The line failed.
-#[tactic(auto, using(crate::proofs::Givings::octets_told, crate::proofs::Givings::heard_told, crate::proofs::Grammars::happens_so))]
+#[tactic(auto, using(crate::proofs::Grammars::happens_so))]
 pub fn give_fault(
     end: &mut End,
     conn: u64,
-    moment: u64,
+    moment: Moment,
     line: &mut Vec<u8>,
     output: &mut BytesMut,
 ) -> Result<Came, NoMemory>
-    requires { moment ≤ 1000000000000000 }
     ensures end { OnOk result (end.new ≡ happens moment Fault end.old) }
     ensures grammar { OnOk result (IsInGrammar (happened moment conn event.Fault (tells moment Fault end.old))) }
     ensures text { OnOk result (line.new.items
@@ -249,28 +255,19 @@ pub fn give_fault(
 {
     put(moment, conn, Event::Fault, line)?;
     let deeds = end.fault();
-    see_deeds(&deeds);
-    tell(conn, &deeds, line)?;
-    let fits = join_waiting(output, deeds.out)?;
-    Ok(Came {
-        connected: deeds.connected,
-        fits,
-    })
+    conclude(conn, &deeds, line, output)
 }
 
 /// The end of an engine begins: its station sends the set-up frame.
-#[tactic(auto, using(crate::proofs::Givings::octets_told, crate::proofs::Givings::heard_told, crate::proofs::Grammars::happens_so))]
+#[tactic(auto, using(crate::proofs::Grammars::happens_so))]
 pub fn give_start(
     end: &mut End,
     conn: u64,
-    moment: u64,
+    moment: Moment,
     call: &Called,
     line: &mut Vec<u8>,
     output: &mut BytesMut,
 ) -> Result<Came, NoMemory>
-    requires moment { moment ≤ 1000000000000000 }
-    requires engine { call.now.engine < 2 ^ 24 }
-    requires rbc { call.now.rbc < 2 ^ 24 }
     ensures end { OnOk result (end.new ≡ happens moment Start end.old) }
     ensures grammar { OnOk result (IsInGrammar (happened moment conn (event.Call call.now.engine call.now.rbc call.now.rb) (tells moment Start end.old))) }
     ensures text { OnOk result (line.new.items
@@ -280,19 +277,13 @@ pub fn give_start(
 {
     see_word(call.rb);
     let event = Event::Call {
-        engine: call.engine,
-        rbc: call.rbc,
+        engine: call.engine.get(),
+        rbc: call.rbc.get(),
         rb: call.rb,
     };
     put(moment, conn, event, line)?;
-    let deeds = end.start(moment);
-    see_deeds(&deeds);
-    tell(conn, &deeds, line)?;
-    let fits = join_waiting(output, deeds.out)?;
-    Ok(Came {
-        connected: deeds.connected,
-        fits,
-    })
+    let deeds = end.start(moment.get());
+    conclude(conn, &deeds, line, output)
 }
 
 // The first octets of a piece, so many where there are as many.
@@ -307,18 +298,17 @@ fn front(piece: &[u8], used: usize) -> &[u8]
 }
 
 /// Octets come, and the end uses them up to the first closed frame: how many.
-#[tactic(auto, using(crate::proofs::Givings::octets_told, crate::proofs::Givings::heard_told, crate::proofs::Grammars::happens_so))]
+#[tactic(auto, using(crate::proofs::Grammars::happens_so))]
 pub fn give_octets<K: KeyFinder>(
     keys: &K,
     end: &mut End,
     conn: u64,
-    moment: u64,
+    moment: Moment,
     piece: &[u8],
     line: &mut Vec<u8>,
     output: &mut BytesMut,
 ) -> Result<(usize, Came), NoMemory>
-    requires moment { moment ≤ 1000000000000000 }
-    requires piece { length piece.now ≤ 4096 }
+    requires { length piece.now ≤ 4096 }
     ensures end { OnOk result (end.new ≡ happens moment (Come (key_at (K.entries keys.now)) piece.now) end.old) }
     ensures grammar { OnOk result (IsInGrammar (happened moment conn (event.Octets (take (used_of end.old piece.now) piece.now))
         (tells moment (Come (key_at (K.entries keys.now)) piece.now) end.old))) }
@@ -330,14 +320,8 @@ pub fn give_octets<K: KeyFinder>(
     ensures used { IfOk result (λ came. came.0 ≡ used_of end.old piece.now) }
     ensures heard { IfOk result (λ came. heard_in (tells moment (Come (key_at (K.entries keys.now)) piece.now) end.old) ≡ peer_heard came.1.connected) }
 {
-    let (used, deeds) = end.octets(keys, moment, piece);
-    print_octets(moment, conn, front(piece, used), line)?;
-    see_deeds(&deeds);
-    tell(conn, &deeds, line)?;
-    let fits = join_waiting(output, deeds.out)?;
-    let came = Came {
-        connected: deeds.connected,
-        fits,
-    };
+    let (used, deeds) = end.octets(keys, moment.get(), piece);
+    print_octets(moment.get(), conn, front(piece, used), line)?;
+    let came = conclude(conn, &deeds, line, output)?;
     Ok((used, came))
 }

@@ -1,4 +1,5 @@
-// What is left of a user that was let go. It exists only in proofs.
+//! What is left of a user that was let go. It exists only in proofs.
+
 ghost use Rattle.std.specs.Prelude.{◌≡◌};
 ghost use Rattle.std.specs.Borrow.{ftrue};
 

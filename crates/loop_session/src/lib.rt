@@ -1,7 +1,7 @@
 //! The session of one connection in a readiness loop: its end, its user, and the octets that wait to be written (this profile).
 //!
 //! Each event is given to the end, its lines are written, and its octets join those that wait. The user hears of it, and what the user
-//! says follows as events. The definitions stand in `loop_model`. Here no wires are called: `loop_visit` does that.
+//! says follows as events. The definitions stand in `loop_model`. Here no wires are called: `loop_io` does that.
 #![tactic(auto)]
 
 mod event_lines;

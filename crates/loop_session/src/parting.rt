@@ -1,6 +1,6 @@
 //! How a session parts from its user.
 
-ghost use Rattle.std.specs.Prelude.{◌≡◌, ◌≤◌, List};
+ghost use Rattle.std.specs.Prelude.{◌≡◌, List};
 ghost use Rattle.safety_automaton.specs.Keys as keys;
 ghost use Rattle.loop_model.specs.Sessions.{parted};
 ghost use Rattle.loop_session.specs.Parts.{rules};
@@ -13,10 +13,8 @@ use er_users::SafeUser;
 
 impl<U: SafeUser> Session<U> {
     // The user hears of the release of the end, and is let go.
-    pub(crate) fn part(&mut self, when: When)
-        requires moment { when.moment ≤ 1000000000000000 }
-        requires setup { when.setup ≤ 600000 }
-        ensures parts { (entries : List keys.Entry) → self.new ≡ parted kept_ends (rules entries when.setup) when.moment self.old }
+    pub(crate) fn part(&mut self, when: &When)
+        ensures parts { (entries : List keys.Entry) → self.new ≡ parted kept_ends (rules entries when.now.setup) when.now.moment self.old }
         ensures number { self.new.number ≡ self.old.number }
     {
         let Some(why) = self.end.released() else {
@@ -25,7 +23,7 @@ impl<U: SafeUser> Session<U> {
         if let Some(mut user) = self.user.take() {
             user.released(why.reason, why.sub, why.by_peer);
             self.gone = Some(Gone::of(&user));
-            self.closing = Some(when.moment + when.setup);
+            self.closing = Some(when.closing());
         }
     }
 }

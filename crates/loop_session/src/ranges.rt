@@ -3,7 +3,7 @@
 ghost use Rattle.std.specs.Prelude.{◌<◌, ◌^◌, IfSome};
 ghost use Rattle.er_base.specs.Octets.{AreOctets};
 ghost use Rattle.er_trace.specs.Ranges.{IsOctet};
-ghost use Rattle.end_model.specs.Steps.{outcomes_of};
+ghost use Rattle.er_end_model.specs.Steps.{outcomes_of};
 ghost use Rattle.er_end.specs.KeptLayers.{KCore, kept};
 ghost use Rattle.er_end.specs.Shown.{Shows, refusal_view};
 ghost use Rattle.loop_model.specs.Grammar.{RefusalHasOctets, HaveOctets};

@@ -13,6 +13,7 @@ use crate::gives::{give_release, give_send, give_stalled, give_take};
 use crate::loop_fault::LoopFault;
 use crate::scratch::Scratch;
 use crate::session::Session;
+use er_base::Moment;
 use er_users::SafeUser;
 use link_trait::Sink;
 
@@ -20,11 +21,10 @@ impl<U: SafeUser> Session<U> {
     // The session stalls.
     fn stall<S: Sink>(
         &mut self,
-        moment: u64,
+        moment: Moment,
         line: &mut Vec<u8>,
         sink: &mut S,
     ) -> Result<(), LoopFault>
-        requires { moment ≤ 1000000000000000 }
         ensures prints { (r : Rules) → Prints (S.state sink.old) (S.state sink.new) self.new (stalled kept_ends r moment self.old) result }
         ensures number { self.new.number ≡ self.old.number }
         ensures later { (S.state sink.old).faults ≤ (S.state sink.new).faults }
@@ -39,20 +39,16 @@ impl<U: SafeUser> Session<U> {
     fn tell<S: Sink>(
         &mut self,
         fits: bool,
-        moment: u64,
+        moment: Moment,
         line: &mut Vec<u8>,
         sink: &mut S,
     ) -> Result<(), LoopFault>
-        requires { moment ≤ 1000000000000000 }
         ensures prints { (r : Rules) (s : LoopSession KEnd) (g : Given) → Gave r moment s g self.old line.old.items fits
             → Prints (S.state sink.old) (S.state sink.new) self.new (with_mind self.old.mind (fed kept_ends r moment s g)) result }
         ensures number { self.new.number ≡ self.old.number }
         ensures later { (S.state sink.old).faults ≤ (S.state sink.new).faults }
     {
-        match write_lines(line.as_slice(), sink) {
-            Ok(()) => {}
-            Err(fault) => return Err(fault),
-        }
+        write_lines(line.as_slice(), sink)?;
         if fits {
             return Ok(());
         }
@@ -63,12 +59,11 @@ impl<U: SafeUser> Session<U> {
     fn send<S: Sink>(
         &mut self,
         text: &[u8],
-        moment: u64,
+        moment: Moment,
         line: &mut Vec<u8>,
         sink: &mut S,
     ) -> Result<(), LoopFault>
-        requires moment { moment ≤ 1000000000000000 }
-        requires text { length text.now ≤ 4096 }
+        requires { length text.now ≤ 4096 }
         ensures prints { (r : Rules) → Prints (S.state sink.old) (S.state sink.new) self.new (replied kept_ends r moment self.old (Sends text.now)) result }
         ensures number { self.new.number ≡ self.old.number }
         ensures later { (S.state sink.old).faults ≤ (S.state sink.new).faults }
@@ -90,11 +85,10 @@ impl<U: SafeUser> Session<U> {
     fn leave<S: Sink>(
         &mut self,
         sub: u8,
-        moment: u64,
+        moment: Moment,
         line: &mut Vec<u8>,
         sink: &mut S,
     ) -> Result<(), LoopFault>
-        requires { moment ≤ 1000000000000000 }
         ensures prints { (r : Rules) → Prints (S.state sink.old) (S.state sink.new) self.new (fed kept_ends r moment self.old (Leaves sub)) result }
         ensures number { self.new.number ≡ self.old.number }
         ensures later { (S.state sink.old).faults ≤ (S.state sink.new).faults }
@@ -114,21 +108,17 @@ impl<U: SafeUser> Session<U> {
     // What the user said follows as events: its texts, then its release.
     fn reply<S: Sink>(
         &mut self,
-        moment: u64,
+        moment: Moment,
         scratch: &mut Scratch,
         sink: &mut S,
     ) -> Result<(), LoopFault>
-        requires { moment ≤ 1000000000000000 }
         ensures prints { (r : Rules) → Prints (S.state sink.old) (S.state sink.new) self.new
             (runs (replied kept_ends r moment) self.old (events_of scratch.old.replies)) result }
         ensures number { self.new.number ≡ self.old.number }
         ensures later { (S.state sink.old).faults ≤ (S.state sink.new).faults }
     {
         for k in 0..scratch.replies.len() {
-            match self.send(scratch.replies.text(k), moment, &mut scratch.line, sink) {
-                Ok(()) => {}
-                Err(fault) => return Err(fault),
-            }
+            self.send(scratch.replies.text(k), moment, &mut scratch.line, sink)?;
         }
         match scratch.replies.leaving() {
             None => Ok(()),
@@ -140,32 +130,27 @@ impl<U: SafeUser> Session<U> {
     pub(crate) fn answer<S: Sink>(
         &mut self,
         fits: bool,
-        moment: u64,
+        moment: Moment,
         scratch: &mut Scratch,
         sink: &mut S,
     ) -> Result<(), LoopFault>
-        requires { moment ≤ 1000000000000000 }
         ensures chooses { (r : Rules) (s : LoopSession KEnd) (g : Given) → Gave r moment s g self.old scratch.old.line.items fits
             → HeardSo s.mind (heard_in (outcomes_of kept_ends r moment s.end g)) self.old.mind scratch.old.replies
             → Chooses (S.state sink.old) (S.state sink.new) self.new (dealt kept_ends r moment s g) result }
         ensures number { self.new.number ≡ self.old.number }
         ensures later { (S.state sink.old).faults ≤ (S.state sink.new).faults }
     {
-        match self.tell(fits, moment, &mut scratch.line, sink) {
-            Ok(()) => {}
-            Err(fault) => return Err(fault),
-        }
+        self.tell(fits, moment, &mut scratch.line, sink)?;
         self.reply(moment, scratch, sink)
     }
 
     // The oldest message that waits is taken, and the user hears it.
     fn take<S: Sink>(
         &mut self,
-        moment: u64,
+        moment: Moment,
         scratch: &mut Scratch,
         sink: &mut S,
     ) -> Result<(), LoopFault>
-        requires { moment ≤ 1000000000000000 }
         ensures chooses { (r : Rules) → Chooses (S.state sink.old) (S.state sink.new) self.new (dealt kept_ends r moment self.old Takes) result }
         ensures number { self.new.number ≡ self.old.number }
         ensures later { (S.state sink.old).faults ≤ (S.state sink.new).faults }
@@ -186,20 +171,16 @@ impl<U: SafeUser> Session<U> {
     // The messages that wait are taken.
     pub(crate) fn take_all<S: Sink>(
         &mut self,
-        moment: u64,
+        moment: Moment,
         scratch: &mut Scratch,
         sink: &mut S,
     ) -> Result<(), LoopFault>
-        requires { moment ≤ 1000000000000000 }
         ensures chooses { (r : Rules) → Chooses (S.state sink.old) (S.state sink.new) self.new (takes_all kept_ends r moment self.old) result }
         ensures number { self.new.number ≡ self.old.number }
         ensures later { (S.state sink.old).faults ≤ (S.state sink.new).faults }
     {
         for _ in 0..self.end.waiting() {
-            match self.take(moment, scratch, sink) {
-                Ok(()) => {}
-                Err(fault) => return Err(fault),
-            }
+            self.take(moment, scratch, sink)?;
         }
         Ok(())
     }

@@ -1,28 +1,34 @@
-ghost use Rattle.std.specs.Prelude.{◌≡◌, ◌≤◌};
-ghost use Rattle.er_settings.specs.Ranges.{AllAllowed};
+ghost use Rattle.std.specs.Prelude.{◌≡◌, ◌≤◌, ◌+◌};
 
+use er_base::Moment;
 use er_settings::Settings;
 
-/// A moment, in milliseconds, at most 10^15; and the set-up time, after which a session that was released is closed at the latest.
-#[derive(Clone, Copy, Debug, PartialEq, Eq)]
+/// A moment; and the set-up time, after which a session that was released is closed at the latest.
+#[derive(Clone, Copy)]
 pub struct When {
     /// The moment.
-    pub moment: u64,
+    pub moment: Moment,
     /// The set-up time in milliseconds, at most 600,000.
     pub setup: u64,
+    pub ghost short: { setup ≤ 600000 },
 }
 
 impl When {
     /// This moment, and the set-up time of these settings.
-    pub fn of(moment: u64, settings: &Settings) -> When
-        requires { AllAllowed settings.now }
+    pub fn of(moment: Moment, settings: &Settings) -> When
         ensures moment { result.moment ≡ moment }
         ensures setup { result.setup ≡ settings.now.setup }
-        ensures most { result.setup ≤ 600000 }
     {
         When {
             moment,
             setup: settings.setup,
         }
+    }
+
+    /// The moment at which a session that is released now is closed at the latest.
+    pub fn closing(&self) -> u64
+        ensures { result ≡ self.now.moment + self.now.setup }
+    {
+        self.moment.get() + self.setup
     }
 }

@@ -1,4 +1,5 @@
-// A peer's connection is accepted, so that no call on it waits.
+//! A peer's connection is accepted, so that no call on it waits.
+
 use libc::net as c;
 use mio::net::{TcpListener, TcpStream};
 use os::FromRawFd;

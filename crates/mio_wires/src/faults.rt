@@ -1,4 +1,5 @@
-// Why a call failed, for people.
+//! Why a call failed, for people.
+
 use std::{fmt, io};
 
 /// Why a listen, a dial or a turn failed.

@@ -1,7 +1,7 @@
 //! Wires over TCP sockets, the trusted edge of the stack to the network: a few lines a call over `mio`.
 //!
 //! This profile's own. It is proved against the trait, and tells nothing of what a socket holds or delivers: that it
-//! reaches the real thing is shown by the tests of wire_tests.
+//! reaches the real thing is shown by the tests of test_wires.
 #![tactic(auto)]
 
 mod accepting;

@@ -1,4 +1,5 @@
-// The connections: those that are open, with what happened at them, and those that leave.
+//! The connections: those that are open, with what happened at them, and those that leave.
+
 ghost use Rattle.std.specs.Prelude.{◌≡◌, ◌==◌, ◌⊎◌, true, length, Ok, IfSome};
 ghost use Rattle.std.specs.IoError.{error_kind};
 ghost use Rattle.std.specs.Io.{ReadsAtMost, WritesAtMost};

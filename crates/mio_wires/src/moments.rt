@@ -1,4 +1,5 @@
-// The moment that it is, by a clock that nobody sets.
+//! The moment that it is, by a clock that nobody sets.
+
 use std::rt::Clock;
 use std::time::Duration;
 

@@ -1,4 +1,5 @@
-// What each socket of a connection is set to.
+//! What each socket of a connection is set to.
+
 use libc::net as c;
 use std::os::fd::AsRawFd;
 

@@ -1,4 +1,5 @@
-// What happened, in the order in which it is answered.
+//! What happened, in the order in which it is answered.
+
 ghost use Rattle.std.specs.Prelude.{◌≡◌, ◌==◌, true};
 ghost use Rattle.mio_wires.specs.Standing.{HasRoom, StandsIn, count};
 

@@ -1,4 +1,5 @@
-// The sockets, what `mio` reports of them, and nothing of numbers and counts of faults.
+//! The sockets, what `mio` reports of them, and nothing of numbers and counts of faults.
+
 ghost use Rattle.std.specs.Prelude.{◌≡◌, ◌<◌, ◌≤◌, ◌+◌, ◌⊎◌, ℕ, length, IfOk, IfSome, IsSome, true, false};
 ghost use Rattle.std.specs.Duration.{as_nanos};
 ghost use Rattle.std.specs.IoError.{error_kind};

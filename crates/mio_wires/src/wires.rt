@@ -1,4 +1,5 @@
-// Wires over sockets: the sockets, and beside them numbers and counts of faults.
+//! Wires over sockets: the sockets, and beside them numbers and counts of faults.
+
 ghost use Rattle.std.specs.Prelude.{◌≡◌, IfOk, None};
 ghost use Rattle.mio_wires.specs.Counting.{unused};
 

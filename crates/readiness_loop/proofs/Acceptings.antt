@@ -26,9 +26,9 @@ use Rattle.loop_model.specs.Loops.{Plan, Loop, plain_event, turned_away, next_us
 use Rattle.loop_session.specs.Parts.{Breaks, Puts}
 use Rattle.loop_session.specs.declared.loop_fault.LoopFault.{LoopFault}
 use Rattle.loop_session.specs.declared.loop_fault.LoopFault.TheVariants.{NoMemory}
-use Rattle.loop_visit.specs.Acting.{Acted, BreaksAt}
-use Rattle.loop_visit.specs.Seeing.{Seen, seen}
-use Rattle.loop_visit.specs.Sequels.{breaks_lines}
+use Rattle.loop_io.specs.Acting.{Acted, BreaksAt}
+use Rattle.loop_io.specs.Seeing.{Seen, seen}
+use Rattle.loop_io.specs.Sequels.{breaks_lines}
 use Rattle.readiness_loop.specs.Books.{seat, seats, sessions, sessions_at, IsSeat, AreSeated}
 use Rattle.std.specs.BTreeMap.{BTreeMap}
 use Rattle.readiness_loop.specs.Courses.{Acts, answer_event, answered, loop_of}

@@ -4,16 +4,16 @@ use Rattle.std.proofs.Common.{◌≡◌, ℕ, Bool, false, inl, inr, List, [], �
 use Rattle.std.specs.Prelude.{◌==◌}
 use Rattle.std.proofs.lemmas.Bool.{cases_Bool}
 use Rattle.std.proofs.lemmas.Bool.Decides.{nat_tests}
-use Rattle.end_model.specs.Steps.{first_of as first_moment}
+use Rattle.er_end_model.specs.Steps.{first_of as first_moment}
 use Rattle.er_end.specs.KeptEnds.{KEnd, deadline_of}
 use Rattle.loop_model.specs.Outs.{Out, still}
 use Rattle.loop_model.specs.Sessions.{Rules, Session}
 use Rattle.loop_model.specs.Visits.{Met, visited, is_due, wakes, Tick, Expire}
 use Rattle.loop_model.specs.Loops.{visit_at, swept, numbers, until, before, Sweeps}
 use Rattle.loop_session.specs.declared.loop_fault.LoopFault.{LoopFault}
-use Rattle.loop_visit.specs.Acting.{Acted, BreaksAt, Did, Stopped}
-use Rattle.loop_visit.specs.Seeing.{Seen}
-use Rattle.loop_visit.specs.Sequels.{breaks_first}
+use Rattle.loop_io.specs.Acting.{Acted, BreaksAt, Did, Stopped}
+use Rattle.loop_io.specs.Seeing.{Seen}
+use Rattle.loop_io.specs.Sequels.{breaks_first}
 use Rattle.readiness_loop.proofs.Sequences.{acted_still, acted_then, breaks_then}
 
 pub before_did : (a b c : Seen) (r : Rules) (m : ℕ) (ss mid now : List (Session KEnd))

@@ -13,10 +13,10 @@ use Rattle.loop_model.specs.Loops.{visit_at}
 use Rattle.er_base.specs.declared.no_memory.NoMemory.{NoMemory as Want}
 use Rattle.loop_session.specs.declared.loop_fault.LoopFault.{LoopFault}
 use Rattle.loop_session.specs.declared.loop_fault.LoopFault.TheVariants.{NoMemory}
-use Rattle.loop_visit.specs.Acting.{Acted, Did, Stopped}
-use Rattle.loop_visit.specs.Seeing.{Seen}
-use Rattle.loop_visit.specs.Sequels.{breaks_behind}
-use Rattle.loop_visit.specs.Visiting.{left}
+use Rattle.loop_io.specs.Acting.{Acted, Did, Stopped}
+use Rattle.loop_io.specs.Seeing.{Seen}
+use Rattle.loop_io.specs.Sequels.{breaks_behind}
+use Rattle.loop_io.specs.Visiting.{left}
 use Rattle.readiness_loop.specs.Books.{sessions, sessions_at, AreSeated}
 use Rattle.readiness_loop.proofs.Sequences.{acted_as, acted_still, breaks_as}
 use Rattle.readiness_loop.proofs.Seats.{place_of, visit_none, visit_says, visit_leaves, visit_leaves_seated, visit_drops, visit_drops_seated, seat_found}

@@ -21,10 +21,10 @@ use Rattle.safety_automaton.specs.Keys as keys
 use Rattle.loop_session.specs.Parts.{rules}
 use Rattle.loop_session.specs.declared.loop_fault.LoopFault.{LoopFault}
 use Rattle.loop_session.specs.declared.loop_fault.LoopFault.TheVariants.{Wires, Sink, NoMemory}
-use Rattle.loop_visit.specs.Acting.{Acted, BreaksAt, Did, Stopped, Does}
-use Rattle.loop_visit.specs.Seeing.{Seen}
-use Rattle.loop_visit.specs.Sequels.{breaks_wanted, breaks_behind}
-use Rattle.loop_visit.specs.Visiting.{left, Visits}
+use Rattle.loop_io.specs.Acting.{Acted, BreaksAt, Did, Stopped, Does}
+use Rattle.loop_io.specs.Seeing.{Seen}
+use Rattle.loop_io.specs.Sequels.{breaks_wanted, breaks_behind}
+use Rattle.loop_io.specs.Visiting.{left, Visits}
 use Rattle.readiness_loop.specs.Books.{sessions, AreSeated}
 use Rattle.readiness_loop.specs.Cuts.{LiesIn}
 use Rattle.readiness_loop.proofs.Cutting.{cut_of, cut_lies, cut_broke, lies_as}
@@ -63,6 +63,9 @@ pub call_leaves : (a b : Seen) (slots : Slab (Session KEnd)) (places : BTreeMap 
 call_leaves a b slots places s stays model model' same none is did =
     subst (λ z. Did a b (sessions slots places) z) same
     (subst (λ ss. Did a b ss model) (sym (no_sessions slots places none)) (subst (λ z. Did a b (left z s) model) is did))
+
+pub call_breaks : (a b : Seen) (model model' : Met → Out (List (Session KEnd))) (fault : LoopFault) → model ≡ model' → Stopped a b model fault → Stopped a b model' fault
+call_breaks a b model model' fault same p = subst (λ z. Stopped a b z fault) same p
 
 pub one_entry : (top : ℕ) (slots now : Slab (Session KEnd)) (places then_ : BTreeMap ℕ ℕ) (s : Session KEnd) → places.entries ≡ [] → AreSeated top now then_.entries
     → sessions now then_ ≡ sessions slots places ++ s ∷ [] → (length then_.entries == 0) ≡ false

@@ -6,9 +6,9 @@ use Rattle.loop_model.specs.Deeds.{signs, calls_of}
 use Rattle.loop_model.specs.Signs.{signs_parts}
 use Rattle.loop_model.specs.Outs.{Out, next}
 use Rattle.loop_session.specs.declared.loop_fault.LoopFault.{LoopFault}
-use Rattle.loop_visit.specs.Acting.{Acted, BreaksAt}
-use Rattle.loop_visit.specs.Seeing.{Seen, AreAnsweredSo, Counts}
-use Rattle.loop_visit.specs.Sequels.{text_behind, calls_are, answered_parts, counts_then, failed_behind}
+use Rattle.loop_io.specs.Acting.{Acted, BreaksAt}
+use Rattle.loop_io.specs.Seeing.{Seen, AreAnsweredSo, Counts}
+use Rattle.loop_io.specs.Sequels.{text_behind, calls_are, answered_parts, counts_then, failed_behind}
 use Rattle.readiness_loop.specs.Cuts.{Cut, LiesIn, behind}
 use Rattle.readiness_loop.specs.Courses.{Broke}
 

@@ -31,13 +31,13 @@ use Rattle.loop_session.specs.Parts.{FailedFor}
 use Rattle.loop_session.specs.Standing.{AreAlike}
 use Rattle.loop_session.specs.declared.loop_fault.LoopFault.{LoopFault}
 use Rattle.loop_session.specs.declared.loop_fault.LoopFault.TheVariants.{Wires, Sink, NoMemory}
-use Rattle.loop_visit.specs.Seeing.{Counts}
+use Rattle.loop_io.specs.Seeing.{Counts}
 use Rattle.readiness_loop.specs.declared.line_plan.Served.{Served}
 use Rattle.readiness_loop.specs.Cuts.{Cut, LiesIn, behind, IsToldFirst, first_turns}
 use Rattle.readiness_loop.specs.Claims.{pair_of, IsDone, IsCutAt, IsLawful, HasTurns, HasDialled, NotDialling, LineFailed, FailsToDial, opening as model_opening, BeforeDialling, InDiallingHeader, InOpening, InDialling, BreaksOffDialling, halt_for, caller_of, DialsOn}
 use Rattle.readiness_loop.specs.Courses.{Around, Came, Went, Broke, WentOff, RanOff, Runs, Dials, outside_of, course_of, opening, Opened, Opens, halt_if}
 use Rattle.readiness_loop.specs.Lives.{around_at}
-use Rattle.loop_visit.specs.Sequels.{counts_then, failed_behind}
+use Rattle.loop_io.specs.Sequels.{counts_then, failed_behind}
 use Rattle.readiness_loop.proofs.Cutting.{broke_behind, lies_as, lies_then}
 use Rattle.readiness_loop.proofs.Planned.{many, run_many, opens_many, lies_acts}
 use Rattle.readiness_loop.proofs.Likewise.{Same, same_as, AlwaysSame, rest_same, behind_as, lies_in_run}

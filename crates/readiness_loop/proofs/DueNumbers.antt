@@ -13,7 +13,7 @@ use Rattle.std.proofs.lemmas.Bool.{cases_Bool}
 use Rattle.std.proofs.lemmas.Bool.Decides.{nat_tests}
 use Rattle.std.proofs.lemmas.List.Elements.{All-contains, All-from_recursion}
 use Rattle.slab.specs.Slab.{Slab, get}
-use Rattle.end_model.specs.Steps.{first_of as first_moment}
+use Rattle.er_end_model.specs.Steps.{first_of as first_moment}
 use Rattle.loop_model.specs.Sessions.{Session}
 use Rattle.loop_model.specs.Visits.{is_due, wakes}
 use Rattle.loop_model.specs.Loops.{numbers, until}

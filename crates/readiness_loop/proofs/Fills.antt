@@ -14,8 +14,8 @@ use Rattle.loop_model.specs.Sessions.{Rules, Session}
 use Rattle.loop_model.specs.Visits.{Met, nothing_met, Visit, visited, is_due, wakes}
 use Rattle.loop_model.specs.Loops.{visit_at, swept, numbers}
 use Rattle.loop_session.specs.declared.loop_fault.LoopFault.{LoopFault}
-use Rattle.loop_visit.specs.Acting.{Acted, BreaksAt, Does}
-use Rattle.loop_visit.specs.Seeing.{Seen}
+use Rattle.loop_io.specs.Acting.{Acted, BreaksAt, Does}
+use Rattle.loop_io.specs.Seeing.{Seen}
 use Rattle.readiness_loop.specs.Books.{due_numbers, IsTimed}
 use Rattle.readiness_loop.proofs.Numbers.{Leaves, visited_leaves, visited_idle}
 use Rattle.readiness_loop.proofs.Sweeps.{after}

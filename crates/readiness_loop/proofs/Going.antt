@@ -11,8 +11,8 @@ use Rattle.loop_model.specs.Loops.{Plan, Loop, rules_of, before, Halt, OnClosed,
 use Rattle.loop_model.specs.Parts.{opened_in, opened_by, Rises, newest}
 use Rattle.loop_session.specs.declared.loop_fault.LoopFault.{LoopFault}
 use Rattle.loop_session.specs.declared.loop_fault.LoopFault.TheVariants.{Wires, Sink, NoMemory}
-use Rattle.loop_visit.specs.Acting.{Acted, BreaksAt, Did, Stopped}
-use Rattle.loop_visit.specs.Seeing.{Seen}
+use Rattle.loop_io.specs.Acting.{Acted, BreaksAt, Did, Stopped}
+use Rattle.loop_io.specs.Seeing.{Seen}
 use Rattle.readiness_loop.specs.declared.live_loop.Next.{Next}
 use Rattle.readiness_loop.specs.Cuts.{behind, LiesIn}
 use Rattle.readiness_loop.specs.Courses.{Around, Came, Went, WentOff, LiesBehind, LiesInTurn, Turned, Turns, halt_of, course_of}

@@ -8,7 +8,7 @@ use Rattle.slab.specs.Slab.{Slab}
 use Rattle.std.specs.BTreeMap.{BTreeMap}
 use Rattle.er_base.specs.LineTexts.{line_text}
 use Rattle.er_base.specs.declared.no_memory.NoMemory.{NoMemory as Want}
-use Rattle.er_settings.specs.declared.settings.Settings.{Settings}
+use Rattle.er_settings.specs.Values.{Settings}
 use Rattle.er_settings.specs.Ranges.{AllAllowed}
 use Rattle.er_trace.specs.Texts.{header_words}
 use Rattle.loop_model.specs.Sessions.{Session}
@@ -36,12 +36,12 @@ use Rattle.loop_session.specs.Parts.{FailedFor, Puts}
 use Rattle.loop_session.specs.Standing.{RunsAlike, DialsAlike}
 use Rattle.loop_session.specs.declared.loop_fault.LoopFault.{LoopFault}
 use Rattle.loop_session.specs.declared.loop_fault.LoopFault.TheVariants.{Wires, Sink, NoMemory}
-use Rattle.loop_visit.specs.Seeing.{Counts}
+use Rattle.loop_io.specs.Seeing.{Counts}
 use Rattle.readiness_loop.specs.declared.line_plan.Served.{Served}
 use Rattle.readiness_loop.specs.Claims.{IsDone, IsLawful, HasTurns, AreSpoken, UsersHeard, HasServed, NotListening, TurnFailed, FailsToServe, IsCutAt, BeforeListening, InServingHeader, InServing, BreaksOffServing, halt_for, ServesOn}
 use Rattle.readiness_loop.specs.Courses.{Around, Went, RanOff, Runs, Serves, outside_of, course_of, loop_of}
 use Rattle.readiness_loop.specs.Lives.{around_at}
-use Rattle.loop_visit.specs.Sequels.{counts_none, counts_then, failed_behind}
+use Rattle.loop_io.specs.Sequels.{counts_none, counts_then, failed_behind}
 use Rattle.readiness_loop.proofs.Acceptings.{no_sessions}
 use Rattle.readiness_loop.proofs.Planned.{many, lies_acts}
 use Rattle.readiness_loop.proofs.Likewise.{begin_same, lies_in_run}

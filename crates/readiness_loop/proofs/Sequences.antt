@@ -9,9 +9,9 @@ use Rattle.loop_model.specs.Outs.{Out, HasOrder, still, next}
 use Rattle.loop_model.specs.Signs.{order_still, order_next}
 use Rattle.loop_model.specs.Laws.{failures}
 use Rattle.loop_session.specs.declared.loop_fault.LoopFault.{LoopFault}
-use Rattle.loop_visit.specs.Acting.{Acted, BreaksAt}
-use Rattle.loop_visit.specs.Seeing.{Seen, AreAnsweredSo, Counts}
-use Rattle.loop_visit.specs.Sequels.{text_parts, answered_parts, grammar_parts, counts_then, breaks_next}
+use Rattle.loop_io.specs.Acting.{Acted, BreaksAt}
+use Rattle.loop_io.specs.Seeing.{Seen, AreAnsweredSo, Counts}
+use Rattle.loop_io.specs.Sequels.{text_parts, answered_parts, grammar_parts, counts_then, breaks_next}
 
 pub failures-none : failures [] ≡ 0
 unfolding failures

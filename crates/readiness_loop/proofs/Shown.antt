@@ -9,7 +9,7 @@ use Rattle.loop_model.specs.Outs.{Out}
 use Rattle.loop_model.specs.Loops.{Loop, Halt, Course}
 use Rattle.loop_model.specs.Parts.{opened_in, Rises}
 use Rattle.loop_session.specs.Standing.{AreAlike}
-use Rattle.loop_visit.specs.Seeing.{AreAnsweredSo, Counts}
+use Rattle.loop_io.specs.Seeing.{AreAnsweredSo, Counts}
 use Rattle.readiness_loop.specs.Courses.{Around, Came}
 
 -- what a loop of the model printed and called, what its clock answered, and how it stopped

@@ -5,7 +5,7 @@ use Rattle.std.proofs.Common.{◌≡◌, ℕ, zero, suc, ◌+◌, ◌<◌, ◌�
 use Rattle.std.proofs.lemmas.List.{take-append-drop, length-take-le}
 use Rattle.std.proofs.lemmas.Option.{slice_get_within}
 use Rattle.slab.specs.Slab.{Slab, get}
-use Rattle.end_model.specs.Steps.{first_of as first_moment}
+use Rattle.er_end_model.specs.Steps.{first_of as first_moment}
 use Rattle.loop_model.specs.Outs.{Out, next}
 use Rattle.loop_model.specs.Sessions.{Session}
 use Rattle.loop_model.specs.Visits.{Met, wakes}
@@ -13,10 +13,10 @@ use Rattle.loop_model.specs.Loops.{visit_at, swept, numbers, until}
 use Rattle.loop_session.specs.declared.loop_fault.LoopFault.{LoopFault}
 use Rattle.loop_session.specs.declared.loop_fault.LoopFault.TheVariants.{NoMemory}
 use Rattle.er_base.specs.declared.no_memory.NoMemory.{NoMemory as Want}
-use Rattle.loop_visit.specs.Acting.{Acted, BreaksAt, Did, Stopped, Does}
-use Rattle.loop_visit.specs.Seeing.{Seen}
+use Rattle.loop_io.specs.Acting.{Acted, BreaksAt, Did, Stopped, Does}
+use Rattle.loop_io.specs.Seeing.{Seen}
 use Rattle.readiness_loop.specs.Books.{seat, seats, sessions_at, IsSeat, AreSeated}
-use Rattle.loop_visit.specs.Sequels.{breaks_first, breaks_wanted}
+use Rattle.loop_io.specs.Sequels.{breaks_first, breaks_wanted}
 use Rattle.readiness_loop.proofs.Sequences.{acted_still, acted_then, breaks_then}
 
 -- ---- one part, then another, then a third

@@ -15,15 +15,16 @@ use Rattle.link_trait.specs.declared.wires.Happening.TheVariants as happening
 use Rattle.loop_model.specs.Outs.{changed, makes}
 use Rattle.loop_model.specs.Signs.{order_makes}
 use Rattle.loop_model.specs.Sessions.{Session}
-use Rattle.loop_model.specs.Visits.{Met, nothing_met, visited, Read, Write}
+use Rattle.loop_model.specs.Visits.{Met, Visit, nothing_met, visited, Read, Write}
 use Rattle.loop_model.specs.Loops.{Plan, Loop, rules_of, with_sessions, visit_at, until, accepted, answered_by, next_user, most_live, happened, Halt, OnEnded, OnClosed, OnFailed, halt_by, halt_behind, Course, Turn, turn, follows, turned_unless}
 use Rattle.loop_model.specs.Parts.{opened_in, opened_by, Rises, newest}
+use Rattle.loop_session.specs.Parts.{rules}
 use Rattle.loop_model.specs.Laws.{failures}
 use Rattle.er_users.specs.Users.{Mind}
 use Rattle.loop_session.specs.declared.loop_fault.LoopFault.{LoopFault}
 use Rattle.loop_session.specs.declared.loop_fault.LoopFault.TheVariants.{Wires, Sink, NoMemory}
-use Rattle.loop_visit.specs.Acting.{Acted, Did, Stopped, Does}
-use Rattle.loop_visit.specs.Seeing.{Seen, seen}
+use Rattle.loop_io.specs.Acting.{Acted, Did, Stopped, Does}
+use Rattle.loop_io.specs.Seeing.{Seen, seen}
 use Rattle.readiness_loop.specs.declared.live_loop.Next.{Next}
 use Rattle.readiness_loop.specs.Books.{AreSeated}
 use Rattle.readiness_loop.specs.Cuts.{behind}
@@ -270,15 +271,25 @@ pub accept_does : {T : Type 0} (a b : Seen) (plan : Plan) (l new : Loop KEnd) (w
     → what ≡ happening.Accepted conn → Acts a b new (accepted kept_ends plan l conn.0) r → Does a b new (happened kept_ends plan l what) r
 accept_does a b plan l new what conn r is p = subst (λ w. Does a b new (happened kept_ends plan l w) r) (sym is) (react_accept a b plan l new conn r p)
 
-pub read_does : {T : Type 0} (a b : Seen) (plan : Plan) (l new : Loop KEnd) (ss : List (Session KEnd)) (what : Happening) (conn : Conn) (r : Result T LoopFault)
-    → what ≡ happening.Readable conn → new ≡ with_sessions l ss → Does a b ss (visit_at (visited kept_ends (rules_of plan) l.moment Read) conn.0 l.sessions) r
-    → Does a b new (happened kept_ends plan l what) r
-read_does a b plan l new ss what conn r is same p = subst (λ w. Does a b new (happened kept_ends plan l w) r) (sym is) (react_read a b plan l new ss conn r same p)
+-- a visit by the moment of a loop and the set-up time of its plan
+at_plan : {T : Type 0} (a b : Seen) (plan : Plan) (l : Loop KEnd) (ss : List (Session KEnd)) (v : Visit) (n : ℕ) (r : Result T LoopFault) (m setup : ℕ)
+    → m ≡ l.moment → setup ≡ plan.settings.setup → Does a b ss (visit_at (visited kept_ends (rules plan.keys setup) m v) n l.sessions) r
+    → Does a b ss (visit_at (visited kept_ends (rules_of plan) l.moment v) n l.sessions) r
+at_plan a b plan l ss v n r m setup at till p =
+    subst (λ (z : ℕ). Does a b ss (visit_at (visited kept_ends (rules plan.keys z) l.moment v) n l.sessions) r) till
+    (subst (λ (z : ℕ). Does a b ss (visit_at (visited kept_ends (rules plan.keys setup) z v) n l.sessions) r) at p)
 
-pub write_does : {T : Type 0} (a b : Seen) (plan : Plan) (l new : Loop KEnd) (ss : List (Session KEnd)) (what : Happening) (conn : Conn) (r : Result T LoopFault)
-    → what ≡ happening.Writable conn → new ≡ with_sessions l ss → Does a b ss (visit_at (visited kept_ends (rules_of plan) l.moment Write) conn.0 l.sessions) r
-    → Does a b new (happened kept_ends plan l what) r
-write_does a b plan l new ss what conn r is same p = subst (λ w. Does a b new (happened kept_ends plan l w) r) (sym is) (react_write a b plan l new ss conn r same p)
+pub read_does : {T : Type 0} (a b : Seen) (plan : Plan) (l new : Loop KEnd) (ss : List (Session KEnd)) (what : Happening) (conn : Conn) (r : Result T LoopFault) (m setup : ℕ)
+    → what ≡ happening.Readable conn → new ≡ with_sessions l ss → m ≡ l.moment → setup ≡ plan.settings.setup
+    → Does a b ss (visit_at (visited kept_ends (rules plan.keys setup) m Read) conn.0 l.sessions) r → Does a b new (happened kept_ends plan l what) r
+read_does a b plan l new ss what conn r m setup is same at till p =
+    subst (λ w. Does a b new (happened kept_ends plan l w) r) (sym is) (react_read a b plan l new ss conn r same (at_plan a b plan l ss Read conn.0 r m setup at till p))
+
+pub write_does : {T : Type 0} (a b : Seen) (plan : Plan) (l new : Loop KEnd) (ss : List (Session KEnd)) (what : Happening) (conn : Conn) (r : Result T LoopFault) (m setup : ℕ)
+    → what ≡ happening.Writable conn → new ≡ with_sessions l ss → m ≡ l.moment → setup ≡ plan.settings.setup
+    → Does a b ss (visit_at (visited kept_ends (rules plan.keys setup) m Write) conn.0 l.sessions) r → Does a b new (happened kept_ends plan l what) r
+write_does a b plan l new ss what conn r m setup is same at till p =
+    subst (λ w. Does a b new (happened kept_ends plan l w) r) (sym is) (react_write a b plan l new ss conn r same (at_plan a b plan l ss Write conn.0 r m setup at till p))
 
 pub quiet_did : (a : Seen) (plan : Plan) (l : Loop KEnd) (what : Happening) → what ≡ happening.Quiet → Did a a l (happened kept_ends plan l what)
 quiet_did a plan l what is = subst (λ w. Did a a l (happened kept_ends plan l w)) (sym is) (react_quiet a plan l)

@@ -27,7 +27,7 @@ use Rattle.loop_model.specs.Told.{IsHeard}
 use Rattle.loop_model.specs.Recordings.{IsReplayed}
 use Rattle.loop_session.specs.declared.loop_fault.LoopFault.{LoopFault}
 use Rattle.loop_session.specs.declared.loop_fault.LoopFault.TheVariants as fault
-use Rattle.loop_visit.specs.Seeing.{Seen, seen, AreAnsweredSo, Counts}
+use Rattle.loop_io.specs.Seeing.{Seen, seen, AreAnsweredSo, Counts}
 use Rattle.readiness_loop.specs.Cuts.{Cut, LiesIn, behind, IsToldFirst, with_turns, LiesInRun}
 use Rattle.readiness_loop.specs.declared.line_plan.LinePlan.{LinePlan}
 use Rattle.readiness_loop.specs.declared.line_plan.Served.{Served}

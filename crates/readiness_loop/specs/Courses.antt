@@ -3,8 +3,8 @@
 use Rattle.loop_session.specs.Keeping.{kept_ends}
 use Rattle.std.specs.Prelude.{◌≡◌, ℕ, ◌≤◌, ◌<◌, ◌-◌, Bool, true, false, List, [], ◌++◌, Option, Some, None, Result, Ok, Err}
 use Rattle.rand_core.specs.Stream.{Stream, next_u64}
-use Rattle.er_settings.specs.declared.settings.Settings.{Settings}
-use Rattle.end_model.specs.Ends.{Answer as AnswersWith}
+use Rattle.er_settings.specs.Values.{Settings}
+use Rattle.er_end_model.specs.Ends.{Answer as AnswersWith}
 use Rattle.er_end.specs.KeptEnds.{KEnd, kept_opened}
 use Rattle.er_trace.specs.declared.event.Event.TheVariants as event
 use Rattle.loop_model.specs.Journals.{Entry}
@@ -23,8 +23,8 @@ use Rattle.loop_model.specs.Parts.{opened_in, opened_by, Rises, newest}
 use Rattle.loop_session.specs.declared.loop_fault.LoopFault.{LoopFault}
 use Rattle.loop_session.specs.declared.loop_fault.LoopFault.TheVariants.{Wires, Sink, NoMemory}
 use Rattle.loop_session.specs.Parts.{FailedFor}
-use Rattle.loop_visit.specs.Acting.{Acted, BreaksAt}
-use Rattle.loop_visit.specs.Seeing.{Seen, seen, AreAnsweredSo, Counts}
+use Rattle.loop_io.specs.Acting.{Acted, BreaksAt}
+use Rattle.loop_io.specs.Seeing.{Seen, seen, AreAnsweredSo, Counts}
 use Rattle.readiness_loop.specs.declared.loop_plan.LoopPlan.{LoopPlan}
 use Rattle.readiness_loop.specs.declared.line_plan.Served.{Served}
 use Rattle.readiness_loop.specs.declared.live_loop.Next.{Next}

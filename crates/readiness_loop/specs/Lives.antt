@@ -1,10 +1,9 @@
 -- Representation: the loop's code as a loop of the model, over the objects of the outside; what its parts stand on and leave alone; no claim
 -- rests on it.
-use Rattle.std.specs.Prelude.{◌≡◌, ◌≤◌, ◌<◌, ◌^◌, ℕ, Bool, List, [], ◌∷◌, map, Result}
+use Rattle.std.specs.Prelude.{◌≡◌, ◌<◌, ℕ, Bool, List, [], ◌∷◌, map, Result}
 use Rattle.rand_core.specs.Stream.{Stream, next_u64}
 use Rattle.rand_core.specs.declared.Rng as rng
-use Rattle.end_model.specs.Ends.{Call as CallsWith}
-use Rattle.er_settings.specs.Ranges.{AllAllowed}
+use Rattle.er_end_model.specs.Ends.{Call as CallsWith}
 use Rattle.er_end.specs.KeptEnds.{KEnd, kept_opened}
 use Rattle.er_users.specs.Users.{Mind}
 use Rattle.er_users.specs.declared.user.SafeUser as user
@@ -18,7 +17,7 @@ use Rattle.loop_model.specs.Loops.{Loop, Plan, Course, Caller, begun}
 use Rattle.loop_session.specs.Keeping.{kept_ends}
 use Rattle.loop_session.specs.Parts.{rules}
 use Rattle.loop_session.specs.declared.loop_fault.LoopFault.{LoopFault}
-use Rattle.loop_visit.specs.Seeing.{seen}
+use Rattle.loop_io.specs.Seeing.{seen}
 use Rattle.readiness_loop.specs.Books.{AreSeated, AreAwaited, sessions}
 use Rattle.readiness_loop.specs.Claims.{pair_of, caller_of}
 use Rattle.readiness_loop.specs.Courses.{Around, around, loop_of, course_of, plan_of, Acts, Turned, Turns, Runs, Opens}
@@ -42,6 +41,11 @@ IsSeated newest book = AreSeated newest book.slots book.places.entries
 abbrev pub IsAwaited : {U : Type 0} → Book U → Type 0
 IsAwaited book = AreAwaited book.slots book.places book.wake_times.pairs
 
+-- both
+pub record IsInOrder {U : Type 0} (newest : ℕ) (book : Book U) : Type 0 where
+  pub seated : IsSeated newest book
+  pub awaited : IsAwaited book
+
 -- ---- a loop
 
 abbrev pub loop_at : {U R : Type 0} → user.Ghosts U → rng.Ghosts R → LiveLoop U → R → Loop KEnd
@@ -59,30 +63,8 @@ around_at k w c held wired asked = around (k.state held) (w.state wired) (c.stat
 abbrev pub ActsOn : {K W T S : Type 0} → sink.Ghosts K → wires.Ghosts W → (held holds : K) → (wired now : W) → S → Out S → Result T LoopFault → Type 0
 ActsOn k w held holds wired now new out result = Acts (seen (k.state held) (w.state wired)) (seen (k.state holds) (w.state now)) new out result
 
--- the settings are in their ranges, and the radio block centre's ETCS number has 24 bits
-pub record IsAllowed (plan : LoopPlan) : Type 0 where
-  pub settings : AllAllowed plan.settings
-  pub rbc : plan.rbc < 2 ^ 24
-
--- the loop's moment is one that clocks answer, and the moments of its sessions are kept
-pub record IsSound {U : Type 0} (live : LiveLoop U) : Type 0 where
-  pub moment : live.moment ≤ 1000000000000000
-  pub awaited : IsAwaited live.book
-
--- so, and its sessions are seated, up to the newest connection
-pub record IsWhole {U : Type 0} (newest : ℕ) (live : LiveLoop U) : Type 0 where
-  pub sound : IsSound live
-  pub seated : IsSeated newest live.book
-
--- so, and its plan is one that may be
-pub record IsFit {U : Type 0} (newest : ℕ) (plan : LoopPlan) (live : LiveLoop U) : Type 0 where
-  pub allowed : IsAllowed plan
-  pub sound : IsSound live
-  pub seated : IsSeated newest live.book
-
--- a loop for a dial: it has no session yet, the engine's ETCS number has 24 bits, and the connection is the newest
-pub record IsFirst {U : Type 0} (opened conn : ℕ) (pair : OnePair) (live : LiveLoop U) : Type 0 where
-  pub engine : pair.engine < 2 ^ 24
+-- a loop for a dial: it has no session yet, and the connection is the newest
+pub record IsFirst {U : Type 0} (opened conn : ℕ) (live : LiveLoop U) : Type 0 where
   pub empty : live.book.places.entries ≡ []
   pub number : 0 < conn
   pub newest : conn ≡ opened

@@ -3,16 +3,16 @@
 ghost use Rattle.std.specs.Prelude.{◌≡◌, ◌≤◌, ◌<◌, ◌+◌, ◌-◌, ◌++◌, ◌∷◌, [], ℕ, length, IfOk, OnOk};
 ghost use Rattle.loop_model.specs.Loops.{visit_at, swept, numbers, until};
 ghost use Rattle.loop_session.specs.Keeping.{kept_ends};
-ghost use Rattle.loop_visit.specs.Visiting.{IsInBounds, visit_by, visit_of, DoesOn, Keep};
+ghost use Rattle.loop_io.specs.Visiting.{visit_by, visit_of, DoesOn, Keep};
 ghost use Rattle.readiness_loop.specs.Books.{IsTimed};
-ghost use Rattle.readiness_loop.specs.Lives.{sessions_in, IsSeated, IsAwaited};
+ghost use Rattle.readiness_loop.specs.Lives.{sessions_in, IsSeated, IsAwaited, IsInOrder};
 
 use crate::wake_times::WakeTimes;
 use er_base::NoMemory;
 use er_users::SafeUser;
 use link_trait::{Sink, Wires};
+use loop_io::{Visit, visit_session};
 use loop_session::{LoopFault, Scratch, Session, When};
-use loop_visit::{Visit, visit_session};
 use safety_automaton::KeyFinder;
 use slab::Slab;
 use std::alloc::Global;
@@ -60,8 +60,7 @@ impl<U: SafeUser> Book<U> {
 
     // A session joins the others; its number is above theirs.
     pub(crate) fn add(&mut self, session: Session<U>) -> Result<(), NoMemory>
-        requires seated { IsSeated (session.number - 1) self.old }
-        requires awaited { IsAwaited self.old }
+        requires order { IsInOrder (session.number - 1) self.old }
         requires number { 0 < session.number }
         ensures sessions { OnOk result (sessions_in self.new ≡ sessions_in self.old ++ session ∷ []) }
         ensures seated { OnOk result (IsSeated session.number self.new) }
@@ -82,16 +81,14 @@ impl<U: SafeUser> Book<U> {
         number: u64,
         reason: Visit,
         keys: &K,
-        when: When,
+        when: &When,
         scratch: &mut Scratch,
         wires: &mut W,
         sink: &mut S,
     ) -> Result<(), LoopFault>
-        requires when { IsInBounds when }
-        requires seated { IsSeated (W.state wires.old).opened self.old }
-        requires awaited { IsAwaited self.old }
+        requires { IsInOrder (W.state wires.old).opened self.old }
         ensures does { DoesOn S.Sink W.Wires sink.old sink.new wires.old wires.new (sessions_in self.new)
-            (visit_at (visit_by (K.entries keys.now) when reason) number (sessions_in self.old)) result }
+            (visit_at (visit_by (K.entries keys.now) when.now reason) number (sessions_in self.old)) result }
         ensures seated { OnOk result (IsSeated (W.state wires.new).opened self.new) }
         ensures awaited { OnOk result (IsAwaited self.new) }
         ensures keep { Keep S.Sink W.Wires sink.old sink.new wires.old wires.new }
@@ -106,49 +103,40 @@ impl<U: SafeUser> Book<U> {
         match visit_session(session, reason, keys, when, scratch, wires, sink) {
             Ok(true) => {
                 let now = session.wakes();
-                match self.wake_times.change(number, before, now) {
-                    Ok(()) => Ok(()),
-                    Err(want) => Err(LoopFault::NoMemory(want)),
-                }
+                self.wake_times.change(number, before, now)?;
+                Ok(())
             }
             Ok(false) => {
                 self.places.remove(&number);
                 self.slots.try_remove(slot);
-                match self.wake_times.change(number, before, None) {
-                    Ok(()) => Ok(()),
-                    Err(want) => Err(LoopFault::NoMemory(want)),
-                }
+                self.wake_times.change(number, before, None)?;
+                Ok(())
             }
             Err(fault) => Err(fault),
         }
     }
 
-    #[tactic(auto, using(crate::proofs::Sweeps::want_stopped))]
     // The sessions are visited whose moment has come, one after the other in rising number.
+    #[tactic(auto, using(crate::proofs::Sweeps::want_stopped))]
     pub(crate) fn sweep<K: KeyFinder, W: Wires, S: Sink>(
         &mut self,
         reason: Visit,
         sequence: &mut Vec<u64>,
         keys: &K,
-        when: When,
+        when: &When,
         scratch: &mut Scratch,
         wires: &mut W,
         sink: &mut S,
     ) -> Result<(), LoopFault>
         requires timed { IsTimed (visit_of reason) }
-        requires when { IsInBounds when }
-        requires seated { IsSeated (W.state wires.old).opened self.old }
-        requires awaited { IsAwaited self.old }
+        requires order { IsInOrder (W.state wires.old).opened self.old }
         ensures does { DoesOn S.Sink W.Wires sink.old sink.new wires.old wires.new (sessions_in self.new)
-            (swept (visit_by (K.entries keys.now) when reason) (numbers (sessions_in self.old)) (sessions_in self.old)) result }
+            (swept (visit_by (K.entries keys.now) when.now reason) (numbers (sessions_in self.old)) (sessions_in self.old)) result }
         ensures seated { OnOk result (IsSeated (W.state wires.new).opened self.new) }
         ensures awaited { OnOk result (IsAwaited self.new) }
         ensures keep { Keep S.Sink W.Wires sink.old sink.new wires.old wires.new }
     {
-        match self.wake_times.due(when.moment, sequence) {
-            Ok(()) => {}
-            Err(want) => return Err(LoopFault::NoMemory(want)),
-        }
+        self.wake_times.due(when.moment, sequence)?;
         self.visit_all(
             sequence.as_slice(),
             reason,
@@ -166,25 +154,20 @@ impl<U: SafeUser> Book<U> {
         sequence: &[u64],
         reason: Visit,
         keys: &K,
-        when: When,
+        when: &When,
         scratch: &mut Scratch,
         wires: &mut W,
         sink: &mut S,
     ) -> Result<(), LoopFault>
-        requires when { IsInBounds when }
-        requires seated { IsSeated (W.state wires.old).opened self.old }
-        requires awaited { IsAwaited self.old }
+        requires { IsInOrder (W.state wires.old).opened self.old }
         ensures does { DoesOn S.Sink W.Wires sink.old sink.new wires.old wires.new (sessions_in self.new)
-            (swept (visit_by (K.entries keys.now) when reason) sequence.now (sessions_in self.old)) result }
+            (swept (visit_by (K.entries keys.now) when.now reason) sequence.now (sessions_in self.old)) result }
         ensures seated { OnOk result (IsSeated (W.state wires.new).opened self.new) }
         ensures awaited { OnOk result (IsAwaited self.new) }
         ensures keep { Keep S.Sink W.Wires sink.old sink.new wires.old wires.new }
     {
         for number in sequence {
-            match self.visit(*number, reason, keys, when, scratch, wires, sink) {
-                Ok(()) => {}
-                Err(fault) => return Err(fault),
-            }
+            self.visit(*number, reason, keys, when, scratch, wires, sink)?;
         }
         Ok(())
     }

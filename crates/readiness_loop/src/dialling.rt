@@ -1,17 +1,17 @@
 //! A loop that dials.
 
 ghost use Rattle.std.specs.Prelude.{◌≡◌, ◌≤◌, ◌<◌, ◌^◌, true, length, map};
-ghost use Rattle.er_settings.specs.Ranges.{AllAllowed};
 ghost use Rattle.readiness_loop.specs.Claims.{dialling, DialsOn, caller_of};
 ghost use Rattle.readiness_loop.specs.Courses.{Dials};
-ghost use Rattle.readiness_loop.specs.Lives.{around_at, pair_plan, pair_caller, IsAllowed};
+ghost use Rattle.readiness_loop.specs.Lives.{around_at, pair_plan, pair_caller};
 
 use crate::line_plan::{LinePlan, Served, Stop};
 use crate::live_loop::LiveLoop;
-use crate::loop_plan::LoopPlan;
+use crate::loop_plan::{LoopPlan, see_settings};
 use crate::one_pair::OnePair;
 use crate::serving::write_header;
 use des_block::TripleKey;
+use er_base::EtcsNumber;
 use er_users::SafeUser;
 use link_trait::{Clock, Sink, Wires};
 use loop_model::laws;
@@ -31,8 +31,6 @@ fn dial_users<U: SafeUser, W: Wires, C: Clock, R: Rng, S: Sink>(
     randoms: &mut R,
     sink: &mut S,
 ) -> Result<Served, LoopFault>
-    requires allowed { IsAllowed plan.now }
-    requires engine { pair.now.engine < 2 ^ 24 }
     requires same { plan.now.rbc ≡ pair.now.rbc }
     requires dials { plan.now.dials ≡ true }
     ensures does { Dials (pair_plan pair.now plan.now) (pair_caller pair.now)
@@ -52,27 +50,18 @@ fn dial_users<U: SafeUser, W: Wires, C: Clock, R: Rng, S: Sink>(
     laws::faults();
     laws::turns();
     loop_session::laws::standing();
-    let mut live = match LiveLoop::new(alloc, users) {
-        Ok(live) => live,
-        Err(want) => return Err(LoopFault::NoMemory(want)),
-    };
+    see_settings(&plan.settings);
+    let mut live = LiveLoop::new(alloc, users)?;
     let conn = match wires.dial(address) {
         Ok(conn) => conn,
         Err(_failed) => return Err(LoopFault::Wires),
     };
-    match write_header(alloc, &plan.settings, sink) {
-        Ok(()) => {}
-        Err(fault) => return Err(fault),
-    }
-    match live.open(alloc, conn, pair, plan, wires, clock, randoms, sink) {
-        Ok(true) => {}
-        Ok(false) => {
-            return Ok(Served {
-                turns: 0,
-                why: Stop::Closed,
-            });
-        }
-        Err(fault) => return Err(fault),
+    write_header(alloc, &plan.settings, sink)?;
+    if !live.open(alloc, conn, pair, plan, wires, clock, randoms, sink)? {
+        return Ok(Served {
+            turns: 0,
+            why: Stop::Closed,
+        });
     }
     live.run(alloc, pair, plan, wires, clock, randoms, sink)
 }
@@ -91,13 +80,17 @@ pub fn dial<W: Wires, C: Clock, R: Rng, S: Sink>(
     randoms: &mut R,
     sink: &mut S,
 ) -> Result<Served, LoopFault>
-    requires settings { AllAllowed plan.now.settings }
     requires engine { engine < 2 ^ 24 }
     requires rbc { rbc < 2 ^ 24 }
     ensures { DialsOn S.Sink W.Wires C.Clock sink.old sink.new wires.old wires.new clock.old clock.new
         (dialling kmac plan.now engine rbc (length users.items)) (caller_of engine kmac) address.now (map mind users.items) (R.stream randoms.old) (R.stream randoms.new) result }
 {
-    let pair = OnePair { engine, rbc, kmac };
+    let rbc = EtcsNumber::new(rbc);
+    let pair = OnePair {
+        engine: EtcsNumber::new(engine),
+        rbc,
+        kmac,
+    };
     let loop_plan = LoopPlan {
         settings: plan.settings,
         rbc,

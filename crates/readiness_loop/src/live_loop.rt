@@ -3,6 +3,7 @@
 ghost use Rattle.std.specs.Prelude.{◌≡◌, ◌≤◌, ◌<◌, ◌+◌, ◌++◌, ◌-◌, ◌^◌, ◌&&◌, ◌==◌, if◌then◌else◌, List, [], ◌∷◌, length, IfOk, OnOk, Option, None, Some};
 ghost use Rattle.rand_core.specs.Stream.{next_u64};
 ghost use Rattle.safety_automaton.specs.Keys as keys;
+ghost use Rattle.link_trait.specs.Outside.{Grew};
 ghost use Rattle.er_trace.specs.Ranges.{IsInRange};
 ghost use Rattle.er_end.specs.KeptEnds.{KEnd};
 ghost use Rattle.loop_model.specs.Grammar.{IsInGrammar};
@@ -11,20 +12,20 @@ ghost use Rattle.loop_model.specs.Visits.{is_due};
 ghost use Rattle.loop_model.specs.Loops.{Loop, before, until, until as first, turned_away, accepted, happened, Halt, OnClosed};
 ghost use Rattle.loop_session.specs.Keeping.{kept_ends};
 ghost use Rattle.loop_session.specs.Parts.{rules, Puts};
-ghost use Rattle.loop_visit.specs.Visiting.{DoesOn, Keep};
+ghost use Rattle.loop_io.specs.Visiting.{DoesOn, Keep};
 ghost use Rattle.readiness_loop.specs.Courses.{plan_of, answer_event, answered, IsReadyFor, halt_after, HaltsSo};
-ghost use Rattle.readiness_loop.specs.Lives.{sessions_in, IsSeated, IsAwaited, loop_at, ActsOn, IsAllowed, IsSound, IsWhole, IsFit, Rests, TurnedOn, TurnsOn, RunsOn};
+ghost use Rattle.readiness_loop.specs.Lives.{sessions_in, IsSeated, IsAwaited, loop_at, ActsOn, IsInOrder, Rests, TurnedOn, TurnsOn, RunsOn};
 
 use crate::book::{Book, MOST_LIVE};
 use crate::line_plan::{Served, Stop};
-use crate::loop_plan::LoopPlan;
-use er_base::NoMemory;
+use crate::loop_plan::{LoopPlan, see_settings};
+use er_base::{Moment, NoMemory};
 use er_end::End;
 use er_trace::Event;
 use er_users::SafeUser;
 use link_trait::{Clock, Conn, Happening, Sink, Wires};
+use loop_io::Visit;
 use loop_session::{LoopFault, Scratch, Session, When, write_event};
-use loop_visit::Visit;
 use rand_core::Rng;
 use safety_automaton::KeyFinder;
 use std::alloc::Global;
@@ -46,7 +47,7 @@ pub(crate) struct LiveLoop<U: SafeUser> {
     // The users that are left; the last of them comes next.
     pub(crate) users: Vec<U>,
     // The greatest moment that the clock gave.
-    pub(crate) moment: u64,
+    pub(crate) moment: Moment,
     // The turns that were done.
     pub(crate) turns: u64,
     // Room for the numbers of the sessions that are visited in a row.
@@ -55,13 +56,21 @@ pub(crate) struct LiveLoop<U: SafeUser> {
 }
 
 // Whether a moment is there and has come.
-fn has_come(at: Option<u64>, moment: u64) -> bool
+fn has_come(at: Option<u64>, moment: Moment) -> bool
     ensures { result ≡ is_due moment at }
 {
     match at {
-        Some(at) => at <= moment,
+        Some(at) => at <= moment.get(),
         None => false,
     }
+}
+
+// The moment that a clock answers.
+pub(crate) fn moment_of<C: Clock>(clock: &mut C) -> Moment
+    ensures told { Grew (C.state clock.old).answers (C.state clock.new).answers (result ∷ []) }
+    ensures most { result ≤ 1000000000000000 }
+{
+    Moment::new(clock.now())
 }
 
 // A count has 64 bits, by its type: this call does nothing.
@@ -98,16 +107,16 @@ impl<U: SafeUser> LiveLoop<U> {
         Ok(LiveLoop {
             book: Book::new(alloc)?,
             users,
-            moment: 0,
+            moment: Moment::new(0),
             turns: 0,
             numbers: Vec::with_capacity(alloc, MOST_LIVE)?,
             scratch: Scratch::new(alloc)?,
         })
     }
 
-    #[tactic(auto, using(crate::proofs::Befores::before_did, crate::proofs::Befores::before_breaks_first, crate::proofs::Befores::before_breaks_then, crate::proofs::Befores::nobody_due))]
     // Before a turn: the sessions whose deadline has come are ticked, then those whose closing moment has come are closed. The first moment
     // at which one of those that are left is to be visited.
+    #[tactic(auto, using(crate::proofs::Befores::before_did, crate::proofs::Befores::before_breaks_first, crate::proofs::Befores::before_breaks_then, crate::proofs::Befores::nobody_due))]
     fn before<K: KeyFinder, W: Wires, S: Sink>(
         &mut self,
         keys: &K,
@@ -115,7 +124,7 @@ impl<U: SafeUser> LiveLoop<U> {
         wires: &mut W,
         sink: &mut S,
     ) -> Result<Option<u64>, LoopFault>
-        requires fit { IsFit (W.state wires.old).opened plan.now self.old }
+        requires { IsInOrder (W.state wires.old).opened self.old.book }
         ensures does { DoesOn S.Sink W.Wires sink.old sink.new wires.old wires.new (sessions_in self.new.book)
             (before kept_ends (rules (K.entries keys.now) plan.now.settings.setup) self.old.moment (sessions_in self.old.book)) result }
         ensures until { IfOk result (λ first. first ≡ until kept_ends (sessions_in self.new.book)) }
@@ -129,39 +138,31 @@ impl<U: SafeUser> LiveLoop<U> {
         if !has_come(first, self.moment) {
             return Ok(first);
         }
-        let when = When {
-            moment: self.moment,
-            setup: plan.settings.setup,
-        };
+        let when = When::of(self.moment, &plan.settings);
         let book = &mut self.book;
-        match book.sweep(
+        book.sweep(
             Visit::Tick,
             &mut self.numbers,
             keys,
-            when,
+            &when,
             &mut self.scratch,
             wires,
             sink,
-        ) {
-            Ok(()) => {}
-            Err(fault) => return Err(fault),
-        }
-        match book.sweep(
+        )?;
+        book.sweep(
             Visit::Expire,
             &mut self.numbers,
             keys,
-            when,
+            &when,
             &mut self.scratch,
             wires,
             sink,
-        ) {
-            Ok(()) => Ok(self.book.until()),
-            Err(fault) => Err(fault),
-        }
+        )?;
+        Ok(self.book.until())
     }
 
-    #[tactic(auto, using(crate::proofs::Acceptings::away_breaks, crate::proofs::Acceptings::away_acted))]
     // A connection gets no session: its event, and it is closed.
+    #[tactic(auto, using(crate::proofs::Acceptings::away_breaks, crate::proofs::Acceptings::away_acted))]
     pub(crate) fn turn_away<W: Wires, S: Sink>(
         &mut self,
         conn: Conn,
@@ -169,18 +170,14 @@ impl<U: SafeUser> LiveLoop<U> {
         wires: &mut W,
         sink: &mut S,
     ) -> Result<(), LoopFault>
-        requires moment { self.old.moment ≤ 1000000000000000 }
-        requires why { IsInRange why }
+        requires { IsInRange why }
         ensures does { (l : Loop KEnd) → l.moment ≡ self.old.moment → ActsOn S.Sink W.Wires sink.old sink.new wires.old wires.new l (turned_away l conn.0 why) result }
         ensures book { self.new.book ≡ self.old.book }
         ensures users { self.new.users ≡ self.old.users }
         ensures rests { Rests self.old self.new }
         ensures keep { Keep S.Sink W.Wires sink.old sink.new wires.old wires.new }
     {
-        match write_event(self.moment, conn.0, why, &mut self.scratch, sink) {
-            Ok(()) => {}
-            Err(fault) => return Err(fault),
-        }
+        write_event(self.moment, conn.0, why, &mut self.scratch, sink)?;
         wires.close(conn);
         Ok(())
     }
@@ -195,7 +192,7 @@ impl<U: SafeUser> LiveLoop<U> {
         randoms: &mut R,
         sink: &mut S,
     ) -> Result<(), LoopFault>
-        requires fit { IsFit (conn.0 - 1) plan.now self.old }
+        requires order { IsInOrder (conn.0 - 1) self.old.book }
         requires number { 0 < conn.0 }
         ensures puts { Puts (S.state sink.old) (S.state sink.new)
             (text (answer_event (R.stream randoms.old) plan.now.rbc self.old.moment conn.0 ∷ [])) result }
@@ -209,13 +206,14 @@ impl<U: SafeUser> LiveLoop<U> {
         ensures rests { Rests self.old self.new }
         ensures sunk { (S.state sink.old).faults ≤ (S.state sink.new).faults }
     {
+        see_settings(&plan.settings);
         let ra = randoms.next_u64();
-        let end = End::answer(alloc, &plan.settings, plan.rbc, ra, self.moment)?;
-        let event = Event::Answer { rbc: plan.rbc, ra };
-        match write_event(self.moment, conn.0, event, &mut self.scratch, sink) {
-            Ok(()) => {}
-            Err(fault) => return Err(fault),
-        }
+        let end = End::answer(alloc, &plan.settings, plan.rbc.get(), ra, self.moment.get())?;
+        let event = Event::Answer {
+            rbc: plan.rbc.get(),
+            ra,
+        };
+        write_event(self.moment, conn.0, event, &mut self.scratch, sink)?;
         self.book.add(Session::begin(alloc, conn.0, end, user))?;
         Ok(())
     }
@@ -230,7 +228,7 @@ impl<U: SafeUser> LiveLoop<U> {
         randoms: &mut R,
         sink: &mut S,
     ) -> Result<(), LoopFault>
-        requires fit { IsFit (conn.0 - 1) plan.now self.old }
+        requires order { IsInOrder (conn.0 - 1) self.old.book }
         requires number { 0 < conn.0 }
         ensures does { (entries : List keys.Entry) → ActsOn S.Sink W.Wires sink.old sink.new wires.old wires.new (loop_at U.SafeUser R.Rng self.new randoms.new)
             (accepted kept_ends (plan_of entries plan.now) (loop_at U.SafeUser R.Rng self.old randoms.old) conn.0) result }
@@ -251,8 +249,8 @@ impl<U: SafeUser> LiveLoop<U> {
         }
     }
 
-    #[tactic(auto, using(crate::proofs::Turning::react_accept, crate::proofs::Turning::react_read, crate::proofs::Turning::react_write, crate::proofs::Turning::react_quiet, crate::proofs::Turning::react_ended, crate::proofs::Turning::react_failed))]
     // What happened is handled whole.
+    #[tactic(auto, using(crate::proofs::Turning::react_accept, crate::proofs::Turning::react_read, crate::proofs::Turning::react_write, crate::proofs::Turning::react_quiet, crate::proofs::Turning::react_ended, crate::proofs::Turning::react_failed))]
     fn react<K: KeyFinder, W: Wires, R: Rng, S: Sink>(
         &mut self,
         alloc: Global,
@@ -263,8 +261,7 @@ impl<U: SafeUser> LiveLoop<U> {
         randoms: &mut R,
         sink: &mut S,
     ) -> Result<(), LoopFault>
-        requires allowed { IsAllowed plan.now }
-        requires sound { IsSound self.old }
+        requires awaited { IsAwaited self.old.book }
         requires ready { IsReadyFor happening (W.state wires.old).opened self.old.book.slots self.old.book.places.entries }
         ensures does { DoesOn S.Sink W.Wires sink.old sink.new wires.old wires.new (loop_at U.SafeUser R.Rng self.new randoms.new)
             (happened kept_ends (plan_of (K.entries keys.now) plan.now) (loop_at U.SafeUser R.Rng self.old randoms.old) happening) result }
@@ -273,10 +270,7 @@ impl<U: SafeUser> LiveLoop<U> {
         ensures rests { Rests self.old self.new }
         ensures keep { Keep S.Sink W.Wires sink.old sink.new wires.old wires.new }
     {
-        let when = When {
-            moment: self.moment,
-            setup: plan.settings.setup,
-        };
+        let when = When::of(self.moment, &plan.settings);
         match happening {
             Happening::Accepted(conn) => self.accept(alloc, conn, plan, wires, randoms, sink),
             Happening::Readable(conn) => {
@@ -285,7 +279,7 @@ impl<U: SafeUser> LiveLoop<U> {
                     conn.0,
                     Visit::Read,
                     keys,
-                    when,
+                    &when,
                     &mut self.scratch,
                     wires,
                     sink,
@@ -297,7 +291,7 @@ impl<U: SafeUser> LiveLoop<U> {
                     conn.0,
                     Visit::Write,
                     keys,
-                    when,
+                    &when,
                     &mut self.scratch,
                     wires,
                     sink,
@@ -328,22 +322,20 @@ impl<U: SafeUser> LiveLoop<U> {
         randoms: &mut R,
         sink: &mut S,
     ) -> Result<Next, LoopFault>
-        requires fit { IsFit (W.state wires.old).opened plan.now self.old }
+        requires order { IsInOrder (W.state wires.old).opened self.old.book }
         requires turns { self.old.turns < 2 ^ 64 - 1 }
         requires until { until ≡ first kept_ends (sessions_in self.old.book) }
         ensures does { TurnedOn U.SafeUser S.Sink W.Wires C.Clock R.Rng (plan_of (K.entries keys.now) plan.now) self.old self.new
             sink.old sink.new wires.old wires.new clock.old clock.new randoms.old randoms.new result }
-        ensures whole { OnOk result (IsWhole (W.state wires.new).opened self.new) }
+        ensures order { OnOk result (IsInOrder (W.state wires.new).opened self.new.book) }
         ensures turns { self.new.turns ≤ self.old.turns + 1 }
         ensures sunk { (S.state sink.old).faults ≤ (S.state sink.new).faults }
     {
         let happening = wires.turn(until);
-        self.moment = self.moment.max(clock.now());
+        self.moment = self.moment.later(moment_of(clock));
         self.turns += 1;
-        match self.react(alloc, happening, keys, plan, wires, randoms, sink) {
-            Ok(()) => next_behind(happening, self.has_closed(plan)),
-            Err(fault) => Err(fault),
-        }
+        self.react(alloc, happening, keys, plan, wires, randoms, sink)?;
+        next_behind(happening, self.has_closed(plan))
     }
 
     // One turn, with what comes before and behind it.
@@ -357,24 +349,20 @@ impl<U: SafeUser> LiveLoop<U> {
         randoms: &mut R,
         sink: &mut S,
     ) -> Result<Next, LoopFault>
-        requires fit { IsFit (W.state wires.old).opened plan.now self.old }
+        requires order { IsInOrder (W.state wires.old).opened self.old.book }
         requires turns { self.old.turns < 2 ^ 64 - 1 }
         ensures does { TurnsOn U.SafeUser S.Sink W.Wires C.Clock R.Rng (plan_of (K.entries keys.now) plan.now) self.old self.new
             sink.old sink.new wires.old wires.new clock.old clock.new randoms.old randoms.new result }
-        ensures whole { OnOk result (IsWhole (W.state wires.new).opened self.new) }
+        ensures order { OnOk result (IsInOrder (W.state wires.new).opened self.new.book) }
         ensures turns { self.new.turns ≤ self.old.turns + 1 }
         ensures sunk { (S.state sink.old).faults ≤ (S.state sink.new).faults }
     {
-        self.moment = self.moment.max(clock.now());
-        match self.before(keys, plan, wires, sink) {
-            Ok(until) => {
-                if self.has_closed(plan) {
-                    return Ok(Next::Closed);
-                }
-                self.turn(alloc, until, keys, plan, wires, clock, randoms, sink)
-            }
-            Err(fault) => Err(fault),
+        self.moment = self.moment.later(moment_of(clock));
+        let until = self.before(keys, plan, wires, sink)?;
+        if self.has_closed(plan) {
+            return Ok(Next::Closed);
         }
+        self.turn(alloc, until, keys, plan, wires, clock, randoms, sink)
     }
 
     // All turns of the plan, unless the loop stops before.
@@ -388,28 +376,27 @@ impl<U: SafeUser> LiveLoop<U> {
         randoms: &mut R,
         sink: &mut S,
     ) -> Result<Served, LoopFault>
-        requires fit { IsFit (W.state wires.old).opened plan.now self.old }
+        requires order { IsInOrder (W.state wires.old).opened self.old.book }
         requires turns { self.old.turns ≡ 0 }
         ensures does { RunsOn U.SafeUser S.Sink W.Wires C.Clock R.Rng (plan_of (K.entries keys.now) plan.now) self.old self.new
             sink.old sink.new wires.old wires.new clock.old clock.new randoms.old randoms.new result }
         ensures sunk { (S.state sink.old).faults ≤ (S.state sink.new).faults }
     {
         for _ in 0..plan.turns {
-            match self.go(alloc, keys, plan, wires, clock, randoms, sink) {
-                Ok(Next::GoesOn) => {}
-                Ok(Next::Ended) => {
+            match self.go(alloc, keys, plan, wires, clock, randoms, sink)? {
+                Next::GoesOn => {}
+                Next::Ended => {
                     return Ok(Served {
                         turns: self.turns,
                         why: Stop::Ended,
                     });
                 }
-                Ok(Next::Closed) => {
+                Next::Closed => {
                     return Ok(Served {
                         turns: self.turns,
                         why: Stop::Closed,
                     });
                 }
-                Err(fault) => return Err(fault),
             }
         }
         Ok(Served {

@@ -5,13 +5,14 @@ ghost use Rattle.safety_automaton.specs.Keys.{AreDistinct, key_at};
 ghost use Rattle.readiness_loop.specs.Claims.{pair_of};
 
 use des_block::TripleKey;
+use er_base::EtcsNumber;
 use safety_automaton::KeyFinder;
 
 // The KMAC of one pair, which holds at every moment.
 #[derive(Clone, Copy)]
 pub(crate) struct OnePair {
-    pub(crate) engine: u32,
-    pub(crate) rbc: u32,
+    pub(crate) engine: EtcsNumber,
+    pub(crate) rbc: EtcsNumber,
     pub(crate) kmac: TripleKey,
 }
 
@@ -19,7 +20,7 @@ impl KeyFinder for OnePair {
     ghost entries = { λ pair. pair_of pair.engine pair.rbc pair.kmac ∷ [] };
 
     fn find(&self, engine: u32, rbc: u32, now: u64) -> Option<TripleKey> {
-        if self.engine == engine && self.rbc == rbc {
+        if self.engine.get() == engine && self.rbc.get() == rbc {
             Some(self.kmac)
         } else {
             None

@@ -2,18 +2,18 @@
 
 ghost use Rattle.std.specs.Prelude.{◌≡◌, ◌≤◌, ◌==◌, if◌then◌else◌, true, false, length, IfOk, OnOk};
 ghost use Rattle.rand_core.specs.Stream.{next_u64};
-ghost use Rattle.loop_visit.specs.Visiting.{DoesOn, Keep};
-ghost use Rattle.readiness_loop.specs.Lives.{sessions_in, IsSeated, IsAwaited, IsAllowed, IsSound, IsFirst, Rests, calling, pair_plan, pair_caller, OpensOn};
+ghost use Rattle.loop_io.specs.Visiting.{DoesOn, Keep};
+ghost use Rattle.readiness_loop.specs.Lives.{sessions_in, IsSeated, IsAwaited, IsFirst, Rests, calling, pair_plan, pair_caller, OpensOn};
 
-use crate::live_loop::LiveLoop;
-use crate::loop_plan::LoopPlan;
+use crate::live_loop::{LiveLoop, moment_of};
+use crate::loop_plan::{LoopPlan, see_settings};
 use crate::one_pair::OnePair;
 use er_end::End;
 use er_trace::Event;
 use er_users::SafeUser;
 use link_trait::{Clock, Conn, Sink, Wires};
+use loop_io::begin_call;
 use loop_session::{Called, LoopFault, Session, When};
-use loop_visit::begin_call;
 use rand_core::Rng;
 use std::alloc::Global;
 
@@ -30,9 +30,8 @@ impl<U: SafeUser> LiveLoop<U> {
         randoms: &mut R,
         sink: &mut S,
     ) -> Result<bool, LoopFault>
-        requires allowed { IsAllowed plan.now }
-        requires sound { IsSound self.old }
-        requires first { IsFirst (W.state wires.old).opened conn.0 pair.now self.old }
+        requires awaited { IsAwaited self.old.book }
+        requires first { IsFirst (W.state wires.old).opened conn.0 self.old }
         ensures does { DoesOn S.Sink W.Wires sink.old sink.new wires.old wires.new (sessions_in self.new.book)
             (calling pair.now plan.now (R.stream randoms.old) self.old.moment conn.0 (U.mind user)) result }
         ensures stays { IfOk result (λ stays. (length self.new.book.places.entries == 0) ≡ (if stays then false else true)) }
@@ -43,40 +42,35 @@ impl<U: SafeUser> LiveLoop<U> {
         ensures rests { Rests self.old self.new }
         ensures keep { Keep S.Sink W.Wires sink.old sink.new wires.old wires.new }
     {
+        see_settings(&plan.settings);
         let rb = randoms.next_u64();
         let (engine, rbc) = (pair.engine, plan.rbc);
-        let end = match End::call(
+        let end = End::call(
             alloc,
             &plan.settings,
-            engine,
-            rbc,
+            engine.get(),
+            rbc.get(),
             pair.kmac,
             rb,
-            self.moment,
-        ) {
-            Ok(end) => end,
-            Err(want) => return Err(LoopFault::NoMemory(want)),
-        };
+            self.moment.get(),
+        )?;
         let mut session = Session::begin(alloc, conn.0, end, user);
         let call = Called { engine, rbc, rb };
         let when = When::of(self.moment, &plan.settings);
-        match begin_call(
+        let stays = begin_call(
             &mut session,
             &call,
             pair,
-            when,
+            &when,
             &mut self.scratch,
             wires,
             sink,
-        ) {
-            Ok(true) => {}
-            Ok(false) => return Ok(false),
-            Err(fault) => return Err(fault),
+        )?;
+        if !stays {
+            return Ok(false);
         }
-        match self.book.add(session) {
-            Ok(()) => Ok(true),
-            Err(want) => Err(LoopFault::NoMemory(want)),
-        }
+        self.book.add(session)?;
+        Ok(true)
     }
 
     // The one connection of a dial was opened: its session begins, or it is closed. Whether it stays.
@@ -91,25 +85,23 @@ impl<U: SafeUser> LiveLoop<U> {
         randoms: &mut R,
         sink: &mut S,
     ) -> Result<bool, LoopFault>
-        requires allowed { IsAllowed plan.now }
         requires dials { plan.now.dials ≡ true }
-        requires sound { IsSound self.old }
-        requires first { IsFirst (W.state wires.old).opened conn.0 pair.now self.old }
+        requires awaited { IsAwaited self.old.book }
+        requires first { IsFirst (W.state wires.old).opened conn.0 self.old }
         ensures does { OpensOn U.SafeUser S.Sink W.Wires C.Clock R.Rng (pair_plan pair.now plan.now) (pair_caller pair.now) conn.0 self.old self.new
             sink.old sink.new wires.old wires.new clock.old clock.new randoms.old randoms.new result }
         ensures seated { OnOk result (IsSeated (W.state wires.new).opened self.new.book) }
         ensures awaited { OnOk result (IsAwaited self.new.book) }
-        ensures moment { self.new.moment ≤ 1000000000000000 }
         ensures turns { self.new.turns ≡ self.old.turns }
         ensures sunk { (S.state sink.old).faults ≤ (S.state sink.new).faults }
     {
-        self.moment = self.moment.max(clock.now());
+        self.moment = self.moment.later(moment_of(clock));
         match self.users.pop() {
             Some(user) => self.call(alloc, conn, user, pair, plan, wires, randoms, sink),
-            None => match self.turn_away(conn, Event::Unserved(0), wires, sink) {
-                Ok(()) => Ok(false),
-                Err(fault) => Err(fault),
-            },
+            None => {
+                self.turn_away(conn, Event::Unserved(0), wires, sink)?;
+                Ok(false)
+            }
         }
     }
 }

@@ -1,16 +1,16 @@
 //! A loop that listens.
 
 ghost use Rattle.std.specs.Prelude.{◌≤◌, ◌<◌, ◌^◌, length, map};
-ghost use Rattle.er_settings.specs.Ranges.{AllAllowed};
 ghost use Rattle.loop_session.specs.Parts.{Puts};
 ghost use Rattle.loop_model.specs.Journals.{header};
 ghost use Rattle.readiness_loop.specs.Claims.{serving, ServesOn};
 ghost use Rattle.readiness_loop.specs.Courses.{plan_of, Serves};
-ghost use Rattle.readiness_loop.specs.Lives.{around_at, IsAllowed};
+ghost use Rattle.readiness_loop.specs.Lives.{around_at};
 
 use crate::line_plan::{LinePlan, Served};
 use crate::live_loop::LiveLoop;
-use crate::loop_plan::LoopPlan;
+use crate::loop_plan::{LoopPlan, see_settings};
+use er_base::EtcsNumber;
 use er_settings::Settings;
 use er_trace::print_header;
 use er_users::SafeUser;
@@ -28,15 +28,11 @@ pub(crate) fn write_header<S: Sink>(
     settings: &Settings,
     sink: &mut S,
 ) -> Result<(), LoopFault>
-    requires settings { AllAllowed settings.now }
     ensures puts { Puts (S.state sink.old) (S.state sink.new) (header settings.now) result }
     ensures sunk { (S.state sink.old).faults ≤ (S.state sink.new).faults }
 {
     let mut line = Vec::new(alloc);
-    match print_header(settings, &mut line) {
-        Ok(()) => {}
-        Err(want) => return Err(LoopFault::NoMemory(want)),
-    }
+    print_header(settings, &mut line)?;
     write_lines(line.as_slice(), sink)
 }
 
@@ -52,7 +48,6 @@ fn serve_users<U: SafeUser, K: KeyFinder, W: Wires, C: Clock, R: Rng, S: Sink>(
     randoms: &mut R,
     sink: &mut S,
 ) -> Result<Served, LoopFault>
-    requires allowed { IsAllowed plan.now }
     ensures does { Serves (plan_of (K.entries keys.now) plan.now)
         (around_at S.Sink W.Wires C.Clock sink.old wires.old clock.old)
         (around_at S.Sink W.Wires C.Clock sink.new wires.new clock.new)
@@ -70,18 +65,13 @@ fn serve_users<U: SafeUser, K: KeyFinder, W: Wires, C: Clock, R: Rng, S: Sink>(
     laws::faults();
     laws::turns();
     loop_session::laws::standing();
-    let mut live = match LiveLoop::new(alloc, users) {
-        Ok(live) => live,
-        Err(want) => return Err(LoopFault::NoMemory(want)),
-    };
+    see_settings(&plan.settings);
+    let mut live = LiveLoop::new(alloc, users)?;
     match wires.listen(address) {
         Ok(()) => {}
         Err(_failed) => return Err(LoopFault::Wires),
     }
-    match write_header(alloc, &plan.settings, sink) {
-        Ok(()) => {}
-        Err(fault) => return Err(fault),
-    }
+    write_header(alloc, &plan.settings, sink)?;
     live.run(alloc, keys, plan, wires, clock, randoms, sink)
 }
 
@@ -99,14 +89,13 @@ pub fn serve<W: Wires, C: Clock, R: Rng, S: Sink>(
     randoms: &mut R,
     sink: &mut S,
 ) -> Result<Served, LoopFault>
-    requires settings { AllAllowed plan.now.settings }
     requires rbc { rbc < 2 ^ 24 }
     ensures { ServesOn S.Sink W.Wires C.Clock sink.old sink.new wires.old wires.new clock.old clock.new
         (serving keys.now plan.now rbc (length users.items)) address.now (map mind users.items) (R.stream randoms.old) (R.stream randoms.new) result }
 {
     let loop_plan = LoopPlan {
         settings: plan.settings,
-        rbc,
+        rbc: EtcsNumber::new(rbc),
         handed: users.len() as u64,
         turns: plan.turns,
         dials: false,

@@ -6,7 +6,7 @@ ghost use Rattle.std.specs.List.Sorted.{IsPermutation, IsSorted};
 ghost use Rattle.std.specs.BTreeSet.{IsOrdered};
 ghost use Rattle.readiness_loop.specs.WakeTimes.{pair_cmp, has, is_moment, numbers_until, IsFirst};
 
-use er_base::NoMemory;
+use er_base::{Moment, NoMemory};
 use std::alloc::Global;
 use std::collections::BTreeSet;
 
@@ -37,14 +37,13 @@ impl WakeTimes {
     }
 
     // The numbers of those whose moment has come, in rising order.
-    pub(crate) fn due(&self, moment: u64, out: &mut Vec<u64>) -> Result<(), NoMemory>
-        requires { moment < 2 ^ 64 - 1 }
+    pub(crate) fn due(&self, moment: Moment, out: &mut Vec<u64>) -> Result<(), NoMemory>
         ensures same { OnOk result (IsPermutation (numbers_until moment self.now.pairs.keys) out.new.items) }
         ensures sorted { OnOk result (IsSorted nat_cmp out.new.items) }
         ensures ordered { OnOk result (IsOrdered pair_cmp self.now.pairs) }
     {
         out.clear();
-        for pair in self.pairs.range(..(moment + 1, 0)) {
+        for pair in self.pairs.range(..(moment.get() + 1, 0)) {
             out.push(pair.1)?;
         }
         out.sort_unstable();

@@ -1,4 +1,5 @@
 pub mod Keys
+pub mod Pairs
 pub mod Safety
 pub mod Reports
 pub mod Kept

@@ -1,5 +1,6 @@
 ghost use Rattle.std.specs.Prelude.{List, ◌≡◌};
 ghost use Rattle.safety_automaton.specs.Keys.{Entry, key_at, AreDistinct};
+ghost use Rattle.safety_automaton.specs.Pairs.{entries_if};
 
 use des_block::TripleKey;
 
@@ -13,4 +14,16 @@ pub trait KeyFinder {
     fn find(&self, engine: u32, rbc: u32, now: u64) -> Option<TripleKey>
         ensures found { result ≡ key_at (entries self.now) now engine rbc }
         ensures distinct { AreDistinct (entries self.now) };
+}
+
+/// A finder that may be none: then no key is found.
+impl<F: KeyFinder> KeyFinder for Option<F> {
+    ghost entries = { λ finder. entries_if F.entries finder };
+
+    fn find(&self, engine: u32, rbc: u32, now: u64) -> Option<TripleKey> {
+        match self {
+            Some(finder) => finder.find(engine, rbc, now),
+            None => None,
+        }
+    }
 }

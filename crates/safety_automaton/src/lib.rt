@@ -8,11 +8,14 @@
 //! memory.
 #![tactic(auto)]
 
+mod control_pdu;
 mod deed;
 mod kept_text;
 mod key_finder;
 pub mod laws;
+mod pair_key;
 mod phase;
+mod reaction;
 mod role;
 mod safe;
 mod safe_state;
@@ -20,6 +23,7 @@ mod text;
 
 pub use deed::{SafeDeed, SealRefused};
 pub use key_finder::KeyFinder;
+pub use pair_key::PairKey;
 pub use role::Role;
 pub use safe::Safe;
 pub use safe_state::SafeState;

@@ -1,14 +1,14 @@
-ghost use Rattle.std.specs.Prelude.{ℕ, ◌≡◌, ◌==◌, ◌<◌, ◌^◌};
+ghost use Rattle.std.specs.Prelude.{ℕ, ◌≡◌, ◌==◌, List, Option};
 ghost use Rattle.cbc_mac.specs.Mac.{mac_of};
-ghost use Rattle.safety_automaton.specs.Safety.{Connected, session_in};
+ghost use Rattle.safety_automaton.specs.Safety.{session_in};
 ghost use Rattle.safety_automaton.specs.Reports.{state_of};
-ghost use Rattle.safety_automaton.specs.Kept.{phase_view, HasPeer, IsUnreleased};
+ghost use Rattle.safety_automaton.specs.Kept.{phase_view, connected_of, HasNoTexts};
 
 use crate::safe_state::SafeState;
-use cbc_mac::MacKey;
 use des_block::TripleKey;
-use er_base::Release;
+use er_base::{EtcsNumber, Release};
 use sapdu::SealedText;
+use session_keys::{Kmac, SessionKeys};
 
 /// What a side waits for once the session keys are known.
 #[derive(Clone, Copy)]
@@ -24,15 +24,22 @@ pub enum Stage {
 /// Session keys that are known, with the peer with whom they are shared.
 #[derive(Drop)]
 pub struct Session {
-    /// The peer's ETCS number, below 2^24.
-    pub peer: u32,
+    /// The peer.
+    pub peer: EtcsNumber,
     /// The session keys, prepared once for all texts.
-    pub keys: MacKey,
+    pub keys: SessionKeys,
     /// What is waited for.
     pub stage: Stage,
 }
 
 impl Session {
+    /// The MAC of a text under the session keys.
+    pub fn mac(&self, text: &SealedText) -> u64
+        ensures { result ≡ mac_of self.now.keys text.now }
+    {
+        self.keys.mac(text.octets())
+    }
+
     /// Whether this is the MAC of a text under the session keys.
     pub fn verifies(&self, text: &SealedText, mac: u64) -> bool
         ensures { result ≡ (mac == mac_of self.now.keys text.now) }
@@ -46,8 +53,8 @@ impl Session {
 pub enum Phase {
     /// An initiator before its start.
     Ready {
-        peer: u32,
-        kmac: TripleKey,
+        peer: EtcsNumber,
+        kmac: Kmac,
         rb: u64,
     },
     /// A responder before an AU1.
@@ -56,8 +63,8 @@ pub enum Phase {
     },
     /// An initiator whose AU1 was sent.
     WaitAu2 {
-        peer: u32,
-        kmac: TripleKey,
+        peer: EtcsNumber,
+        kmac: Kmac,
         rb: u64,
     },
     /// The session keys are known.
@@ -65,22 +72,20 @@ pub enum Phase {
     /// After a release, with the session keys where they were known.
     Released {
         release: Release,
-        session: Option<TripleKey>,
+        session: Option<SessionKeys>,
     },
 }
 
 impl Phase {
-    /// Connected to a peer, under session keys.
-    pub fn connected(peer: u32, session: &TripleKey) -> Phase
-        ensures view { (me : ℕ) → phase_view me result ≡ Connected peer session.now }
-        ensures peer { peer < 2 ^ 24 → HasPeer result }
-        ensures unreleased { IsUnreleased result }
+    /// Both sides have authenticated each other, if the session keys are known.
+    pub fn connect(&mut self)
+        ensures view { (me : ℕ) → phase_view me self.new ≡ connected_of (phase_view me self.old) }
+        ensures texts { (sealed verified : Option (List ℕ)) → HasNoTexts self.old sealed verified → HasNoTexts self.new sealed verified }
     {
-        Phase::Keyed(Session {
-            peer,
-            keys: MacKey::new(session),
-            stage: Stage::Connected,
-        })
+        match self {
+            Phase::Keyed(session) => session.stage = Stage::Connected,
+            _ => {}
+        }
     }
 
     /// The phase without what is known in it.
@@ -107,7 +112,21 @@ impl Phase {
         match self {
             Phase::Ready { .. } | Phase::WaitAu1 { .. } | Phase::WaitAu2 { .. } => None,
             Phase::Keyed(session) => Some(session.keys.key()),
-            Phase::Released { session, .. } => *session,
+            Phase::Released { session, .. } => match session {
+                Some(keys) => Some(keys.key()),
+                None => None,
+            },
+        }
+    }
+
+    /// The same, taken out of the phase.
+    pub fn into_session(self) -> Option<SessionKeys>
+        ensures { (me : ℕ) → result ≡ session_in (phase_view me self) }
+    {
+        match self {
+            Phase::Ready { .. } | Phase::WaitAu1 { .. } | Phase::WaitAu2 { .. } => None,
+            Phase::Keyed(session) => Some(session.keys),
+            Phase::Released { session, .. } => session,
         }
     }
 }

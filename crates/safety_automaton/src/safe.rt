@@ -1,9 +1,7 @@
 //! One side of a safe connection: its calls.
 
-ghost use Rattle.std.specs.Prelude.{ℕ, ◌≡◌, ◌+◌, ◌≤◌, ◌<◌, ◌^◌, length, option_map, Option, None, OnOk, OnErr};
-ghost use Rattle.sapdu.specs.Spelling.{HasUserOctets, HasNumber, spelling};
+ghost use Rattle.std.specs.Prelude.{◌≡◌, ◌+◌, ◌≤◌, ◌<◌, ◌^◌, length, option_map, None, OnOk, OnErr};
 ghost use Rattle.sapdu.specs.Messages.{HasRoomForSapdu};
-ghost use Rattle.sapdu.specs.Reading.{view};
 ghost use Rattle.des_block.specs.declared.triple_key.TripleKey.{TripleKey};
 ghost use Rattle.safety_automaton.specs.Keys.{key_at, no_keys};
 ghost use Rattle.safety_automaton.specs.Safety.{flag_of, initiator, responder, fixed, ConnectRequest, Received, DataRequest, DisconnectRequest, Released, step, sealed_by, verified_by, sent_by, session_in, releases};
@@ -11,22 +9,26 @@ ghost use Rattle.safety_automaton.specs.Reports.{made, state_of, report_view, re
 ghost use Rattle.safety_automaton.specs.Laws.{IsValid};
 ghost use Rattle.safety_automaton.specs.declared.safe_state.SafeState.TheVariants as state;
 ghost use Rattle.er_base.specs.Stored.{Appends};
-ghost use Rattle.safety_automaton.specs.Kept.{Does, HasPeer, IsUnreleased, phase_view};
+ghost use Rattle.safety_automaton.specs.Kept.{Does, phase_view, stage_view, octets_of, octets_if};
 
 mod received;
 mod sent;
 
+use crate::control_pdu::ControlPdu;
 use crate::deed::{SafeDeed, SealRefused};
 use crate::kept_text::KeptText;
 use crate::key_finder::KeyFinder;
 use crate::laws;
-use crate::phase::Phase;
+use crate::phase::{Phase, Session, Stage};
+use crate::reaction::Reaction;
 use crate::role::Role;
 use crate::safe_state::SafeState;
 use des_block::TripleKey;
-use er_base::{Cause, Release, Room};
+use er_base::{Cause, EtcsNumber, Release, Room};
 use sapdu::{SaPdu, SealedText};
+use session_keys::{Kmac, SessionKeys};
 use std::marker::Model;
+use std::mem;
 
 /// One side of a safe connection (UNISIG SUBSET-037: peer entity authentication, Safe Transmission, release; octet values, the
 /// order of checks and the reasons are this profile's).
@@ -34,7 +36,7 @@ use std::marker::Model;
 /// In contracts it is the side of the safety model, with the texts that the last call sealed and verified. It takes no memory.
 #[derive(Drop)]
 pub struct Safe {
-    me: u32,
+    me: EtcsNumber,
     role: Role,
     phase: Phase,
     sealed: KeptText,
@@ -42,9 +44,8 @@ pub struct Safe {
 }
 
 impl Model for Safe {
-    ghost use Rattle.std.specs.Prelude.{◌≡◌, ◌<◌, ◌^◌};
     ghost use Rattle.safety_automaton.specs.Reports.{KeptSafe};
-    ghost use Rattle.safety_automaton.specs.Kept.{phase_view, HasPeer, HasNoTexts};
+    ghost use Rattle.safety_automaton.specs.Kept.{phase_view, HasNoTexts};
 
     ghost Value = { KeptSafe };
 
@@ -54,7 +55,7 @@ impl Model for Safe {
       verified = s.verified;
     } };
 
-    ghost invariant = { λ s. (s.me < 2 ^ 24) × HasPeer s.phase × HasNoTexts s.phase s.sealed s.verified };
+    ghost invariant = { λ s. HasNoTexts s.phase s.sealed s.verified };
 }
 
 impl Safe {
@@ -65,7 +66,12 @@ impl Safe {
         ensures made { result ≡ made (initiator me peer kmac rb) }
         ensures valid { IsValid result.safety }
     {
-        Safe::with_phase(me, Role::Initiator, Phase::Ready { peer, kmac, rb })
+        let phase = Phase::Ready {
+            peer: EtcsNumber::new(peer),
+            kmac: Kmac::new(kmac),
+            rb,
+        };
+        Safe::with_phase(EtcsNumber::new(me), Role::Initiator, phase)
     }
 
     /// A responder that waits to be called: its ETCS number, below 2^24, and its random number.
@@ -74,7 +80,7 @@ impl Safe {
         ensures made { result ≡ made (responder me ra) }
         ensures valid { IsValid result.safety }
     {
-        Safe::with_phase(me, Role::Responder, Phase::WaitAu1 { ra })
+        Safe::with_phase(EtcsNumber::new(me), Role::Responder, Phase::WaitAu1 { ra })
     }
 
     /// A side with fixed session keys, which is connected from the start: its ETCS number and the peer's, both below 2^24.
@@ -84,7 +90,12 @@ impl Safe {
         ensures made { result ≡ made (fixed me peer role session) }
         ensures valid { IsValid result.safety }
     {
-        Safe::with_phase(me, role, Phase::connected(peer, &session))
+        let session = Session {
+            peer: EtcsNumber::new(peer),
+            keys: SessionKeys::new(session),
+            stage: Stage::Connected,
+        };
+        Safe::with_phase(EtcsNumber::new(me), role, Phase::Keyed(session))
     }
 
     /// An initiator begins: writes an AU1 to `out`.
@@ -98,7 +109,8 @@ impl Safe {
         ensures sent { length out.new.items ≤ length out.old.items + 13 }
     {
         laws::lengths();
-        self.send_au1(out);
+        let au1 = self.begin();
+        self.write(&au1, out);
     }
 
     /// Takes octets from the peer at a moment in milliseconds: tells what they did, and writes the answering SaPDU to `out`, where
@@ -124,7 +136,9 @@ impl Safe {
         if let Phase::Released { .. } = self.phase {
             return SafeDeed::Ignored;
         }
-        self.receive_octets(keys, now, octets, out)
+        let Reaction { deed, sends } = self.receive_octets(keys, now, octets);
+        self.write_if(&sends, out);
+        deed
     }
 
     /// Sends user octets, 1 to 1,023 of them: seals them, and writes the DT to `out`. A refused send changes nothing.
@@ -139,7 +153,10 @@ impl Safe {
         ensures sent { length out.new.items ≤ length out.old.items + 1032 }
     {
         laws::lengths();
-        self.send_dt(user, out)
+        let mac = self.seal_dt(user)?;
+        sapdu::laws::lengths_of_spellings();
+        sapdu::write_into(&SaPdu::Dt { user, mac }, self.role.flag(), out);
+        Ok(())
     }
 
     /// The user releases, with a sub-reason: writes a DI to `out`. A released side does nothing.
@@ -155,7 +172,8 @@ impl Safe {
         if let Phase::Released { .. } = self.phase {
             return;
         }
-        self.release_for(Cause::User { sub }, out);
+        let Reaction { sends, .. } = self.release_for(Cause::User { sub });
+        self.write_if(&sends, out);
     }
 
     /// Forgets the texts that the last call sealed and verified, as before an event of its owner in which this side has no call.
@@ -178,7 +196,7 @@ impl Safe {
         ensures me { result ≡ self.now.safety.me }
         ensures below { result < 2 ^ 24 }
     {
-        self.me
+        self.me.get()
     }
 
     /// What this side waits for.
@@ -210,9 +228,7 @@ impl Safe {
     }
 
     // A side that was just made.
-    fn with_phase(me: u32, role: Role, phase: Phase) -> Safe
-        requires me { me < 2 ^ 24 }
-        requires peer { HasPeer phase }
+    fn with_phase(me: EtcsNumber, role: Role, phase: Phase) -> Safe
         ensures { result ≡ made (record { me = me; role = role; phase = phase_view me phase }) }
     {
         Safe {
@@ -224,20 +240,18 @@ impl Safe {
         }
     }
 
-    // Sets a phase that isn't released, in a call that sealed and verified these texts.
-    fn set_phase(
+    // The session keys are known, in a call that sealed and verified these texts.
+    fn set_session(
         &mut self,
-        phase: Phase,
+        session: Session,
         sealed: Option<&SealedText>,
         verified: Option<&SealedText>,
     )
-        requires peer { HasPeer phase }
-        requires unreleased { IsUnreleased phase }
-        ensures safety { self.new.safety ≡ record self.old.safety { phase = phase_view self.old.safety.me phase } }
+        ensures safety { self.new.safety ≡ record self.old.safety { phase = stage_view self.old.safety.me session.peer session.keys session.stage } }
         ensures sealed { self.new.sealed ≡ option_map (λ t. t.now) sealed.entry }
         ensures verified { self.new.verified ≡ option_map (λ t. t.now) verified.entry }
     {
-        self.phase = phase;
+        self.phase = Phase::Keyed(session);
         self.sealed.keep_if(sealed);
         self.verified.keep_if(verified);
     }
@@ -246,32 +260,52 @@ impl Safe {
     fn set_released(&mut self, release: Release)
         ensures { self.new ≡ made (record self.old.safety { phase = Released release (session_in self.old.safety.phase) }) }
     {
-        let session = self.phase.session();
-        self.phase = Phase::Released { release, session };
+        // the session keys are moved from one phase to the next, and not copied
+        let before = mem::replace(
+            &mut self.phase,
+            Phase::Released {
+                release,
+                session: None,
+            },
+        );
+        self.phase = Phase::Released {
+            release,
+            session: before.into_session(),
+        };
         self.sealed.clear();
         self.verified.clear();
     }
 
     // Writes an SaPDU to the peer.
-    fn write(&self, pdu: &SaPdu, out: &mut Room)
-        requires user { HasUserOctets (view pdu.now) }
-        requires number { HasNumber (view pdu.now) }
-        requires room { HasRoomForSapdu out.old }
-        ensures { Appends out.old out.new (spelling (view pdu.now) (flag_of self.now.safety.role)) }
+    fn write(&self, pdu: &ControlPdu, out: &mut Room)
+        requires { HasRoomForSapdu out.old }
+        ensures { Appends out.old out.new (octets_of pdu.now (flag_of self.now.safety.role)) }
     {
         sapdu::laws::lengths_of_spellings();
-        sapdu::write_into(pdu, self.role.flag(), out);
+        sapdu::write_into(&pdu.pdu(), self.role.flag(), out);
+    }
+
+    // The same of an SaPDU, where there is one.
+    fn write_if(&self, pdu: &Option<ControlPdu>, out: &mut Room)
+        requires { HasRoomForSapdu out.old }
+        ensures { Appends out.old out.new (octets_if pdu.now (flag_of self.now.safety.role)) }
+    {
+        match pdu {
+            Some(pdu) => self.write(pdu, out),
+            None => {}
+        }
     }
 
     // Releases for a cause, and tells the peer by a DI.
-    fn release_for<'o>(&mut self, cause: Cause, out: &mut Room) -> SafeDeed<'o>
-        requires { HasRoomForSapdu out.old }
-        ensures { Does (releases self.old.safety cause) self.new out.old out.new (report_view result) }
+    fn release_for<'o>(&mut self, cause: Cause) -> Reaction<'o>
+        ensures { Does (releases self.old.safety cause) self.new result }
     {
         let release = cause.release();
         let Release { reason, sub, .. } = release;
-        self.write(&SaPdu::Di { reason, sub }, out);
         self.set_released(release);
-        SafeDeed::Released(release)
+        Reaction {
+            deed: SafeDeed::Released(release),
+            sends: Some(ControlPdu::Di { reason, sub }),
+        }
     }
 }

@@ -1,5 +1,6 @@
--- Representation: how the code takes the fields behind a header octet; no claim rests on it.
-use Rattle.std.specs.Prelude.{ℕ, ◌≡◌, ◌≤◌, List}
+-- Representation: how the code takes the fields behind a header octet, and makes a sealed text; no claim rests on it.
+use Rattle.std.specs.Prelude.{ℕ, ◌≡◌, ◌≤◌, List, ◌++◌, length}
+use Rattle.er_base.specs.Octets.{two}
 use Rattle.sapdu.specs.declared.kind.SaKind.{SaKind}
 use Rattle.sapdu.specs.Kinds.{Row}
 use Rattle.sapdu.specs.Spelling.{Pdu, Fits, kind_of, body}
@@ -11,3 +12,7 @@ IsBody kind fields pdu = (kind_of pdu ≡ kind) × Fits pdu × (fields ≡ body 
 -- a length that a row allows
 abbrev pub IsLong : Row → ℕ → Type 0
 IsLong of found = (of.least ≤ found) × (found ≤ of.greatest)
+
+-- a text is the length of these octets and the octets
+abbrev pub IsTextOf : List ℕ → List ℕ → Type 0
+IsTextOf octets text = text ≡ two (length octets) ++ octets

@@ -1,5 +1,4 @@
 ghost use Rattle.std.specs.Prelude.{◌≡◌, ◌+◌, ◌≤◌, length};
-ghost use Rattle.er_base.specs.Octets.{eight};
 ghost use Rattle.sapdu.specs.Kinds.{row};
 ghost use Rattle.sapdu.specs.Spelling.{read_of, di_in, fault_of_length};
 ghost use Rattle.sapdu.specs.Reading.{Reads, view, viewed};
@@ -27,37 +26,27 @@ fn fault_of_length(kind: SaKind, found: usize) -> Option<SaFault>
     }
 }
 
-/// The number that eight octets spell.
-fn only_number(octets: &[u8]) -> u64
-    requires { length octets.now ≡ 8 }
-    ensures { octets.now ≡ eight result }
-{
-    number_of(octets.try_into().unwrap())
-}
-
 /// The AU1 with these octets behind its header.
-fn au1(fields: &[u8]) -> SaPdu<'_>
-    requires { length fields.now ≡ 12 }
+fn au1(fields: &[u8; 12]) -> SaPdu<'static>
     ensures { IsBody kind.Au1 fields.now (view result) }
 {
     let mut cursor = Cursor::new(fields);
     let id = cursor.take_u24().unwrap();
     let feature = cursor.take_u8().unwrap();
-    let rb = only_number(cursor.rest());
+    let rb = number_of(cursor.rest().try_into().unwrap());
     SaPdu::Au1 { id, feature, rb }
 }
 
 /// The AU2 with these octets behind its header.
 #[tactic(auto, unfolding(er_base::specs::Octets::eight))]
-fn au2(fields: &[u8]) -> SaPdu<'_>
-    requires { length fields.now ≡ 20 }
+fn au2(fields: &[u8; 20]) -> SaPdu<'static>
     ensures { IsBody kind.Au2 fields.now (view result) }
 {
     let mut cursor = Cursor::new(fields);
     let id = cursor.take_u24().unwrap();
     let feature = cursor.take_u8().unwrap();
     let ra = cursor.take_u64().unwrap();
-    let mac = only_number(cursor.rest());
+    let mac = number_of(cursor.rest().try_into().unwrap());
     SaPdu::Au2 {
         id,
         feature,
@@ -80,14 +69,11 @@ fn dt(fields: &[u8]) -> SaPdu<'_>
 }
 
 /// The DI with these octets behind its header.
-fn di(fields: &[u8]) -> SaPdu<'_>
-    requires { length fields.now ≡ 2 }
+fn di(fields: &[u8; 2]) -> SaPdu<'static>
     ensures { IsBody kind.Di fields.now (view result) }
 {
-    SaPdu::Di {
-        reason: fields[0],
-        sub: fields[1],
-    }
+    let [reason, sub] = *fields;
+    SaPdu::Di { reason, sub }
 }
 
 /// The SaPDU of this kind with these octets behind its header, as many as the kind has.
@@ -96,16 +82,16 @@ fn pdu_of(kind: SaKind, fields: &[u8]) -> SaPdu<'_>
     ensures { IsBody kind fields.now (view result) }
 {
     match kind {
-        SaKind::Au1 => au1(fields),
-        SaKind::Au2 => au2(fields),
+        SaKind::Au1 => au1(fields.try_into().unwrap()),
+        SaKind::Au2 => au2(fields.try_into().unwrap()),
         SaKind::Au3 => SaPdu::Au3 {
-            mac: only_number(fields),
+            mac: number_of(fields.try_into().unwrap()),
         },
         SaKind::Ar => SaPdu::Ar {
-            mac: only_number(fields),
+            mac: number_of(fields.try_into().unwrap()),
         },
         SaKind::Dt => dt(fields),
-        SaKind::Di => di(fields),
+        SaKind::Di => di(fields.try_into().unwrap()),
     }
 }
 

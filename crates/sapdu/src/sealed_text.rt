@@ -1,12 +1,14 @@
-ghost use Rattle.std.specs.Prelude.{◌≡◌, ◌+◌, ◌-◌, ◌<◌, ◌≤◌, ◌^◌, ◌∷◌, ◌++◌, length, drop};
-ghost use Rattle.er_base.specs.Octets.{two, three};
+ghost use Rattle.std.specs.Prelude.{◌≡◌, ◌+◌, ◌-◌, ◌<◌, ◌≤◌, ◌^◌, [], ◌∷◌, ◌++◌, length, drop};
+ghost use Rattle.er_base.specs.Octets.{two, three, eight};
 ghost use Rattle.sapdu.specs.Spelling.{HasUserOctets, HasNumber};
-ghost use Rattle.sapdu.specs.Sealed.{sealed_text, sealed_part};
+ghost use Rattle.sapdu.specs.Sealed.{sealed_text};
+ghost use Rattle.sapdu.specs.Messages.{IsMessage};
+ghost use Rattle.sapdu.specs.Representation.{IsTextOf};
 ghost use Rattle.sapdu.specs.Reading.{view};
 
 use crate::pdu::SaPdu;
 use arrayvec::ArrayVec;
-use er_base::{eight_of, three_of, two_of};
+use er_base::{EtcsNumber, eight_of, three_of, two_of};
 use std::marker::Model;
 
 /// The most octets of a sealed text: those of the longest message.
@@ -39,10 +41,20 @@ impl SealedText {
         requires receiver { da < 2 ^ 24 }
         ensures { result ≡ sealed_text (view pdu.now) flag da ra rb }
     {
-        let mut text = SealedText::addressed(da);
-        text.put_part(pdu, flag, ra, rb);
-        text.put_length();
-        text
+        let header = pdu.kind().header(flag);
+        let receiver = EtcsNumber::new(da);
+        match *pdu {
+            SaPdu::Au1 { .. } | SaPdu::Di { .. } => SealedText::addressed(receiver).with_length(),
+            SaPdu::Au2 {
+                id,
+                feature,
+                ra,
+                ..
+            } => SealedText::of_au2(receiver, header, EtcsNumber::new(id), feature, ra, rb),
+            SaPdu::Au3 { .. } => SealedText::of_au3(receiver, header, ra, rb),
+            SaPdu::Ar { .. } => SealedText::of_ar(receiver, header),
+            SaPdu::Dt { user, .. } => SealedText::of_dt(receiver, header, user),
+        }
     }
 
     /// The octets, never none, and at most 1,029.
@@ -54,14 +66,66 @@ impl SealedText {
         self.octets.as_slice()
     }
 
+    // The text of an AU2.
+    fn of_au2(
+        receiver: EtcsNumber,
+        header: u8,
+        id: EtcsNumber,
+        feature: u8,
+        ra: u64,
+        rb: u64,
+    ) -> SealedText
+        ensures { IsTextOf (three receiver ++ header ∷ three id ++ feature ∷ eight ra ++ eight rb) result }
+    {
+        let mut text = SealedText::addressed(receiver);
+        text.put(&[header]);
+        text.put(&three_of(id.get()));
+        text.put(&[feature]);
+        text.put(&eight_of(ra));
+        text.put(&eight_of(rb));
+        text.with_length()
+    }
+
+    // The text of an AU3.
+    fn of_au3(receiver: EtcsNumber, header: u8, ra: u64, rb: u64) -> SealedText
+        ensures { IsTextOf (three receiver ++ header ∷ eight ra ++ eight rb) result }
+    {
+        let mut text = SealedText::addressed(receiver);
+        text.put(&[header]);
+        text.put(&eight_of(ra));
+        text.put(&eight_of(rb));
+        text.with_length()
+    }
+
+    // The text of an AR.
+    fn of_ar(receiver: EtcsNumber, header: u8) -> SealedText
+        ensures { IsTextOf (three receiver ++ header ∷ []) result }
+    {
+        let mut text = SealedText::addressed(receiver);
+        text.put(&[header]);
+        text.with_length()
+    }
+
+    // The text of a DT.
+    fn of_dt(receiver: EtcsNumber, header: u8, user: &[u8]) -> SealedText
+        requires { IsMessage user.now }
+        ensures { IsTextOf (three receiver ++ header ∷ user.now) result }
+    {
+        let mut text = SealedText::addressed(receiver);
+        text.put(&[header]);
+        text.put(user);
+        text.with_length()
+    }
+
     // Two octets for the length of what follows them, and the receiver's number.
-    fn addressed(receiver: u32) -> SealedText
-        requires { receiver < 2 ^ 24 }
+    fn addressed(receiver: EtcsNumber) -> SealedText
         ensures { result ≡ 0 ∷ 0 ∷ three receiver }
     {
         let mut octets = ArrayVec::new();
         octets.try_extend_from_slice(&[0, 0]).unwrap();
-        octets.try_extend_from_slice(&three_of(receiver)).unwrap();
+        octets
+            .try_extend_from_slice(&three_of(receiver.get()))
+            .unwrap();
         SealedText { octets }
     }
 
@@ -73,49 +137,15 @@ impl SealedText {
         self.octets.try_extend_from_slice(octets).unwrap();
     }
 
-    // Appends the part of the SaPDU.
-    fn put_part(&mut self, pdu: &SaPdu, flag: bool, ra: u64, rb: u64)
-        requires user { HasUserOctets (view pdu.now) }
-        requires number { HasNumber (view pdu.now) }
-        requires room { length self.old ≡ 5 }
-        ensures { self.new ≡ self.old ++ sealed_part (view pdu.now) flag ra rb }
-    {
-        let header = pdu.kind().header(flag);
-        match *pdu {
-            SaPdu::Au1 { .. } | SaPdu::Di { .. } => {}
-            SaPdu::Au2 {
-                id,
-                feature,
-                ra,
-                ..
-            } => {
-                self.put(&[header]);
-                self.put(&three_of(id));
-                self.put(&[feature]);
-                self.put(&eight_of(ra));
-                self.put(&eight_of(rb));
-            }
-            SaPdu::Au3 { .. } => {
-                self.put(&[header]);
-                self.put(&eight_of(ra));
-                self.put(&eight_of(rb));
-            }
-            SaPdu::Ar { .. } => self.put(&[header]),
-            SaPdu::Dt { user, .. } => {
-                self.put(&[header]);
-                self.put(user);
-            }
-        }
-    }
-
-    // Writes the length of what follows the first two octets over them.
-    fn put_length(&mut self)
-        requires { 2 ≤ length self.old }
-        ensures { self.new ≡ two (length self.old - 2) ++ drop 2 self.old }
+    // The text whose first two octets are the length of what follows them.
+    fn with_length(mut self) -> SealedText
+        requires { 2 ≤ length self }
+        ensures { result ≡ two (length self - 2) ++ drop 2 self }
     {
         let length = self.octets.len() - 2;
         let [high, low] = two_of(length as u16);
         self.octets[0] = high;
         self.octets[1] = low;
+        self
     }
 }

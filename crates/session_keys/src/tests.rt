@@ -1,6 +1,6 @@
 //! A known answer and outside vectors.
 
-use crate::derive;
+use crate::{Kmac, derive};
 use des_block::TripleKey;
 
 // KMAC, Ra, Rb and the session keys. Made by Python's package `cryptography` 48.0.0 (OpenSSL 3), TripleDES in
@@ -89,5 +89,7 @@ fn known_answer(rt: HostRuntime) {
 fn outside_vectors(rt: HostRuntime) {
     for (kmac, ra, rb, keys) in OUTSIDE {
         assert_eq!(rt; derive(&kmac, ra, rb), keys, "Ra {ra}");
+        let typed = Kmac::new(kmac).session_keys(ra, rb);
+        assert_eq!(rt; typed.key(), keys, "Ra {ra}, by types");
     }
 }

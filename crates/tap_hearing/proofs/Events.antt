@@ -5,15 +5,15 @@ use Rattle.er_base.specs.declared.release.Release.{Release}
 use Rattle.er_base.specs.declared.cause.Cause.{Cause}
 use Rattle.er_base.specs.declared.cause.Cause.TheVariants.{User, SetUpUnanswered, NoProgress, SetUpTimeSpent}
 use Rattle.er_base.specs.Causes.{release_of}
-use Rattle.station_model.specs.Stations.{Station, Deed, is_down, sees, puts}
-use Rattle.station_model.specs.Frames.{SetUp}
-use Rattle.station_model.specs.Sending.{gives_up, counts_expiry, starts_timer, sends_again, is_due, expires, expires_if_due, sends_waiting}
-use Rattle.station_model.specs.Calls as station
+use Rattle.hdlc_station_model.specs.Stations.{Station, Deed, is_down, sees, puts}
+use Rattle.hdlc_station_model.specs.Frames.{SetUp}
+use Rattle.hdlc_station_model.specs.Sending.{gives_up, counts_expiry, starts_timer, sends_again, is_due, expires, expires_if_due, sends_waiting}
+use Rattle.hdlc_station_model.specs.Calls as station
 use Rattle.safety_automaton.specs.Keys.{no_keys}
 use Rattle.safety_automaton.specs.Safety.{Safety, SafetyOutcome, DataRequest, DisconnectRequest, sent_by, step}
-use Rattle.end_model.specs.Outcomes.{SendRefusal}
-use Rattle.end_model.specs.Steps.{begins, begins_at, ends, departs, normal_disconnect, spoken, says, concludes, starts, sent, sends_unless, uses, leaves, is_spent, di_of, time_at, ticks, breaks}
-use Rattle.end_model.specs.Layers.{Core, model}
+use Rattle.er_end_model.specs.Outcomes.{SendRefusal}
+use Rattle.er_end_model.specs.Steps.{new_event, new_event_at, with_release, send_dr, normal_disconnect, with_safety_step, hand_text, conclude_event, step_start, on_send, step_send_unless, step_take, step_release, is_spent, di_of, on_expiry, step_tick, step_break}
+use Rattle.er_end_model.specs.Layers.{Core, model}
 use Rattle.tap_model.specs.Given.{received_by, received_unless}
 use Rattle.tap_hearing.proofs.Noting.{Tuned, tuned, Noted, noted, noted_if, waiting_tuned, concludes_noted, says_noted}
 use Rattle.tap_hearing.proofs.Sorting.{Nothing}
@@ -83,7 +83,7 @@ ticks_does opened calling s now c x p =
 module _ (opened calling : Bool) (x : Core) (l : Listens opened calling (noted x)) (now : ℕ) where
   -- the end as the event begins
   abbrev b : Core
-  b = begins_at model now x
+  b = new_event_at model now x
 
   abbrev Claim : Core → Type 0
   Claim y = Goes opened calling (noted x) [] (received_by y) (noted y)
@@ -103,64 +103,64 @@ module _ (opened calling : Bool) (x : Core) (l : Listens opened calling (noted x
   like : (y z : Core) → noted y ≡ noted z → Claim z → Claim y
   like y z e c = subst (λ (n : Noted). Goes opened calling (noted x) [] n.received n) (sym e) c
 
-  pub start_goes : Claim (starts model now x)
+  pub start_goes : Claim (step_start model now x)
   start_goes =
       let z : Core = record b { line = station.starts b.moment b.line } in
       let e : tuned z.line ≡ tuned b.line =
       subst (λ (s : Station). tuned (station.starts b.moment s) ≡ tuned s) (shaped opened calling b.line l.role l.plain l.stands) (starts_same opened calling b.line b.moment) in
-      same (starts model now x)
-      (noted_unless x.released b (concludes model z) l.live ∙ concludes_noted z ∙ ap (λ (u : Tuned). record (noted b) { line = u }) e)
+      same (step_start model now x)
+      (noted_unless x.released b (conclude_event model z) l.live ∙ concludes_noted z ∙ ap (λ (u : Tuned). record (noted b) { line = u }) e)
 
-  sent_goes : (user : List ℕ) → Claim (sent model user b)
+  sent_goes : (user : List ℕ) → Claim (on_send model user b)
   sent_goes user =
       let a : Safety × SafetyOutcome = step no_keys x.safe.safety (DataRequest user) in
-      let y : Core = spoken model (DataRequest user) a b in
+      let y : Core = with_safety_step model (DataRequest user) a b in
       let z : Core = record y { upper = model.sends y.upper user } in
-      same (sent model user b) (concludes_noted (says model (sent_by a.1) z) ∙ says_noted (sent_by a.1) z)
+      same (on_send model user b) (concludes_noted (hand_text model (sent_by a.1) z) ∙ says_noted (sent_by a.1) z)
 
   pub send_goes : (user : List ℕ) (r : Option SendRefusal)
-      → Goes opened calling (noted x) [] (received_unless r (sends_unless model r now user x)) (noted (sends_unless model r now user x))
+      → Goes opened calling (noted x) [] (received_unless r (step_send_unless model r now user x)) (noted (step_send_unless model r now user x))
   send_goes user (Some refusal) = steady opened calling (noted x) l x.line.deed (received_by x) (noted x) refl
   send_goes user None = sent_goes user
 
-  pub take_goes : Claim (uses model now x)
+  pub take_goes : Claim (step_take model now x)
   take_goes =
       let z : Core = record b { upper = model.uses b.upper } in
-      same (uses model now x) (noted_if (length x.upper.accepted - x.upper.used == 0) b (concludes model z) (record (noted b) { received = [] }) refl (concludes_noted z))
+      same (step_take model now x) (noted_if (length x.upper.accepted - x.upper.used == 0) b (conclude_event model z) (record (noted b) { received = [] }) refl (concludes_noted z))
 
-  pub leave_goes : (sub : ℕ) → Claim (leaves model now sub x)
+  pub leave_goes : (sub : ℕ) → Claim (step_release model now sub x)
   leave_goes sub =
       let a : Safety × SafetyOutcome = step no_keys x.safe.safety (DisconnectRequest sub) in
-      let z : Core = spoken model (DisconnectRequest sub) a b in
-      let y : Core = departs model (release_of (User sub)) normal_disconnect (sent_by a.1) z in
+      let z : Core = with_safety_step model (DisconnectRequest sub) a b in
+      let y : Core = send_dr model (release_of (User sub)) normal_disconnect (sent_by a.1) z in
       let left : LeftAs z y = departs_left (release_of (User sub)) normal_disconnect (sent_by a.1) z in
-      like (leaves model now sub x) y (noted_unless x.released b y l.live) (over y left.why left.released left.received left.taken)
+      like (step_release model now sub x) y (noted_unless x.released b y l.live) (over y left.why left.released left.received left.taken)
 
-  time_goes : (z : Core) → noted z ≡ record (noted b) { received = [] } → Claim (time_at model None z)
+  time_goes : (z : Core) → noted z ≡ record (noted b) { received = [] } → Claim (on_expiry model None z)
   time_goes z e = by (is_spent z)
     where
-      by : (spent : Bool) → Claim (if spent then departs model (release_of SetUpTimeSpent) normal_disconnect (di_of (release_of SetUpTimeSpent) z.safe.safety) z else z)
+      by : (spent : Bool) → Claim (if spent then send_dr model (release_of SetUpTimeSpent) normal_disconnect (di_of (release_of SetUpTimeSpent) z.safe.safety) z else z)
       by true =
-          let y : Core = departs model (release_of SetUpTimeSpent) normal_disconnect (di_of (release_of SetUpTimeSpent) z.safe.safety) z in
+          let y : Core = send_dr model (release_of SetUpTimeSpent) normal_disconnect (di_of (release_of SetUpTimeSpent) z.safe.safety) z in
           let left : LeftAs z y = departs_left (release_of SetUpTimeSpent) normal_disconnect (di_of (release_of SetUpTimeSpent) z.safe.safety) z in
           over y left.why left.released (left.received ∙ ap (λ (n : Noted). n.received) e) (left.taken ∙ ap (λ (n : Noted). n.line.taken) e)
       by false = same z e
 
-  pub tick_goes : Claim (ticks model now x)
+  pub tick_goes : Claim (step_tick model now x)
   tick_goes =
       let z : Core = record b { line = station.ticks b.moment b.line } in
-      let y : Core = time_at model z.line.deed.released z in
-      like (ticks model now x) y (noted_unless x.released b (concludes model y) l.live ∙ concludes_noted y)
+      let y : Core = on_expiry model z.line.deed.released z in
+      like (step_tick model now x) y (noted_unless x.released b (conclude_event model y) l.live ∙ concludes_noted y)
       (elim (ticks_does opened calling b.line b.moment l.role l.plain l.stands) [
         | inl e ↦
-            subst (λ (r : Option Release). Claim (time_at model r z)) (sym (ap (λ (u : Tuned). u.deed.released) e))
+            subst (λ (r : Option Release). Claim (on_expiry model r z)) (sym (ap (λ (u : Tuned). u.deed.released) e))
             (time_goes z (ap (λ (u : Tuned). record (noted b) { line = u; received = [] }) e))
         | inr left ↦
-            subst (λ (r : Option Release). Claim (time_at model r z)) (sym (ap (λ (u : Tuned). u.deed.released) left.1))
-            (over (ends left.0 z) left.0 refl refl (ap (λ (u : Tuned). u.taken) left.1))
+            subst (λ (r : Option Release). Claim (on_expiry model r z)) (sym (ap (λ (u : Tuned). u.deed.released) left.1))
+            (over (with_release left.0 z) left.0 refl refl (ap (λ (u : Tuned). u.taken) left.1))
       ])
 
-  pub break_goes : (cause : Cause) → Claim (breaks model cause x)
+  pub break_goes : (cause : Cause) → Claim (step_break model cause x)
   break_goes cause =
-      let y : Core = ends (release_of cause) (begins model x) in
-      like (breaks model cause x) y (noted_unless x.released (begins model x) y l.live) (over y (release_of cause) refl refl refl)
+      let y : Core = with_release (release_of cause) (new_event model x) in
+      like (step_break model cause x) y (noted_unless x.released (new_event model x) y l.live) (over y (release_of cause) refl refl refl)

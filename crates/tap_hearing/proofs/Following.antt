@@ -5,10 +5,10 @@ use Rattle.std.specs.Option.{option_to_list}
 use Rattle.er_base.specs.declared.release.Release.{Release}
 use Rattle.er_base.specs.declared.cause.Cause.TheVariants.{BlockRefused}
 use Rattle.er_base.specs.Causes.{release_of, by_this_end}
-use Rattle.station_model.specs.declared.phase.Phase.{Phase}
-use Rattle.station_model.specs.declared.phase.Phase.TheVariants.{Idle, Setting, Up, Down}
-use Rattle.station_model.specs.Stations.{Station, is_down}
-use Rattle.station_model.specs.Calls.{closes_at}
+use Rattle.hdlc_station_model.specs.declared.phase.Phase.{Phase}
+use Rattle.hdlc_station_model.specs.declared.phase.Phase.TheVariants.{Idle, Setting, Up, Down}
+use Rattle.hdlc_station_model.specs.Stations.{Station, is_down}
+use Rattle.hdlc_station_model.specs.Calls.{closes_at}
 use Rattle.t70_header.specs.Joining as joining
 use Rattle.x224_tpdu.specs.declared.fault.TpFault.{TpFault}
 use Rattle.x224_tpdu.specs.Spelling.{Pdu, connection_request, connection_confirm, disconnect_request, disconnect_confirm, data_tpdu, acknowledgement, tpdu_error}
@@ -22,8 +22,8 @@ use Rattle.x224_class2.specs.Transport.{Transport, Deed, Nothing, Called, Confir
 use Rattle.sapdu.specs.Spelling.{di_in}
 use Rattle.safety_automaton.specs.Reports.{Report, ToldAnswered, ToldConnected, ToldAccepted, ToldReleased, ToldIgnored, report_of}
 use Rattle.safety_automaton.specs.Safety.{Safety, SafetyOutcome, Received, peer_flag, sent_by, step}
-use Rattle.end_model.specs.Steps.{Finds, gives, gives_if_may, shuts, finishes, departs, cut_off, deserted, parts, why_of, normal_disconnect, spoken, is_some_octets, accepts, skips, Carrier, InCr, InCc, InDt, answers, keeps, acts, text_comes, does, tpdu_comes, block_at}
-use Rattle.end_model.specs.Layers.{Core, model}
+use Rattle.er_end_model.specs.Steps.{Finds, hand_tpdu, hand_tpdu_if_may, close_link, send_owed_answer, send_dr, answer_dr, end_after_di, on_safety_release, why_of, normal_disconnect, with_safety_step, is_some_octets, accept_text, skip_message, Carrier, InCr, InCc, InDt, hand_answer, keep_message, on_safety_report, on_text, on_transport_deed, on_tpdu, on_joined_block}
+use Rattle.er_end_model.specs.Layers.{Core, model}
 use Rattle.tap_model.specs.Given.{received_by}
 use Rattle.tap_model.specs.Ears.{Ear, Turn, GoesOn, Says, Parts, Ends, turn_at_data, turn_at_pdu, turn_at_block}
 use Rattle.tap_hearing.proofs.Noting.{Tuned, Noted, noted, noted_if, hands_tuned, finishes_tuned, says_noted}
@@ -76,35 +76,35 @@ closed_taken Setting s = refl
 closed_taken Up s = refl
 closed_taken Down s = refl
 
-shuts_both : (x : Core) → both (shuts model x) ≡ both x
+shuts_both : (x : Core) → both (close_link model x) ≡ both x
 shuts_both x = ap (λ (t : List (List ℕ)). (received_by x, t)) (closed_taken x.line.phase x.line)
 
-gives_both : (g : Given) (x : Core) → both (gives_if_may model g x) ≡ both x
+gives_both : (g : Given) (x : Core) → both (hand_tpdu_if_may model g x) ≡ both x
 gives_both g x =
-    both_if (model.may_send x.line) (gives model g x) x (both x)
+    both_if (model.may_send x.line) (hand_tpdu model g x) x (both x)
     (ap (λ (v : Tuned). (received_by x, v.taken)) (hands_tuned x.moment _ x.line)) refl
 
-finishes_both : (x : Core) → both (finishes model x) ≡ both x
+finishes_both : (x : Core) → both (send_owed_answer model x) ≡ both x
 finishes_both x = ap (λ (v : Tuned). (received_by x, v.taken)) (finishes_tuned x.line)
 
 left_by : (x y : Core) (why : Release) → y.released ≡ Some why → both y ≡ both x → LeftAs x y
 left_by x y why r e = record { why = why; released = r; received = ap (λ (b : Both). b.0) e; taken = ap (λ (b : Both). b.1) e }
 
-pub departs_left : (why : Release) (reason : ℕ) (user : List ℕ) (x : Core) → LeftAs x (departs model why reason user x)
+pub departs_left : (why : Release) (reason : ℕ) (user : List ℕ) (x : Core) → LeftAs x (send_dr model why reason user x)
 departs_left why reason user x =
-    let y : Core = gives_if_may model (Dr reason user) x in
-    left_by x (departs model why reason user x) why refl (shuts_both y ∙ gives_both (Dr reason user) x)
+    let y : Core = hand_tpdu_if_may model (Dr reason user) x in
+    left_by x (send_dr model why reason user x) why refl (shuts_both y ∙ gives_both (Dr reason user) x)
 
-cut_off_left : (why : Release) (x : Core) → LeftAs x (cut_off model why x)
+cut_off_left : (why : Release) (x : Core) → LeftAs x (answer_dr model why x)
 cut_off_left why x =
-    let y : Core = gives_if_may model Dc x in
-    left_by x (cut_off model why x) why refl (finishes_both y ∙ gives_both Dc x)
+    let y : Core = hand_tpdu_if_may model Dc x in
+    left_by x (answer_dr model why x) why refl (finishes_both y ∙ gives_both Dc x)
 
-parts_left : (why : Release) (di : List ℕ) (x : Core) → LeftAs x (parts model why di x)
+parts_left : (why : Release) (di : List ℕ) (x : Core) → LeftAs x (on_safety_release model why di x)
 parts_left why di x = by why.by_peer
   where
-    by : (b : Bool) → LeftAs x (if b then deserted model why x else departs model why normal_disconnect di x)
-    by true = left_by x (deserted model why x) why refl (shuts_both x)
+    by : (b : Bool) → LeftAs x (if b then end_after_di model why x else send_dr model why normal_disconnect di x)
+    by true = left_by x (end_after_di model why x) why refl (shuts_both x)
     by false = departs_left why normal_disconnect di x
 
 -- ---- a text
@@ -113,21 +113,21 @@ parts_left why di x = by why.by_peer
 abbrev Kept : Core → Core → Type 0
 Kept x y = (noted y ≡ noted x) ⊎ LeftAs x y
 
-accepts_noted : (text : List ℕ) (x : Core) → (noted x).over ≡ false → noted (accepts model text x) ≡ noted x
+accepts_noted : (text : List ℕ) (x : Core) → (noted x).over ≡ false → noted (accept_text model text x) ≡ noted x
 accepts_noted text x going =
     noted_if (is_some_octets text) _ x (noted x) (ap (λ (b : Bool). record (noted x) { over = b }) (sym going)) refl
 
-answers_noted : (by : Carrier) (text : List ℕ) (x : Core) → (noted x).over ≡ false → noted (answers model by text x) ≡ noted x
+answers_noted : (by : Carrier) (text : List ℕ) (x : Core) → (noted x).over ≡ false → noted (hand_answer model by text x) ≡ noted x
 answers_noted InCr text x going = accepts_noted text x going
 answers_noted InCc text x going = says_noted text x
-answers_noted InDt text x going = says_noted text (skips model x)
+answers_noted InDt text x going = says_noted text (skip_message model x)
 
-keeps_noted : (by : Carrier) (user : List ℕ) (x : Core) → noted (keeps model by user x) ≡ noted x
+keeps_noted : (by : Carrier) (user : List ℕ) (x : Core) → noted (keep_message model by user x) ≡ noted x
 keeps_noted InCr user x = refl
 keeps_noted InCc user x = refl
 keeps_noted InDt user x = refl
 
-acts_kept : (by : Carrier) (report : Report) (octets : List ℕ) (x : Core) → (noted x).over ≡ false → Kept x (acts model by report octets x)
+acts_kept : (by : Carrier) (report : Report) (octets : List ℕ) (x : Core) → (noted x).over ≡ false → Kept x (on_safety_report model by report octets x)
 acts_kept by ToldAnswered octets x going = inl (answers_noted by octets x going)
 acts_kept by (ToldConnected peer) octets x going = inl (answers_noted by octets x going)
 acts_kept by (ToldAccepted user) octets x going = inl (keeps_noted by user x)
@@ -195,10 +195,10 @@ module _ (calling : Bool) (finds : Finds) where
   silent x y turn none l = Silent l.why l.released (l.received ∙ none) l.taken
 
   text_follows : (x : Core) (by : Carrier) (text : List ℕ) (turn : Turn) → Listens true calling (noted x) → turn ≡ Says text (ear_at true (noted x))
-      → Follows calling x.line.taken turn (noted (text_comes model finds by text x))
+      → Follows calling x.line.taken turn (noted (on_text model finds by text x))
   text_follows x by text turn l t =
       let a : Safety × SafetyOutcome = step (finds x.moment) x.safe.safety (Received text) in
-      let z : Core = spoken model (Received text) a x in
+      let z : Core = with_safety_step model (Received text) a x in
       let n : Noted = record (noted x) { received = text ∷ [] } in
       elim (acts_kept by (report_of a.1) (sent_by a.1) z l.going) [
         | inl e ↦
@@ -211,7 +211,7 @@ module _ (calling : Bool) (finds : Finds) where
 
   -- behind what a reception came to
   abbrev behind : Transport × Deed → Core → Core
-  behind r x = does model finds r.1 (record x { upper = record (x.upper) { transport = r.0 } })
+  behind r x = on_transport_deed model finds r.1 (record x { upper = record (x.upper) { transport = r.0 } })
 
   module _ (x : Core) (l : Listens true calling (noted x)) (none : received_by x ≡ []) where
     abbrev t : Transport
@@ -238,7 +238,7 @@ module _ (calling : Bool) (finds : Finds) where
 
     -- it brought a text, and the transport has the same messages
     brought : (by : Carrier) (user : List ℕ) (u : Transport) → is_over u.stage ≡ false → u.contents ≡ t.contents
-        → Follows calling x.line.taken (Says user k) (noted (text_comes model finds by user (record x { upper = record (x.upper) { transport = u } })))
+        → Follows calling x.line.taken (Says user k) (noted (on_text model finds by user (record x { upper = record (x.upper) { transport = u } })))
     brought by user u over same =
         let y : Core = record x { upper = record (x.upper) { transport = u } } in
         let e : noted y ≡ noted x = listens_at u.stage u over same in
@@ -333,7 +333,7 @@ module _ (calling : Bool) (finds : Finds) where
     pdu_follows (Ok (tpdu_error dst cause)) = refusal_follows Ends tpdu_refused protocol_error
     pdu_follows (Err fault) = refusal_follows Ends tpdu_refused (dr_reason fault)
 
-    tpdu_follows : (tpdu : List ℕ) → Follows calling x.line.taken (turn_at_pdu k (reading tpdu)) (noted (tpdu_comes model finds tpdu x))
+    tpdu_follows : (tpdu : List ℕ) → Follows calling x.line.taken (turn_at_pdu k (reading tpdu)) (noted (on_tpdu model finds tpdu x))
     tpdu_follows tpdu =
         subst (λ (r : Transport × Deed). After (turn_at_pdu k (reading tpdu)) r) (sym (unless_over t.stage (reception t tpdu) l.going)) (pdu_follows (reading tpdu))
       where
@@ -341,7 +341,7 @@ module _ (calling : Bool) (finds : Finds) where
         unless_over stage r e = rw e refl
 
     -- ---- a block
-    pub block_follows : (answer : joining.Answer) → Follows calling x.line.taken (turn_at_block k answer) (noted (block_at model finds answer x))
+    pub block_follows : (answer : joining.Answer) → Follows calling x.line.taken (turn_at_block k answer) (noted (on_joined_block model finds answer x))
     block_follows (Ok None) = Live None none l refl refl
     block_follows (Ok (Some tpdu)) = tpdu_follows tpdu
-    block_follows (Err fault) = silent x (departs model (release_of BlockRefused) protocol_error [] x) Ends none (departs_left (release_of BlockRefused) protocol_error [] x)
+    block_follows (Err fault) = silent x (send_dr model (release_of BlockRefused) protocol_error [] x) Ends none (departs_left (release_of BlockRefused) protocol_error [] x)

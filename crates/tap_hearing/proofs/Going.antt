@@ -5,16 +5,16 @@ use Rattle.std.specs.Option.{option_to_list}
 use Rattle.er_base.specs.declared.release.Release.{Release}
 use Rattle.er_base.specs.declared.side.Side.{Side}
 use Rattle.hdlc_frames.specs.Framing.{Verdict}
-use Rattle.station_model.specs.declared.phase.Phase.TheVariants.{Up}
-use Rattle.station_model.specs.Stations.{Station, settled}
-use Rattle.station_model.specs.Stations as station
+use Rattle.hdlc_station_model.specs.declared.phase.Phase.TheVariants.{Up}
+use Rattle.hdlc_station_model.specs.Stations.{Station, settled}
+use Rattle.hdlc_station_model.specs.Stations as station
 use Rattle.t70_header.specs.Joining as joining
 use Rattle.x224_class2.specs.Segments.{text_so_far}
 use Rattle.safety_automaton.specs.Keys.{no_keys}
 use Rattle.safety_automaton.specs.Safety.{Safety, SafetyOutcome, ConnectRequest, sent_by, step}
-use Rattle.end_model.specs.Steps.{Finds, begins_at, spoken, is_some_octets, is_ready, connects, comes_up, block_at, link_comes, concludes, comes}
-use Rattle.end_model.specs.Layers.{Core, model}
-use Rattle.end_model.specs.Hearing.{station_behind}
+use Rattle.er_end_model.specs.Steps.{Finds, new_event_at, with_safety_step, is_some_octets, is_ready, connect_with_text, on_link_up, on_joined_block, on_link_deed, conclude_event, step_frame}
+use Rattle.er_end_model.specs.Layers.{Core, model}
+use Rattle.er_end_model.specs.Hearing.{station_behind}
 use Rattle.tap_model.specs.Hearing.{ReadFrame, read_frame, opens, ends, is_next, Hearing}
 use Rattle.tap_model.specs.Given.{received_by}
 use Rattle.tap_model.specs.Ears.{Ear, open_ear, hears, Turn, turn_at_block, behind_turn, HearingTurns}
@@ -49,12 +49,12 @@ pub data Goes (opened calling : Bool) (m : Noted) (frames : List ReadFrame) (giv
 
 -- an end that isn't released, behind a frame for which its station tells this
 came : (finds : Finds) (now : ℕ) (v : Verdict) (x : Core) (d : station.Deed) → x.released ≡ None → (station_behind x now v).deed ≡ d
-    → noted (comes model finds now v x) ≡ noted (link_comes model finds d (record (begins_at model now x) { line = station_behind x now v }))
+    → noted (step_frame model finds now v x) ≡ noted (on_link_deed model finds d (record (new_event_at model now x) { line = station_behind x now v }))
 came finds now v x d live told =
-    let z : Core = record (begins_at model now x) { line = station_behind x now v } in
-    unless_released x.released (begins_at model now x) (concludes model (link_comes model finds (station_behind x now v).deed z)) live
-    ∙ ap (λ (e : station.Deed). noted (concludes model (link_comes model finds e z))) told
-    ∙ concludes_noted (link_comes model finds d z)
+    let z : Core = record (new_event_at model now x) { line = station_behind x now v } in
+    unless_released x.released (new_event_at model now x) (conclude_event model (on_link_deed model finds (station_behind x now v).deed z)) live
+    ∙ ap (λ (e : station.Deed). noted (conclude_event model (on_link_deed model finds e z))) told
+    ∙ concludes_noted (on_link_deed model finds d z)
   where
     unless_released : (r : Option Release) (a b : Core) → r ≡ None → noted (if is_some r then a else b) ≡ noted b
     unless_released None a b e = refl
@@ -102,7 +102,7 @@ module _ (turns : HearingTurns) (calling : Bool) (finds : Finds) (now : ℕ) (v 
 
   -- the end behind its station
   abbrev z : Core
-  z = record (begins_at model now x) { line = station_behind x now v }
+  z = record (new_event_at model now x) { line = station_behind x now v }
 
   abbrev k : Ear
   k = ear_at opened (noted x)
@@ -124,18 +124,18 @@ module _ (turns : HearingTurns) (calling : Bool) (finds : Finds) (now : ℕ) (v 
       subst (λ (given : List (List ℕ)). Goes opened calling (noted x) read given n) (sym g)
       (Left why [] r (λ rest. ((hears side k (read ++ rest)).texts, refl)) (λ rest. (pieces side k (read ++ rest), refl)) (t ∙ sym (append-nil x.line.taken)) (omega arith))
 
-  left_goes : IsLeft x.line (station_behind x now v) → Claim (noted (comes model finds now v x))
+  left_goes : IsLeft x.line (station_behind x now v) → Claim (noted (step_frame model finds now v x))
   left_goes left =
       let d : station.Deed = record { up = false; payload = None; more = []; released = Some left.0 } in
       let e = came finds now v x d l.live (ap (λ (u : Tuned). u.deed) left.1) in
-      nothing_left (noted (comes model finds now v x)) left.0 (ap (λ (n : Noted). n.released) e) (ap (λ (n : Noted). n.received) e)
+      nothing_left (noted (step_frame model finds now v x)) left.0 (ap (λ (n : Noted). n.released) e) (ap (λ (n : Noted). n.received) e)
       (ap (λ (n : Noted). n.line.taken) e ∙ ap (λ (u : Tuned). u.taken) left.1)
 
   -- nothing is heard, and nothing was given or taken
-  same_goes : weight_in opened side k.count read ≡ Nothing → tuned (station_behind x now v) ≡ tuned (settled x.line) → Claim (noted (comes model finds now v x))
+  same_goes : weight_in opened side k.count read ≡ Nothing → tuned (station_behind x now v) ≡ tuned (settled x.line) → Claim (noted (step_frame model finds now v x))
   same_goes is same =
       let n : Noted = record (noted x) { line = tuned (settled x.line); received = [] } in
-      let e : noted (comes model finds now v x) ≡ n =
+      let e : noted (step_frame model finds now v x) ≡ n =
       came finds now v x station.no_deed l.live (ap (λ (u : Tuned). u.deed) same) ∙ ap (λ (u : Tuned). record (noted x) { line = u; received = [] }) same in
       subst Claim (sym e)
       (Lives opened [] (record { live = l.live; role = l.role; plain = l.plain; stands = l.stands; going = l.going; fresh = λ f. record { taken = (l.fresh f).taken; joined = (l.fresh f).joined; contents = (l.fresh f).contents } })
@@ -145,19 +145,19 @@ module _ (turns : HearingTurns) (calling : Bool) (finds : Finds) (now : ℕ) (v 
   abbrev up_line : Tuned
   up_line = record (tuned (settled x.line)) { phase = Up; deed = record { up = true; payload = None; more = []; released = None } }
 
-  up_noted : noted (comes_up model z) ≡ record (noted z) { received = [] }
+  up_noted : noted (on_link_up model z) ≡ record (noted z) { received = [] }
   up_noted =
       let a : Safety × SafetyOutcome = step no_keys z.safe.safety ConnectRequest in
-      let s : Core = spoken model ConnectRequest a z in
-      noted_if (model.may_connect z.upper && is_ready z.safe.safety.phase) (connects model (sent_by a.1) s) z (record (noted z) { received = [] })
+      let s : Core = with_safety_step model ConnectRequest a z in
+      noted_if (model.may_connect z.upper && is_ready z.safe.safety.phase) (connect_with_text model (sent_by a.1) s) z (record (noted z) { received = [] })
       (noted_if (is_some_octets (sent_by a.1)) _ s (record (noted z) { received = [] }) (ap (λ (b : Bool). record (noted z) { over = b; received = [] }) (sym l.going)) refl)
       refl
 
-  up_goes : opened ≡ false → weight_in opened side k.count read ≡ Opens → tuned (station_behind x now v) ≡ up_line → Claim (noted (comes model finds now v x))
+  up_goes : opened ≡ false → weight_in opened side k.count read ≡ Opens → tuned (station_behind x now v) ≡ up_line → Claim (noted (step_frame model finds now v x))
   up_goes closed is up =
       let n : Noted = record (noted x) { line = up_line; received = [] } in
       let f : Fresh (noted x) = l.fresh closed in
-      let e : noted (comes model finds now v x) ≡ n =
+      let e : noted (step_frame model finds now v x) ≡ n =
       came finds now v x (record { up = true; payload = None; more = []; released = None }) l.live (ap (λ (u : Tuned). u.deed) up)
       ∙ up_noted ∙ ap (λ (u : Tuned). record (noted x) { line = u; received = [] }) up in
       let anew : open_ear ≡ ear_at true n =
@@ -236,14 +236,14 @@ module _ (turns : HearingTurns) (calling : Bool) (finds : Finds) (now : ℕ) (v 
         (λ rest. (pieces side (ear_at true (noted w)) rest, pieces_then rest))
         (taken ∙ w_taken) (omega arith))
 
-    payload_goes : Claim (noted (comes model finds now v x))
+    payload_goes : Claim (noted (step_frame model finds now v x))
     payload_goes =
         let e = came finds now v x (record { up = false; payload = Some piece; more = []; released = None }) l.live (ap (λ (u : Tuned). u.deed) took) in
-        subst Claim (sym e) (follows_goes (noted (block_at model finds joined.1 w)) (block_follows calling finds w w_listens refl joined.1))
+        subst Claim (sym e) (follows_goes (noted (on_joined_block model finds joined.1 w)) (block_follows calling finds w w_listens refl joined.1))
 
   -- ---- whatever the frame is
 
-  weighs_goes : (u : Weight) → weight_in opened side k.count read ≡ u → Does u (settled x.line) (station_behind x now v) → Claim (noted (comes model finds now v x))
+  weighs_goes : (u : Weight) → weight_in opened side k.count read ≡ u → Does u (settled x.line) (station_behind x now v) → Claim (noted (step_frame model finds now v x))
   weighs_goes Nothing is (inl same) = same_goes is same
   weighs_goes Nothing is (inr left) = left_goes left
   weighs_goes Opens is (inl up) = up_goes (closed_by opened side k.count read is) is up
@@ -252,7 +252,7 @@ module _ (turns : HearingTurns) (calling : Bool) (finds : Finds) (now : ℕ) (v 
   weighs_goes (Counts piece) is (inr left) = left_goes left
   weighs_goes EndsIt is left = left_goes left
 
-  pub frame_goes : Goes opened calling (noted x) read (received_by (comes model finds now v x)) (noted (comes model finds now v x))
+  pub frame_goes : Goes opened calling (noted x) read (received_by (step_frame model finds now v x)) (noted (step_frame model finds now v x))
   frame_goes =
       let u : Weight = weight_in opened side k.count read in
       weighs_goes u refl (station_does opened calling (settled x.line) (max x.moment now) v l.role l.plain l.stands)

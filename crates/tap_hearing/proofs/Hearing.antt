@@ -6,19 +6,19 @@ use Rattle.std.proofs.lemmas.Grind.{flat_map-append}
 use Rattle.er_base.specs.declared.cause.Cause.TheVariants.{LineEnded, LineFailed, LineStalled}
 use Rattle.er_base.specs.declared.side.Side.{Side}
 use Rattle.er_base.specs.declared.side.Side.TheVariants.{E, R}
-use Rattle.er_settings.specs.declared.settings.Settings.{Settings}
+use Rattle.er_settings.specs.Values.{Settings}
 use Rattle.des_block.specs.declared.triple_key.TripleKey.{TripleKey}
 use Rattle.hdlc_frames.specs.Framing.{Verdict, cut, all_but_last, between_flags, frames_of}
 use Rattle.hdlc_frames.specs.Laws.{KeptStandsForStream}
 use Rattle.hdlc_frames.specs.Deframing as deframing
-use Rattle.station_model.specs.Stations.{no_deed}
-use Rattle.station_model.specs.Calls as station
-use Rattle.station_model.specs.Events.{news}
+use Rattle.hdlc_station_model.specs.Stations.{no_deed}
+use Rattle.hdlc_station_model.specs.Calls as station
+use Rattle.hdlc_station_model.specs.Events.{news}
 use Rattle.x224_class2.specs.Segments.{text_so_far}
-use Rattle.end_model.specs.Steps.{Finds, begins_at, comes, refusal_of}
-use Rattle.end_model.specs.Layers.{Core, model}
-use Rattle.end_model.specs.Ends.{Call, Answer, Event, Start, Come, Send, Take, Leave, Tick, Ended, Fault, Stalled, End, Moment, opened, hears_each, step, run}
-use Rattle.end_model.specs.Origins.{octets_in}
+use Rattle.er_end_model.specs.Steps.{Finds, new_event_at, step_frame, refusal_of}
+use Rattle.er_end_model.specs.Layers.{Core, model}
+use Rattle.er_end_model.specs.Ends.{Call, Answer, Event, Start, Come, Send, Take, Leave, Tick, Ended, Fault, Stalled, End, Moment, opened, hears_each, step, run}
+use Rattle.er_end_model.specs.Origins.{octets_in}
 use Rattle.tap_model.specs.Hearing.{ReadFrame, read_frame, frames_read, payloads, Hearing, silence, heard}
 use Rattle.tap_model.specs.Given.{received_by, received_of_each, received_at, received, octets_of, IsBegun, IsPrefix, IsHeard, GivenIsHeard}
 use Rattle.tap_model.specs.Ears.{Ear, new_ear, hears, HearingTurns}
@@ -111,7 +111,7 @@ module _ (turns : HearingTurns) (calling : Bool) where
   unfolding frames_read
   each_goes finds now [] x opened l = steady opened calling (noted x) l x.line.deed (received_by x) (noted x) refl
   each_goes finds now (v ∷ vs) x opened l =
-      let y : Core = comes model finds now v x in
+      let y : Core = step_frame model finds now v x in
       then_goes opened calling (noted x) (read_frame v) (received_by y) (noted y) (frames_read vs) (received_of_each finds now vs y) (noted (hears_each finds now vs y))
       (λ o k. each_goes finds now vs y o k) (λ why r. each_rests finds now vs y why r) (frame_goes turns calling finds now v x opened l)
 
@@ -120,7 +120,7 @@ module _ (turns : HearingTurns) (calling : Bool) where
   unfolding frames_read
   event_goes now Start m opened l = start_goes opened calling m.core l now
   event_goes now (Come finds octets) m opened l =
-      let b : Core = begins_at model now m.core in
+      let b : Core = new_event_at model now m.core in
       let vs : List Verdict = news m.stream octets in
       then_goes opened calling (noted m.core) [] [] (noted b) (frames_read vs) (received_of_each finds now vs b) (noted (hears_each finds now vs b))
       (λ o k. each_goes finds now vs b o k) (λ why r. each_rests finds now vs b why r) (steady opened calling (noted m.core) l no_deed [] (noted b) refl)
@@ -248,7 +248,7 @@ module _ (stands : KeptStandsForStream) (turns : HearingTurns) where
 
       -- its line, before anything goes down
       abbrev ready : Core
-      ready = let b = begins_at model at caller.core in record b { line = station.starts b.moment b.line }
+      ready = let b = new_event_at model at caller.core in record b { line = station.starts b.moment b.line }
 
       is_ready : noted started.core ≡ noted ready
       is_ready = concludes_noted ready

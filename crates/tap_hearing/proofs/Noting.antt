@@ -2,17 +2,17 @@
 use Rattle.std.proofs.Common.{◌≡◌, ◌∙◌, ℕ, zero, suc, Bool, true, false, ◌&&◌, List, [], ◌∷◌, ◌++◌, Option, Some, None, refl, ap}
 use Rattle.std.specs.Prelude.{is_some, if◌then◌else◌}
 use Rattle.er_base.specs.declared.release.Release.{Release}
-use Rattle.station_model.specs.declared.phase.Phase.{Phase}
-use Rattle.station_model.specs.Stations.{Station, Deed, is_down, sees}
-use Rattle.station_model.specs.Sending.{can_send, waiting, sends_next, sends_up_to, sends_waiting, settles}
-use Rattle.station_model.specs.Calls.{hands, finishes}
+use Rattle.hdlc_station_model.specs.declared.phase.Phase.{Phase}
+use Rattle.hdlc_station_model.specs.Stations.{Station, Deed, is_down, sees}
+use Rattle.hdlc_station_model.specs.Sending.{can_send, waiting, sends_next, sends_up_to, sends_waiting, settles}
+use Rattle.hdlc_station_model.specs.Calls.{hands, finishes}
 use Rattle.t70_header.specs.Blocks.{last_block}
 use Rattle.x224_class2.specs.declared.stage.Stage.{Stage}
 use Rattle.x224_class2.specs.Segments.{Segment}
 use Rattle.x224_class2.specs.Tpdus.{Given}
 use Rattle.x224_class2.specs.Transport.{Transport, is_over, Turn, Rest, Opening, Acknowledgement, Data, turn_of, state_behind, with_given, next_tpdu}
-use Rattle.end_model.specs.Steps.{is_some_octets, says, gives_next, goes_on, offers, most_offers, concludes}
-use Rattle.end_model.specs.Layers.{Core, model}
+use Rattle.er_end_model.specs.Steps.{is_some_octets, hand_text, hand_next_tpdu, has_next_tpdu, hand_waiting_tpdus, most_offers, conclude_event}
+use Rattle.er_end_model.specs.Layers.{Core, model}
 use Rattle.tap_model.specs.Given.{received_by}
 
 -- ---- a station
@@ -84,25 +84,25 @@ turn_keeps t Acknowledgement (Some g) = (refl, refl)
 turn_keeps t Data None = (refl, refl)
 turn_keeps t Data (Some g) = (refl, refl)
 
-next_noted : (x : Core) → noted (gives_next model x) ≡ noted x
+next_noted : (x : Core) → noted (hand_next_tpdu model x) ≡ noted x
 next_noted x =
     let t : Transport = x.upper.transport in
     let k = turn_keeps t (turn_of t) (next_tpdu t) in
-    ap (λ (v : Tuned). record (noted (gives_next model x)) { line = v }) (hands_tuned x.moment (last_block (model.next x.upper)) x.line)
-    ∙ ap (λ (s : Stage). record (noted x) { over = is_over s; contents = (gives_next model x).upper.transport.contents }) k.0
+    ap (λ (v : Tuned). record (noted (hand_next_tpdu model x)) { line = v }) (hands_tuned x.moment (last_block (model.next x.upper)) x.line)
+    ∙ ap (λ (s : Stage). record (noted x) { over = is_over s; contents = (hand_next_tpdu model x).upper.transport.contents }) k.0
     ∙ ap (λ (c : List Segment). record (noted x) { contents = c }) k.1
 
-offers_noted : (n : ℕ) (x : Core) → noted (offers model n x) ≡ noted x
-unfolding offers
+offers_noted : (n : ℕ) (x : Core) → noted (hand_waiting_tpdus model n x) ≡ noted x
+unfolding hand_waiting_tpdus
 offers_noted zero x = refl
 offers_noted (suc n) x =
-    noted_if (goes_on model x) (offers model n (gives_next model x)) x (noted x) (offers_noted n (gives_next model x) ∙ next_noted x) refl
+    noted_if (has_next_tpdu model x) (hand_waiting_tpdus model n (hand_next_tpdu model x)) x (noted x) (offers_noted n (hand_next_tpdu model x) ∙ next_noted x) refl
 
-pub concludes_noted : (x : Core) → noted (concludes model x) ≡ noted x
+pub concludes_noted : (x : Core) → noted (conclude_event model x) ≡ noted x
 concludes_noted x =
-    let y : Core = offers model most_offers x in
+    let y : Core = hand_waiting_tpdus model most_offers x in
     noted_if (is_some x.released) x (record y { line = finishes y.line }) (noted x) refl
     (ap (λ (v : Tuned). record (noted y) { line = v }) (finishes_tuned y.line) ∙ offers_noted most_offers x)
 
-pub says_noted : (text : List ℕ) (x : Core) → noted (says model text x) ≡ noted x
+pub says_noted : (text : List ℕ) (x : Core) → noted (hand_text model text x) ≡ noted x
 says_noted text x = noted_if (is_some_octets text && model.may_hand x.upper) _ x (noted x) refl refl

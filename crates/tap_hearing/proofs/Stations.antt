@@ -10,12 +10,12 @@ use Rattle.er_base.specs.declared.side.Side.{Side}
 use Rattle.er_base.specs.declared.side.Side.TheVariants.{E, R}
 use Rattle.hdlc_frames.specs.declared.controls.Control.{Control}
 use Rattle.hdlc_frames.specs.declared.controls.Control.TheVariants as control
-use Rattle.station_model.specs.declared.phase.Phase.{Phase}
-use Rattle.station_model.specs.declared.phase.Phase.TheVariants.{Idle, Setting, Up, Down}
-use Rattle.station_model.specs.Stations.{Station}
-use Rattle.station_model.specs.Sending.{releases, refuses_frame}
-use Rattle.station_model.specs.Receiving.{strays, is_some_octets, errs, acknowledges, acknowledging, named, accepts, rejects, takes, marks_busy, repeats_rejected, agrees, comes_up, sets_up_again, hears_control, hears_frame, hears}
-use Rattle.station_model.specs.Receiving as station
+use Rattle.hdlc_station_model.specs.declared.phase.Phase.{Phase}
+use Rattle.hdlc_station_model.specs.declared.phase.Phase.TheVariants.{Idle, Setting, Up, Down}
+use Rattle.hdlc_station_model.specs.Stations.{Station}
+use Rattle.hdlc_station_model.specs.Sending.{releases, refuses_frame}
+use Rattle.hdlc_station_model.specs.Receiving.{strays, is_some_octets, errs, acknowledges, acknowledging, named, accepts, rejects, takes, marks_busy, repeats_rejected, agrees, comes_up, sets_up_again, hears_control, hears_frame, hears}
+use Rattle.hdlc_station_model.specs.Receiving as station
 use Rattle.tap_model.specs.Hearing.{ReadFrame}
 use Rattle.tap_hearing.proofs.Noting.{Tuned, tuned}
 use Rattle.tap_hearing.proofs.Sorting.{Weight, Nothing, Opens, Counts, EndsIt, weight_if}

@@ -9,11 +9,11 @@ use Rattle.hdlc_frames.specs.declared.controls.Control.{Control}
 use Rattle.hdlc_frames.specs.declared.controls.Control.TheVariants as control
 use Rattle.hdlc_frames.specs.ControlOctets.{unnumbered_at, control_at, control_of}
 use Rattle.hdlc_frames.specs.Framing.{Verdict, Frame, BadFcs, TooShort, TooLong, Aborted}
-use Rattle.station_model.specs.declared.phase.Phase.{Phase}
-use Rattle.station_model.specs.Stations.{Station, is_down, sees}
-use Rattle.station_model.specs.Sending.{sends_waiting}
-use Rattle.station_model.specs.Receiving.{strays, hears_control, hears_frame, hears}
-use Rattle.station_model.specs.Calls.{receives}
+use Rattle.hdlc_station_model.specs.declared.phase.Phase.{Phase}
+use Rattle.hdlc_station_model.specs.Stations.{Station, is_down, sees}
+use Rattle.hdlc_station_model.specs.Sending.{sends_waiting}
+use Rattle.hdlc_station_model.specs.Receiving.{strays, hears_control, hears_frame, hears}
+use Rattle.hdlc_station_model.specs.Calls.{receives}
 use Rattle.tap_model.specs.Hearing.{read_as, read_frame, address_of, Sort, Carries, SetsUp, Agrees, Disconnects, Leaves, Passes, sort_of, is_end, has_number}
 use Rattle.tap_hearing.proofs.Noting.{tuned, waiting_tuned}
 use Rattle.tap_hearing.proofs.Sorting.{Weight, Nothing, Opens, Counts, EndsIt, weight_if, weight_in, IsOne}

@@ -12,14 +12,14 @@ use Rattle.x224_tpdu.specs.Function.{reading}
 use Rattle.sapdu.specs.Spelling.{Au1, Au2, read_of}
 use Rattle.sapdu.specs.Spelling as sapdu
 use Rattle.safety_automaton.specs.Safety.{Connection, Phase}
-use Rattle.end_model.specs.Steps.{Finds}
-use Rattle.end_model.specs.Ends.{Opening, End}
+use Rattle.er_end_model.specs.Steps.{Finds}
+use Rattle.er_end_model.specs.Ends.{Opening, End}
 use Rattle.tap_model.specs.Hearing.{payloads, tpdu_before, tpdus_from, pdu_before, pdus_in, Hearing, texts_from, heard_of, heard, items}
 use Rattle.tap_model.specs.Given.{IsPrefix, IsHeard}
 use Rattle.tap_model.specs.Verdicts.{number_of, first_number}
-use Rattle.end_pair.specs.Openings as pair
+use Rattle.er_end_pair_laws.specs.Openings as pair
 use Rattle.tap_laws.specs.Progress.{GotAll, GotsNone, GotsOne, GotsAll, Stage, Begins, Waits, Speaks, Gone}
-use Rattle.end_pair.specs.Greetings.{IsCall, IsAnswer, Confirms, Parts, StartsWith}
+use Rattle.er_end_pair_laws.specs.Greetings.{IsCall, IsAnswer, Confirms, Parts, StartsWith}
 use Rattle.tap_laws.proofs.Finding.{IsFront}
 
 -- ---- lists that begin

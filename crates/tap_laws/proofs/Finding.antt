@@ -7,8 +7,8 @@ use Rattle.er_base.specs.declared.side.Side.{Side}
 use Rattle.des_block.specs.declared.triple_key.TripleKey.{TripleKey}
 use Rattle.safety_automaton.specs.Safety.{Connection, Phase}
 use Rattle.safety_automaton.specs.Rules.{IsOpen}
-use Rattle.end_model.specs.Steps.{Finds}
-use Rattle.end_model.specs.Ends.{Opening, Call, Answer, End}
+use Rattle.er_end_model.specs.Steps.{Finds}
+use Rattle.er_end_model.specs.Ends.{Opening, Call, Answer, End}
 use Rattle.tap_model.specs.Hearing.{heard, items}
 use Rattle.tap_model.specs.Given.{sender_to, IsPrefix, IsHeard}
 use Rattle.tap_model.specs.Verdicts.{Session, Known, side_flag, receiver_of, judged_from, good_texts}

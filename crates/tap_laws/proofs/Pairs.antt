@@ -7,13 +7,13 @@ use Rattle.session_keys.specs.Session.{session_of}
 use Rattle.t70_header.specs.Joining.{WrappedIsJoined}
 use Rattle.sapdu.specs.Spelling.{Pdu, Au1, Au2, Au3, Ar, Dt, Di, read_of}
 use Rattle.safety_automaton.specs.Rules.{IsOpen}
-use Rattle.end_model.specs.Ends.{End, Moment, opened, run}
-use Rattle.end_model.specs.Ends as end
-use Rattle.end_model.specs.Origins.{StreamIsWhole}
-use Rattle.end_pair.specs.Openings.{Opening, Agree}
-use Rattle.end_pair.specs.Steps.{LinkStep, AllFit}
-use Rattle.end_pair.specs.Laws.{after, Prefix}
-use Rattle.end_pair.specs.Greetings.{Greets}
+use Rattle.er_end_model.specs.Ends.{End, Moment, opened, run}
+use Rattle.er_end_model.specs.Ends as end
+use Rattle.er_end_model.specs.Origins.{StreamIsWhole}
+use Rattle.er_end_pair_laws.specs.Openings.{Opening, Agree}
+use Rattle.er_end_pair_laws.specs.Steps.{LinkStep, AllFit}
+use Rattle.er_end_pair_laws.specs.Laws.{after, Prefix}
+use Rattle.er_end_pair_laws.specs.Greetings.{Greets}
 use Rattle.tap_model.specs.Hearing.{heard, items}
 use Rattle.tap_model.specs.Given.{received, octets_of, IsPrefix, IsHeard, GivenIsHeard}
 use Rattle.tap_model.specs.Verdicts.{Read, rb_in, ra_in, number_of, first_number, session_with}

@@ -6,7 +6,7 @@ use Rattle.er_base.specs.declared.release.Release.{Release}
 use Rattle.er_base.specs.declared.cause.Cause.TheVariants.{LineEnded, LineFailed, LineStalled}
 use Rattle.des_block.specs.declared.triple_key.TripleKey.{TripleKey}
 use Rattle.hdlc_frames.specs.Framing.{Verdict}
-use Rattle.station_model.specs.Events.{news}
+use Rattle.hdlc_station_model.specs.Events.{news}
 use Rattle.sapdu.specs.Messages.{is_message}
 use Rattle.safety_automaton.specs.Keys.{no_keys}
 use Rattle.safety_automaton.specs.Reports.{KeptSafe}
@@ -15,11 +15,11 @@ use Rattle.safety_automaton.specs.Safety as safety
 use Rattle.safety_automaton.specs.Rules.{StepsOnly}
 use Rattle.safety_automaton.specs.Rules as rules
 use Rattle.safety_automaton.specs.Laws.{StaysItself}
-use Rattle.end_model.specs.Outcomes.{SendRefusal}
-use Rattle.end_model.specs.Steps.{Finds, begins_at, comes, starts, refusal_at, refusal_of, sent, sends_unless, uses, leaves, ticks, breaks, is_connected}
-use Rattle.end_model.specs.Layers.{Spoken, Core, model}
-use Rattle.end_model.specs.Laws.{IsStep, IsSane, SpeaksOnce, EventsSpeakOnce}
-use Rattle.end_model.specs.Ends.{Opening, Call, Answer, Event, Start, Come, Send, Take, Leave, Tick, Ended, Fault, Stalled, End, Moment, opened, hears_each, step, run}
+use Rattle.er_end_model.specs.Outcomes.{SendRefusal}
+use Rattle.er_end_model.specs.Steps.{Finds, new_event_at, step_frame, step_start, refusal_at, refusal_of, on_send, step_send_unless, step_take, step_release, step_tick, step_break, is_connected}
+use Rattle.er_end_model.specs.Layers.{Spoken, Core, model}
+use Rattle.er_end_model.specs.Laws.{IsStep, IsSane, SpeaksOnce, EventsSpeakOnce}
+use Rattle.er_end_model.specs.Ends.{Opening, Call, Answer, Event, Start, Come, Send, Take, Leave, Tick, Ended, Fault, Stalled, End, Moment, opened, hears_each, step, run}
 use Rattle.tap_model.specs.Given.{received_in, received_of, received_by, received_of_each, received_unless, received_at, received}
 use Rattle.tap_laws.specs.Progress.{number_of, role_of, IsFound, LooksUp, AllLookUp, GotNone, Stage, Begins, Speaks, Progresses, SidesProgress}
 use Rattle.tap_laws.proofs.Stages.{level, stays, speaks_of, step_stage}
@@ -97,11 +97,11 @@ module _ (steps : StepsOnly) (itself : StaysItself) (once : EventsSpeakOnce) (fi
         )
 
     -- with what was sent
-    follows : (sent : List (List ℕ)) → SpeaksOnce key_of x y → Grows x.upper.accepted sent (lists y)
+    follows : (on_send : List (List ℕ)) → SpeaksOnce key_of x y → Grows x.upper.accepted on_send (lists y)
         → (Stage finds o y.safe.safety.phase (given ++ received_by y) (x.upper.accepted ++ option_to_list y.upper.news) x.upper.sent
-        → Stage finds o y.safe.safety.phase (given ++ received_by y) (x.upper.accepted ++ option_to_list y.upper.news) sent)
+        → Stage finds o y.safe.safety.phase (given ++ received_by y) (x.upper.accepted ++ option_to_list y.upper.news) on_send)
         → Progresses finds o (given ++ received_by y) y
-    follows sent speaks grows more =
+    follows on_send speaks grows more =
         let h = by_spoke y.upper.spoke speaks.step in
         record {
           me = h.0;
@@ -124,9 +124,9 @@ module _ (steps : StepsOnly) (itself : StaysItself) (once : EventsSpeakOnce) (fi
   nothing_given given x p = subst (λ (g : List (List ℕ)). Stands g x) (sym (append-nil given)) p
 
   frame_stands : (now : ℕ) (v : Verdict) (given : List (List ℕ)) (x : Core) → Stands given x
-      → Stands (given ++ received_by (comes model finds now v x)) (comes model finds now v x)
+      → Stands (given ++ received_by (step_frame model finds now v x)) (step_frame model finds now v x)
   frame_stands now v given x p =
-      let y : Core = comes model finds now v x in
+      let y : Core = step_frame model finds now v x in
       let speaks = once.comes finds now v x p.1 in
       (follows_so (finds (max x.moment now)) (λ engine rbc kmac e. (max x.moment now, e)) given x y p.0 speaks (comes_grow now x finds v), speaks.sane)
 
@@ -134,15 +134,15 @@ module _ (steps : StepsOnly) (itself : StaysItself) (once : EventsSpeakOnce) (fi
       → Stands (given ++ received_of_each finds now vs x) (hears_each finds now vs x)
   each_stands now [] given x p = nothing_given given x p
   each_stands now (v ∷ vs) given x p =
-      let y : Core = comes model finds now v x in
+      let y : Core = step_frame model finds now v x in
       subst (λ (g : List (List ℕ)). Stands g (hears_each finds now vs y)) (append_assoc given (received_by y) (received_of_each finds now vs y))
       (each_stands now vs (given ++ received_by y) y (frame_stands now v given x p))
 
   send_stands : (now : ℕ) (user : List ℕ) (given : List (List ℕ)) (x : Core) (r : Option SendRefusal) → refusal_of model user x ≡ r → Stands given x
-      → Stands (given ++ received_unless r (sends_unless model r now user x)) (sends_unless model r now user x)
+      → Stands (given ++ received_unless r (step_send_unless model r now user x)) (step_send_unless model r now user x)
   send_stands now user given x (Some refusal) e p = nothing_given given x p
   send_stands now user given x None e p =
-      let y : Core = sent model user (begins_at model now x) in
+      let y : Core = on_send model user (new_event_at model now x) in
       let speaks = once.sends now user x p.1 in
       let c : is_connected x.safe.safety.phase ≡ true = may_send x.released (is_connected x.safe.safety.phase) user (model.waiting x.upper) e in
       let kept : y.safe.safety ≡ x.safe.safety = sent_safe now x user ∙ send_stays x.safe.safety x.safe.safety.phase user c in (
@@ -156,17 +156,17 @@ module _ (steps : StepsOnly) (itself : StaysItself) (once : EventsSpeakOnce) (fi
 
   event_stands : (now : ℕ) (event : Event) (m : End) (given : List (List ℕ)) → LooksUp finds event → Stands given m.core
       → Stands (given ++ received_at now event m) (step now event m).0.core
-  event_stands now Start m given looks p = plain_stands given m.core (starts model now m.core) p (once.starts now m.core p.1) (starts_grow now m.core)
+  event_stands now Start m given looks p = plain_stands given m.core (step_start model now m.core) p (once.starts now m.core p.1) (starts_grow now m.core)
   event_stands now (Come own octets) m given looks p =
       subst (λ (f : Finds). Stands (given ++ received_at now (Come f octets) m) (step now (Come f octets) m).0.core) (sym looks)
-      (each_stands now (news m.stream octets) given (begins_at model now m.core) (record { me = p.0.me; role = p.0.role; stage = p.0.stage }, p.1))
+      (each_stands now (news m.stream octets) given (new_event_at model now m.core) (record { me = p.0.me; role = p.0.role; stage = p.0.stage }, p.1))
   event_stands now (Send user) m given looks p = send_stands now user given m.core (refusal_of model user m.core) refl p
-  event_stands now Take m given looks p = plain_stands given m.core (uses model now m.core) p (once.uses now m.core p.1) (uses_grow now m.core)
-  event_stands now (Leave sub) m given looks p = plain_stands given m.core (leaves model now sub m.core) p (once.leaves now sub m.core p.1) (leaves_grow now m.core sub)
-  event_stands now Tick m given looks p = plain_stands given m.core (ticks model now m.core) p (once.ticks now m.core p.1) (ticks_grow now m.core)
-  event_stands now Ended m given looks p = plain_stands given m.core (breaks model LineEnded m.core) p (once.breaks LineEnded m.core p.1) (breaks_grow now m.core LineEnded)
-  event_stands now Fault m given looks p = plain_stands given m.core (breaks model LineFailed m.core) p (once.breaks LineFailed m.core p.1) (breaks_grow now m.core LineFailed)
-  event_stands now Stalled m given looks p = plain_stands given m.core (breaks model LineStalled m.core) p (once.breaks LineStalled m.core p.1) (breaks_grow now m.core LineStalled)
+  event_stands now Take m given looks p = plain_stands given m.core (step_take model now m.core) p (once.uses now m.core p.1) (uses_grow now m.core)
+  event_stands now (Leave sub) m given looks p = plain_stands given m.core (step_release model now sub m.core) p (once.leaves now sub m.core p.1) (leaves_grow now m.core sub)
+  event_stands now Tick m given looks p = plain_stands given m.core (step_tick model now m.core) p (once.ticks now m.core p.1) (ticks_grow now m.core)
+  event_stands now Ended m given looks p = plain_stands given m.core (step_break model LineEnded m.core) p (once.breaks LineEnded m.core p.1) (breaks_grow now m.core LineEnded)
+  event_stands now Fault m given looks p = plain_stands given m.core (step_break model LineFailed m.core) p (once.breaks LineFailed m.core p.1) (breaks_grow now m.core LineFailed)
+  event_stands now Stalled m given looks p = plain_stands given m.core (step_break model LineStalled m.core) p (once.breaks LineStalled m.core p.1) (breaks_grow now m.core LineStalled)
 
   run_stands : (events : List Moment) (m : End) (given : List (List ℕ)) → AllLookUp finds events → Stands given m.core → Stands (given ++ received events m) (run events m).core
   run_stands [] m given looks p = nothing_given given m.core p

@@ -4,14 +4,14 @@ use Rattle.std.specs.Prelude.{◌==◌, nat_lt, if◌then◌else◌}
 use Rattle.er_base.specs.declared.side.Side.{Side}
 use Rattle.er_base.specs.declared.side.Side.TheVariants.{E, R}
 use Rattle.er_base.specs.Sides.{other}
-use Rattle.station_model.specs.Lines.{altered, next_of}
-use Rattle.end_model.specs.Steps.{Finds}
-use Rattle.end_model.specs.Ends.{Event, End, Moment, step, run}
-use Rattle.end_model.specs.Ends as event
-use Rattle.end_pair.specs.Openings.{Opening}
-use Rattle.end_pair.specs.Links.{Link, line_of, with_line, give, opened}
-use Rattle.end_pair.specs.Steps.{LinkStep, Send, Pass, Lose, Repeat, Alter, Put, Take, UserRelease, Drain, Tick, pass, lose, repeat, alter, put, expires_at, tick, is_overfull, pass_next, drained, link_step}
-use Rattle.end_pair.specs.Steps as pair
+use Rattle.hdlc_station_model.specs.Lines.{altered, next_of}
+use Rattle.er_end_model.specs.Steps.{Finds}
+use Rattle.er_end_model.specs.Ends.{Event, End, Moment, step, run}
+use Rattle.er_end_model.specs.Ends as event
+use Rattle.er_end_pair_laws.specs.Openings.{Opening}
+use Rattle.er_end_pair_laws.specs.Links.{Link, line_of, with_line, give, opened}
+use Rattle.er_end_pair_laws.specs.Steps.{LinkStep, Send, Pass, Lose, Repeat, Alter, Put, Take, UserRelease, Drain, Tick, pass, lose, repeat, alter, put, expires_at, tick, is_overfull, pass_next, drained, link_step}
+use Rattle.er_end_pair_laws.specs.Steps as pair
 use Rattle.tap_laws.specs.Progress.{LooksUp, AllLookUp}
 use Rattle.tap_laws.specs.Runs.{calling_of, called_of, started_at, AreRuns, EndsAreRuns}
 

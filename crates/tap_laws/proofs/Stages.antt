@@ -9,9 +9,9 @@ use Rattle.sapdu.specs.Spelling.{Pdu, Au1, Au2, Dt, read_of}
 use Rattle.safety_automaton.specs.declared.role.Role.{Role}
 use Rattle.safety_automaton.specs.Safety.{Safety, Connection, Phase, Ready, WaitAu1, WaitAu2, WaitAu3, WaitAr, Connected, Released, SafetyEvent, Received, SafetyOutcome, SentAu1, SentAu2, SentAu3, SentAr, ReceivedAr, AcceptedDt, SentDt, Refused, ReleasedLocally, ReleasedByPeer, NothingDone, flag_of, other_role, peer_flag, message_text}
 use Rattle.safety_automaton.specs.Rules.{IsReceived, IsStep, AtReceived, AtDisconnect, AtConnect}
-use Rattle.end_model.specs.Laws.{accepted_by}
-use Rattle.end_model.specs.Steps.{Finds}
-use Rattle.end_model.specs.Ends.{Opening, Call, Answer}
+use Rattle.er_end_model.specs.Laws.{accepted_by}
+use Rattle.er_end_model.specs.Steps.{Finds}
+use Rattle.er_end_model.specs.Ends.{Opening, Call, Answer}
 use Rattle.tap_model.specs.Given.{received_in}
 use Rattle.tap_laws.specs.Progress.{number_of, role_of, flag_to, IsFound, IsFirst, AreMessages, GotNone, GotOne, GotAll, Got, GotsNone, GotsOne, GotsAll, IsBeginning, IsWaiting, Stage, Begins, Waits, Speaks, Gone}
 

@@ -5,13 +5,13 @@ use Rattle.std.proofs.lemmas.Bool.{eq-eqb}
 use Rattle.er_base.specs.declared.side.Side.{Side}
 use Rattle.er_base.specs.declared.side.Side.TheVariants.{E, R}
 use Rattle.des_block.specs.declared.triple_key.TripleKey.{TripleKey}
-use Rattle.er_settings.specs.declared.settings.Settings.{Settings}
+use Rattle.er_settings.specs.Values.{Settings}
 use Rattle.er_tap.specs.declared.tap_line.TapLine.{TapLine}
 use Rattle.safety_automaton.specs.Keys.{Entry, key_at}
-use Rattle.safe_pair.specs.Openings.{OfKeys, key_for}
-use Rattle.end_pair.specs.Openings.{Opening, Agree}
-use Rattle.end_pair.specs.Links.{Link as Pair}
-use Rattle.end_pair.specs.Laws.{after}
+use Rattle.safety_pair_laws.specs.Openings.{OfKeys, key_for}
+use Rattle.er_end_pair_laws.specs.Openings.{Opening, Agree}
+use Rattle.er_end_pair_laws.specs.Links.{Link as Pair}
+use Rattle.er_end_pair_laws.specs.Laws.{after}
 use Rattle.drill_model.specs.Outcomes.{Occurrence}
 use Rattle.drill_model.specs.Links.{Link, OfStacks}
 use Rattle.drill_model.specs.Worlds.{history_on, world_run}

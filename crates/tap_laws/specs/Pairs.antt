@@ -3,10 +3,10 @@
 use Rattle.std.specs.Prelude.{◌≡◌, true, List, Some, None}
 use Rattle.er_base.specs.declared.side.Side.{Side}
 use Rattle.er_base.specs.declared.side.Side.TheVariants.{E, R}
-use Rattle.end_model.specs.Ends.{End}
-use Rattle.end_pair.specs.Openings.{Opening, Agree}
-use Rattle.end_pair.specs.Steps.{LinkStep, AllFit}
-use Rattle.end_pair.specs.Laws.{after}
+use Rattle.er_end_model.specs.Ends.{End}
+use Rattle.er_end_pair_laws.specs.Openings.{Opening, Agree}
+use Rattle.er_end_pair_laws.specs.Steps.{LinkStep, AllFit}
+use Rattle.er_end_pair_laws.specs.Laws.{after}
 use Rattle.tap_model.specs.Hearing.{heard, items}
 use Rattle.tap_model.specs.Given.{IsPrefix}
 use Rattle.tap_model.specs.Verdicts.{Known, known_of, Judged, judged_from, good_texts}

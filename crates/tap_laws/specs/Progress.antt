@@ -10,9 +10,9 @@ use Rattle.safety_automaton.specs.declared.role.Role.{Role}
 use Rattle.safety_automaton.specs.declared.role.Role.TheVariants.{Initiator, Responder}
 use Rattle.safety_automaton.specs.Safety.{Connection, Phase, Ready, WaitAu1, WaitAu2, WaitAu3, WaitAr, Connected, Released, flag_of, other_role, message_text}
 use Rattle.safety_automaton.specs.Rules.{IsOpen}
-use Rattle.end_model.specs.Steps.{Finds}
-use Rattle.end_model.specs.Layers.{Core}
-use Rattle.end_model.specs.Ends.{Opening, Call, Answer, Event, Start, Come, Send, Take, Leave, Tick, Ended, Fault, Stalled, Moment, opened, run}
+use Rattle.er_end_model.specs.Steps.{Finds}
+use Rattle.er_end_model.specs.Layers.{Core}
+use Rattle.er_end_model.specs.Ends.{Opening, Call, Answer, Event, Start, Come, Send, Take, Leave, Tick, Ended, Fault, Stalled, Moment, opened, run}
 use Rattle.tap_model.specs.Given.{received}
 
 -- ---- an opening

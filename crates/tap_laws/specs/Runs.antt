@@ -1,10 +1,10 @@
 -- Lemmas: each end of a link is an end that was opened, behind a list of events of its own; the one that calls is started first.
 use Rattle.std.specs.Prelude.{◌≡◌, List, ◌∷◌}
-use Rattle.end_model.specs.Ends.{Call, Answer, Start, End, Moment, run}
-use Rattle.end_model.specs.Ends as end
-use Rattle.end_pair.specs.Openings.{Opening}
-use Rattle.end_pair.specs.Steps.{LinkStep}
-use Rattle.end_pair.specs.Laws.{after}
+use Rattle.er_end_model.specs.Ends.{Call, Answer, Start, End, Moment, run}
+use Rattle.er_end_model.specs.Ends as end
+use Rattle.er_end_pair_laws.specs.Openings.{Opening}
+use Rattle.er_end_pair_laws.specs.Steps.{LinkStep}
+use Rattle.er_end_pair_laws.specs.Laws.{after}
 use Rattle.tap_laws.specs.Progress.{AllLookUp}
 
 -- how each end of a link is opened

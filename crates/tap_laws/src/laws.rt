@@ -14,7 +14,7 @@ pub fn sides_progress()
 {
     safety_automaton::laws::steps();
     safety_automaton::laws::valid_sides();
-    end_model::laws::events_speak_once();
+    er_end_model::laws::events_speak_once();
 }
 
 /// Each end of a link is an end that was opened, behind a list of events of its own, and the one that calls is started first.
@@ -28,9 +28,9 @@ pub fn pairs_audited()
     ensures { PairsAudited }
 {
     t70_header::laws::wrapping();
-    end_pair::laws::prefix();
-    end_pair::laws::greets();
-    end_model::laws::octets_are_heard();
+    er_end_pair_laws::laws::prefix();
+    er_end_pair_laws::laws::greets();
+    er_end_model::laws::octets_are_heard();
     tap_hearing::laws::given_is_heard();
     sides_progress();
     ends_are_runs();

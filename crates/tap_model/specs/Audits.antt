@@ -2,7 +2,7 @@
 use Rattle.std.specs.Prelude.{ℕ, ◌≡◌, List, [], Option, Some, None, Result, Ok, Err}
 use Rattle.er_tap.specs.declared.tap_line.TapLine.{TapLine}
 use Rattle.link_trait.specs.Outside.{Grew, GrewPart, Rose}
-use Rattle.end_model.specs.Steps.{Finds}
+use Rattle.er_end_model.specs.Steps.{Finds}
 use Rattle.tap_model.specs.declared.audit_fault.AuditFault.{AuditFault}
 use Rattle.tap_model.specs.declared.audit_fault.AuditFault.TheVariants.{NoLink, LinkTwice, Sink, NoMemory}
 use Rattle.tap_model.specs.Lines.{NoLinkAt, TwiceAt, fault_of}

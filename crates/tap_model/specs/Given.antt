@@ -3,15 +3,15 @@ use Rattle.std.specs.Prelude.{ℕ, ◌≡◌, ◌≤◌, List, [], ◌∷◌, �
 use Rattle.std.specs.List.{flat_map}
 use Rattle.er_base.specs.declared.side.Side.{Side}
 use Rattle.er_base.specs.declared.side.Side.TheVariants.{E, R}
-use Rattle.er_settings.specs.declared.settings.Settings.{Settings}
+use Rattle.er_settings.specs.Values.{Settings}
 use Rattle.hdlc_frames.specs.Framing.{Verdict}
-use Rattle.station_model.specs.Events.{news}
+use Rattle.hdlc_station_model.specs.Events.{news}
 use Rattle.safety_automaton.specs.Safety.{SafetyEvent, ConnectRequest, Received, DataRequest, DisconnectRequest}
-use Rattle.end_model.specs.Outcomes.{SendRefusal}
-use Rattle.end_model.specs.Steps.{Finds, begins_at, comes, refusal_of}
-use Rattle.end_model.specs.Layers.{Spoken, Core, model}
-use Rattle.end_model.specs.Ends.{Opening, Call, Answer, Event, Start, Come, Send, Take, Leave, Tick, Ended, Fault, Stalled, End, Moment, opened, step, run}
-use Rattle.end_model.specs.Origins.{octets_in}
+use Rattle.er_end_model.specs.Outcomes.{SendRefusal}
+use Rattle.er_end_model.specs.Steps.{Finds, new_event_at, step_frame, refusal_of}
+use Rattle.er_end_model.specs.Layers.{Spoken, Core, model}
+use Rattle.er_end_model.specs.Ends.{Opening, Call, Answer, Event, Start, Come, Send, Take, Leave, Tick, Ended, Fault, Stalled, End, Moment, opened, step, run}
+use Rattle.er_end_model.specs.Origins.{octets_in}
 use Rattle.tap_model.specs.Hearing.{heard, payloads}
 
 -- the octets that came, where the safety side was given some
@@ -33,7 +33,7 @@ received_by x = received_of x.upper.spoke
 abbrev pub received_of_each : Finds → (now : ℕ) → List Verdict → Core → List (List ℕ)
 received_of_each finds now [] x = []
 received_of_each finds now (verdict ∷ verdicts) x =
-    let y = comes model finds now verdict x in received_by y ++ received_of_each finds now verdicts y
+    let y = step_frame model finds now verdict x in received_by y ++ received_of_each finds now verdicts y
 
 -- a send that is refused gives nothing
 abbrev pub received_unless : Option SendRefusal → Core → List (List ℕ)
@@ -43,7 +43,7 @@ received_unless None x = received_by x
 -- in one event
 abbrev pub received_at : (now : ℕ) → Event → End → List (List ℕ)
 received_at now Start m = received_by (step now Start m).0.core
-received_at now (Come finds octets) m = received_of_each finds now (news m.stream octets) (begins_at model now m.core)
+received_at now (Come finds octets) m = received_of_each finds now (news m.stream octets) (new_event_at model now m.core)
 received_at now (Send user) m = received_unless (refusal_of model user m.core) (step now (Send user) m).0.core
 received_at now Take m = received_by (step now Take m).0.core
 received_at now (Leave sub) m = received_by (step now (Leave sub) m).0.core

@@ -20,8 +20,8 @@ use Rattle.x224_tpdu.specs.Function.{reading}
 use Rattle.sapdu.specs.declared.fault.SaFault.TheVariants.{Short}
 use Rattle.sapdu.specs.Spelling.{Au1, Au2, Au3, Ar, Dt, Di}
 use Rattle.er_settings.specs.Ranges.{usual_settings}
-use Rattle.end_model.specs.Steps.{Finds, offers}
-use Rattle.end_model.specs.Ends.{Opening, Answer, Come, Moment, opened}
+use Rattle.er_end_model.specs.Steps.{Finds, hand_waiting_tpdus}
+use Rattle.er_end_model.specs.Ends.{Opening, Answer, Come, Moment, opened}
 use Rattle.tap_model.specs.declared.audit_verdict.AuditVerdict.{AuditVerdict}
 use Rattle.tap_model.specs.declared.audit_verdict.AuditVerdict.TheVariants.{Good, Malformed, Flag, Unexpected, Feature, Identity, NoKey}
 use Rattle.tap_model.specs.Hearing.{frames_read, behind_opening, before_end, in_sequence, payloads, tpdus_from, pdus_in, Hearing, silence, texts_from, heard_of, heard}
@@ -138,5 +138,5 @@ abbrev events : List Moment
 events = record { now = 0; event = Come no_keys first_octets } ∷ record { now = 1; event = Come no_keys more_octets } ∷ []
 
 pub given_it : received events (opened callee) ≡ au1 ∷ []
-unfolding offers eight number_in reading parameters_in frames_of between_flags all_but_last cut framing.verdict_on verdict_on_content checked_part check_number unescaped ends_in_escape spelling escaped escaped_octet content_of control_of fcs_of fcs_bits dividend remainder divided_once add_front sent_bits low_bits low_number
+unfolding hand_waiting_tpdus eight number_in reading parameters_in frames_of between_flags all_but_last cut framing.verdict_on verdict_on_content checked_part check_number unescaped ends_in_escape spelling escaped escaped_octet content_of control_of fcs_of fcs_bits dividend remainder divided_once add_front sent_bits low_bits low_number
 given_it = refl

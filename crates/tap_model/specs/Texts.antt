@@ -8,7 +8,7 @@ use Rattle.er_base.specs.LineTexts.{lines_text}
 use Rattle.er_base.specs.Sides.{side_word}
 use Rattle.er_tap.specs.declared.tap_line.TapLine.{TapLine}
 use Rattle.sapdu.specs.Spelling.{Pdu, Au1, Au2, Au3, Ar, Dt, Di}
-use Rattle.end_model.specs.Steps.{Finds}
+use Rattle.er_end_model.specs.Steps.{Finds}
 use Rattle.tap_model.specs.VerdictWords.{verdict_word}
 use Rattle.tap_model.specs.Hearing.{heard, items}
 use Rattle.tap_model.specs.Verdicts.{Known, Read, known_of, Judged, judged_from, user_read}

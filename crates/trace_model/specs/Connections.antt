@@ -2,14 +2,14 @@
 -- connections are left out.
 use Rattle.std.specs.Prelude.{ℕ, ◌==◌, if◌then◌else◌, List, [], ◌∷◌, Option, Some, None}
 use Rattle.des_block.specs.declared.triple_key.TripleKey.{TripleKey}
-use Rattle.er_settings.specs.declared.settings.Settings.{Settings}
+use Rattle.er_settings.specs.Values.{Settings}
 use Rattle.er_trace.specs.declared.entry.Entry.{Entry}
 use Rattle.er_trace.specs.declared.event.Event.{Event}
 use Rattle.er_trace.specs.declared.event.Event.TheVariants.{Call, Answer, Octets, Send, Take, Release, Tick, Ended, Fault, Stalled, Full, Unserved}
-use Rattle.end_model.specs.Outcomes.{Outcome}
-use Rattle.end_model.specs.Steps.{Finds}
-use Rattle.end_model.specs.Ends.{End, opened, step}
-use Rattle.end_model.specs.Ends as at_end
+use Rattle.er_end_model.specs.Outcomes.{Outcome}
+use Rattle.er_end_model.specs.Steps.{Finds}
+use Rattle.er_end_model.specs.Ends.{End, opened, step}
+use Rattle.er_end_model.specs.Ends as at_end
 
 -- one more event of an end that was opened: the end behind it, and its outcomes
 abbrev pub goes_on : ℕ → at_end.Event → Option End → Option End × List Outcome

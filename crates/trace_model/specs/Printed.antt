@@ -1,12 +1,12 @@
 -- The printed text of a list of events (this profile): the header, then each event's line followed by those of its outcomes.
 use Rattle.std.specs.Prelude.{ℕ, List, [], ◌∷◌, ◌++◌, map}
 use Rattle.er_base.specs.LineTexts.{line_text, lines_text}
-use Rattle.er_settings.specs.declared.settings.Settings.{Settings}
+use Rattle.er_settings.specs.Values.{Settings}
 use Rattle.er_trace.specs.declared.entry.Entry.{Entry}
 use Rattle.er_trace.specs.Outcomes as trace
 use Rattle.er_trace.specs.Texts.{header_words, entry_words, outcome_words}
-use Rattle.end_model.specs.Outcomes.{SendRefusal, RefusedReleased, RefusedNotConnected, RefusedLength, RefusedFull, Outcome, ConnectedTo, Accepted, Taken, NothingToTake, Refused, WasReleased, Octets}
-use Rattle.end_model.specs.Steps.{Finds}
+use Rattle.er_end_model.specs.Outcomes.{SendRefusal, RefusedReleased, RefusedNotConnected, RefusedLength, RefusedFull, Outcome, ConnectedTo, Accepted, Taken, NothingToTake, Refused, WasReleased, Octets}
+use Rattle.er_end_model.specs.Steps.{Finds}
 use Rattle.trace_model.specs.Connections.{happens, end_at}
 
 -- an outcome as a trace tells it

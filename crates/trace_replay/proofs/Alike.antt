@@ -1,23 +1,22 @@
 -- Ends that differ in what the last event showed alone go on alike; so a step of what is kept is one of the end that it stands for.
-use Rattle.std.proofs.Common.{◌≡◌, ◌≤◌, ◌∙◌, ℕ, Bool, true, false, not, ◌&&◌, List, [], ◌∷◌, ◌++◌, length, Option, Some, None, is_some, refl, sym, ap, ap₂, subst, arith, if◌then◌else◌}
+use Rattle.std.proofs.Common.{◌≡◌, ◌≤◌, ◌∙◌, ℕ, List, [], ◌++◌, Option, Some, None, is_some, refl, sym, ap, ap₂, subst, arith, if◌then◌else◌}
 use Rattle.er_base.specs.declared.release.Release.{Release}
 use Rattle.er_base.specs.declared.cause.Cause.{Cause}
 use Rattle.er_base.specs.declared.cause.Cause.TheVariants.{LineEnded, LineFailed, LineStalled}
 use Rattle.er_base.specs.Causes.{release_of}
-use Rattle.hdlc_frames.specs.Framing.{Verdict}
-use Rattle.end_model.specs.Outcomes.{Outcome, SendRefusal}
-use Rattle.end_model.specs.Steps.{Finds, begins, begins_at, started, left, ticked, used, broken, breaks, sent, refusal_of, sends_unless, outcomes_of, if_taken}
-use Rattle.end_model.specs.Layers.{Core, model}
-use Rattle.station_model.specs.Events.{news}
-use Rattle.end_model.specs.Ends.{End, Event, Start, Come, Send, Take, Leave, Tick, Ended, Fault, Stalled, hears_each, told_of_each, step, with_core, if_refused}
+use Rattle.er_end_model.specs.Outcomes.{Outcome, SendRefusal}
+use Rattle.er_end_model.specs.Steps.{Finds, new_event, new_event_at, on_start, on_release, on_tick, on_take, on_break, step_break, on_send, refusal_of, step_send_unless, outcomes_of, if_taken}
+use Rattle.er_end_model.specs.Layers.{Core, model}
+use Rattle.hdlc_station_model.specs.Events.{news}
+use Rattle.er_end_model.specs.Ends.{End, Event, Start, Come, Send, Take, Leave, Tick, Ended, Fault, Stalled, hears_each, told_of_each, step, with_core, if_refused}
 use Rattle.er_end.specs.KeptEnds.{KEnd, happens, tells}
-use Rattle.er_end.specs.Standing.{EndStands, StepsAlike, event_of}
+use Rattle.er_end.specs.Standing.{StepsAlike, event_of}
 use Rattle.trace_replay.specs.Places.{AlikeFrom, Follows}
 
 pub alike_same : (now : ℕ) (m n : End) → m ≡ n → AlikeFrom now m n
 alike_same now m n p = record {
   stream = ap (λ (e : End). e.stream) p;
-  begun = λ at le. ap (λ (e : End). begins_at model at e.core) p;
+  begun = λ at le. ap (λ (e : End). new_event_at model at e.core) p;
 }
 
 pub alike_later : (last now : ℕ) (m n : End) → last ≤ now → AlikeFrom last m n → AlikeFrom now m n
@@ -35,14 +34,14 @@ led_alike now m n x y f s p =
 abbrev broke : Cause → Core → Core
 broke cause y = if is_some y.released then y else record y { released = Some (release_of cause) }
 
-break_begun : (cause : Cause) (at : ℕ) (x : Core) (o : Option Release) → x.released ≡ o → begins_at model at (breaks model cause x) ≡ broke cause (begins_at model at x)
+break_begun : (cause : Cause) (at : ℕ) (x : Core) (o : Option Release) → x.released ≡ o → new_event_at model at (step_break model cause x) ≡ broke cause (new_event_at model at x)
 break_begun cause at x None e = rw e refl
 break_begun cause at x (Some why) e = rw e refl
 
 abbrev told_broken : Cause → Option Release → List Outcome
-told_broken cause o = if is_some o then [] else Rattle.end_model.specs.Steps.if_released (Some (release_of cause))
+told_broken cause o = if is_some o then [] else Rattle.er_end_model.specs.Steps.if_released (Some (release_of cause))
 
-break_told : (cause : Cause) (x : Core) (o : Option Release) → x.released ≡ o → outcomes_of model (breaks model cause x) ≡ told_broken cause o
+break_told : (cause : Cause) (x : Core) (o : Option Release) → x.released ≡ o → outcomes_of model (step_break model cause x) ≡ told_broken cause o
 break_told cause x None e = rw e refl
 break_told cause x (Some why) e = rw e refl
 
@@ -53,8 +52,8 @@ pub untaken_alike : (last : ℕ) (m n : End) → AlikeFrom last m n → model.un
 untaken_alike last m n a = ap (λ (x : Core). model.untaken x.upper) (a.begun last (let p : last ≤ last = omega arith in p))
 
 breaks_alike : (last now : ℕ) (cause : Cause) (m n : End) → AlikeFrom last m n → last ≤ now
-    → AlikeFrom now (with_core m (breaks model cause m.core)) (with_core n (breaks model cause n.core))
-    × (outcomes_of model (breaks model cause m.core) ≡ outcomes_of model (breaks model cause n.core))
+    → AlikeFrom now (with_core m (step_break model cause m.core)) (with_core n (step_break model cause n.core))
+    × (outcomes_of model (step_break model cause m.core) ≡ outcomes_of model (step_break model cause n.core))
 breaks_alike last now cause m n a le = (
   record {
     stream = a.stream;
@@ -70,27 +69,27 @@ breaks_alike last now cause m n a le = (
 
 -- a send, by why it is refused, where it is
 sends_alike : (last now : ℕ) (user : List ℕ) (m n : End) (r : Option SendRefusal) → AlikeFrom last m n → last ≤ now
-    → AlikeFrom now (with_core m (sends_unless model r now user m.core)) (with_core n (sends_unless model r now user n.core))
-    × (if_refused r (outcomes_of model (sends_unless model r now user m.core)) ≡ if_refused r (outcomes_of model (sends_unless model r now user n.core)))
+    → AlikeFrom now (with_core m (step_send_unless model r now user m.core)) (with_core n (step_send_unless model r now user n.core))
+    × (if_refused r (outcomes_of model (step_send_unless model r now user m.core)) ≡ if_refused r (outcomes_of model (step_send_unless model r now user n.core)))
 sends_alike last now user m n (Some refusal) a le = (alike_later last now m n le a, refl)
 sends_alike last now user m n None a le =
     let p = a.begun now le in (
-      led_alike now m n (begins_at model now m.core) (begins_at model now n.core) (λ x. sent model user x) a.stream p,
-      ap (λ (x : Core). outcomes_of model (sent model user x)) p,
+      led_alike now m n (new_event_at model now m.core) (new_event_at model now n.core) (λ x. on_send model user x) a.stream p,
+      ap (λ (x : Core). outcomes_of model (on_send model user x)) p,
     )
 
 refusal_alike : (last : ℕ) (user : List ℕ) (m n : End) → AlikeFrom last m n → refusal_of model user m.core ≡ refusal_of model user n.core
 refusal_alike last user m n a = ap (λ (x : Core). refusal_of model user x) (a.begun last (let p : last ≤ last = omega arith in p))
 
 abbrev sent_unless : ℕ → List ℕ → Option SendRefusal → End → End × List Outcome
-sent_unless now user r n = let x = sends_unless model r now user n.core in (with_core n x, if_refused r (outcomes_of model x))
+sent_unless now user r n = let x = step_send_unless model r now user n.core in (with_core n x, if_refused r (outcomes_of model x))
 
 pub alike_step : (last now : ℕ) (event : Event) (m n : End) → AlikeFrom last m n → last ≤ now
     → AlikeFrom now (step now event m).0 (step now event n).0 × ((step now event m).1 ≡ (step now event n).1)
 alike_step last now Start m n a le =
     let p = a.begun now le in (
-      led_alike now m n (begins_at model now m.core) (begins_at model now n.core) (λ x. started model x) a.stream p,
-      ap (λ (x : Core). outcomes_of model (started model x)) p,
+      led_alike now m n (new_event_at model now m.core) (new_event_at model now n.core) (λ x. on_start model x) a.stream p,
+      ap (λ (x : Core). outcomes_of model (on_start model x)) p,
     )
 alike_step last now (Come finds octets) m n a le =
     let p = a.begun now le in
@@ -106,18 +105,18 @@ alike_step last now (Send user) m n a le =
     (refusal_alike last user m n a) (sends_alike last now user m n r a le)
 alike_step last now Take m n a le =
     let p = a.begun now le in (
-      led_alike now m n (begins_at model now m.core) (begins_at model now n.core) (λ x. used model x) a.stream p,
-      ap (λ (x : Core). if_taken (model.oldest x.upper) ++ outcomes_of model (used model x)) p,
+      led_alike now m n (new_event_at model now m.core) (new_event_at model now n.core) (λ x. on_take model x) a.stream p,
+      ap (λ (x : Core). if_taken (model.oldest x.upper) ++ outcomes_of model (on_take model x)) p,
     )
 alike_step last now (Leave sub) m n a le =
     let p = a.begun now le in (
-      led_alike now m n (begins_at model now m.core) (begins_at model now n.core) (λ x. left model sub x) a.stream p,
-      ap (λ (x : Core). outcomes_of model (left model sub x)) p,
+      led_alike now m n (new_event_at model now m.core) (new_event_at model now n.core) (λ x. on_release model sub x) a.stream p,
+      ap (λ (x : Core). outcomes_of model (on_release model sub x)) p,
     )
 alike_step last now Tick m n a le =
     let p = a.begun now le in (
-      led_alike now m n (begins_at model now m.core) (begins_at model now n.core) (λ x. ticked model x) a.stream p,
-      ap (λ (x : Core). outcomes_of model (ticked model x)) p,
+      led_alike now m n (new_event_at model now m.core) (new_event_at model now n.core) (λ x. on_tick model x) a.stream p,
+      ap (λ (x : Core). outcomes_of model (on_tick model x)) p,
     )
 alike_step last now Ended m n a le = breaks_alike last now LineEnded m n a le
 alike_step last now Fault m n a le = breaks_alike last now LineFailed m n a le

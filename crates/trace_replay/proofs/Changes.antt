@@ -1,5 +1,5 @@
 -- What a change of the maps is to the place of each connection.
-use Rattle.std.proofs.Common.{◌≡◌, ◌∙◌, ℕ, ◌+◌, Bool, true, false, if◌then◌else◌, Option, Some, None, is_some, Result, Ok, Err, OnOk, refl, sym, ap, ap₂, arith}
+use Rattle.std.proofs.Common.{◌≡◌, ◌∙◌, ℕ, ◌+◌, true, false, if◌then◌else◌, Option, Some, None, is_some, Result, Ok, Err, OnOk, refl, sym, ap, ap₂, arith}
 use Rattle.std.specs.Prelude.{◌==◌}
 use Rattle.std.specs.Cmp.{unsigned_ties}
 use Rattle.std.specs.BTreeMap.{BTreeMap, get, btree_map_len, is_at}
@@ -8,7 +8,7 @@ use Rattle.er_base.specs.declared.release.Release.{Release}
 use Rattle.er_base.specs.declared.no_memory.NoMemory.{NoMemory}
 use Rattle.er_end.specs.KeptEnds.{KEnd}
 use Rattle.trace_replay.specs.declared.connections.Connections.{Connections}
-use Rattle.trace_replay.specs.Places.{Place, Absent, Declined, Live, Over, place_of, place, place_by, place_for, over_of, unless_live, is_absent, is_there, one_if, Places}
+use Rattle.trace_replay.specs.Places.{Place, Absent, Declined, Live, Over, place_of, place, place_by, place_for, over_of, is_absent, is_there, one_if, Places}
 
 -- another key
 pub apart_at : (conn c : ℕ) → (conn == c) ≡ false → is_at (nat_cmp conn) c ≡ false

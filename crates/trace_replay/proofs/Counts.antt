@@ -1,8 +1,8 @@
 -- How many ends are live, counted over the connections that were opened, none twice.
-use Rattle.std.proofs.Common.{◌≡◌, ◌∙◌, inl, inr, ℕ, ◌+◌, Bool, true, false, ◌||◌, if◌then◌else◌, cond, List, [], ◌∷◌, ◌++◌, length, refl, sym, ap, ap₂, arith, subst, eqb-true}
+use Rattle.std.proofs.Common.{◌≡◌, ◌∙◌, inl, inr, ℕ, ◌+◌, Bool, true, false, ◌||◌, List, [], ◌∷◌, ◌++◌, length, refl, sym, ap, ap₂, arith, subst, eqb-true}
 use Rattle.std.specs.Prelude.{◌==◌, filter}
 use Rattle.std.specs.Cmp.{nat_eq_equiv}
-use Rattle.std.proofs.lemmas.Bool.{cases_Bool, eq-eqb}
+use Rattle.std.proofs.lemmas.Bool.{cases_Bool}
 use Rattle.trace_replay.specs.Places.{has, AreApart, count_of, one_if}
 
 pub or_false : (b : Bool) → (b || false) ≡ b

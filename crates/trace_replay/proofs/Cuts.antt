@@ -1,23 +1,22 @@
 -- Octets that come in one event, given piece by piece.
-use Rattle.std.proofs.Common.{◌≡◌, ◌≤◌, ◌<◌, ◌+◌, ◌∙◌, ℕ, List, [], ◌∷◌, ◌++◌, length, take, drop, max, Result, Ok, Err, OnOk, refl, sym, ap, ap₂, subst, arith, append_assoc, append-nil}
+use Rattle.std.proofs.Common.{◌≡◌, ◌≤◌, ◌+◌, ◌∙◌, ℕ, List, [], ◌∷◌, ◌++◌, length, take, drop, max, refl, sym, ap, subst, arith, append_assoc, append-nil}
 use Rattle.std.proofs.Math.Seq.{drop-append_seam, take-add}
-use Rattle.er_base.specs.declared.no_memory.NoMemory.{NoMemory}
 use Rattle.er_base.specs.LineTexts.{line_text}
 use Rattle.hdlc_frames.specs.Framing.{Verdict, frames_of}
 use Rattle.hdlc_frames.specs.Laws.{KeptStandsForStream}
 use Rattle.hdlc_frames.specs.Deframing as deframing
 use Rattle.er_trace.specs.Texts.{outcome_words}
-use Rattle.end_model.specs.Outcomes.{Outcome}
-use Rattle.end_model.specs.Steps.{Finds, begins_at, comes, received, outcomes_of}
-use Rattle.end_model.specs.Layers.{Core, model}
-use Rattle.station_model.specs.Events.{news}
-use Rattle.end_model.specs.Ends.{Come, End, hears_each, told_of_each, step}
+use Rattle.er_end_model.specs.Outcomes.{Outcome}
+use Rattle.er_end_model.specs.Steps.{Finds, new_event_at, step_frame, on_frame, outcomes_of}
+use Rattle.er_end_model.specs.Layers.{Core, model}
+use Rattle.hdlc_station_model.specs.Events.{news}
+use Rattle.er_end_model.specs.Ends.{Come, End, hears_each, told_of_each, step}
 use Rattle.er_end.specs.KeptEnds.{KEnd, happens, tells, used_of}
-use Rattle.er_end.specs.Standing.{StepsAlike, event_of}
+use Rattle.er_end.specs.Standing.{StepsAlike}
 use Rattle.trace_model.specs.Printed.{told, outcomes_text}
 use Rattle.trace_replay.specs.Places.{AlikeFrom, Follows}
 use Rattle.trace_replay.specs.Takings.{Heard}
-use Rattle.trace_replay.proofs.Alike.{alike_same, alike_later, alike_step, follows_step}
+use Rattle.trace_replay.proofs.Alike.{alike_later, follows_step}
 
 pub text_parts : (conn : ℕ) (a b : List Outcome) → outcomes_text conn (a ++ b) ≡ outcomes_text conn a ++ outcomes_text conn b
 unfolding outcomes_text
@@ -30,33 +29,33 @@ text_parts conn (o ∷ a) b =
 max_later : (a b c : ℕ) → b ≤ c → max (max a b) c ≡ max a c
 max_later a b c le = omega arith
 
-pub begins_again : (now at : ℕ) (x : Core) → now ≤ at → begins_at model at (begins_at model now x) ≡ begins_at model at x
-begins_again now at x le = ap (λ (n : ℕ). record (begins_at model at x) { moment = n }) (max_later x.moment now at le)
+pub begins_again : (now at : ℕ) (x : Core) → now ≤ at → new_event_at model at (new_event_at model now x) ≡ new_event_at model at x
+begins_again now at x le = ap (λ (n : ℕ). record (new_event_at model at x) { moment = n }) (max_later x.moment now at le)
 
-comes_begun : (finds : Finds) (now : ℕ) (v : Verdict) (x : Core) → comes model finds now v (begins_at model now x) ≡ comes model finds now v x
-comes_begun finds now v x = ap (λ (y : Core). received model finds v y) (begins_again now now x (let p : now ≤ now = omega arith in p))
+comes_begun : (finds : Finds) (now : ℕ) (v : Verdict) (x : Core) → step_frame model finds now v (new_event_at model now x) ≡ step_frame model finds now v x
+comes_begun finds now v x = ap (λ (y : Core). on_frame model finds v y) (begins_again now now x (let p : now ≤ now = omega arith in p))
 
-told_begun : (finds : Finds) (now : ℕ) (vs : List Verdict) (x : Core) → told_of_each finds now vs (begins_at model now x) ≡ told_of_each finds now vs x
+told_begun : (finds : Finds) (now : ℕ) (vs : List Verdict) (x : Core) → told_of_each finds now vs (new_event_at model now x) ≡ told_of_each finds now vs x
 told_begun finds now [] x = refl
 told_begun finds now (v ∷ vs) x = ap (λ (y : Core). outcomes_of model y ++ told_of_each finds now vs y) (comes_begun finds now v x)
 
 heard_begun : (finds : Finds) (now at : ℕ) (vs : List Verdict) (x : Core) → now ≤ at
-    → begins_at model at (hears_each finds now vs (begins_at model now x)) ≡ begins_at model at (hears_each finds now vs x)
+    → new_event_at model at (hears_each finds now vs (new_event_at model now x)) ≡ new_event_at model at (hears_each finds now vs x)
 heard_begun finds now at [] x le = begins_again now at x le
-heard_begun finds now at (v ∷ vs) x le = ap (λ (y : Core). begins_at model at (hears_each finds now vs y)) (comes_begun finds now v x)
+heard_begun finds now at (v ∷ vs) x le = ap (λ (y : Core). new_event_at model at (hears_each finds now vs y)) (comes_begun finds now v x)
 
 told_parts : (finds : Finds) (now : ℕ) (vs us : List Verdict) (x : Core)
     → told_of_each finds now (vs ++ us) x ≡ told_of_each finds now vs x ++ told_of_each finds now us (hears_each finds now vs x)
 told_parts finds now [] us x = refl
 told_parts finds now (v ∷ vs) us x =
-    let y : Core = comes model finds now v x in
+    let y : Core = step_frame model finds now v x in
     ap (λ (os : List Outcome). outcomes_of model y ++ os) (told_parts finds now vs us y)
     ∙ sym (append_assoc (outcomes_of model y) (told_of_each finds now vs y) (told_of_each finds now us (hears_each finds now vs y)))
 
 heard_parts : (finds : Finds) (now : ℕ) (vs us : List Verdict) (x : Core)
     → hears_each finds now (vs ++ us) x ≡ hears_each finds now us (hears_each finds now vs x)
 heard_parts finds now [] us x = refl
-heard_parts finds now (v ∷ vs) us x = heard_parts finds now vs us (comes model finds now v x)
+heard_parts finds now (v ∷ vs) us x = heard_parts finds now vs us (step_frame model finds now v x)
 
 module _ (stands : KeptStandsForStream) where
   grows : (stream octets : List ℕ) → frames_of (stream ++ octets) ≡ frames_of stream ++ news stream octets
@@ -82,7 +81,7 @@ module _ (stands : KeptStandsForStream) where
       → AlikeFrom now (step now (Come finds rest) (step now (Come finds first) m).0).0 (step now (Come finds (first ++ rest)) m).0
       × ((step now (Come finds (first ++ rest)) m).1 ≡ (step now (Come finds first) m).1 ++ (step now (Come finds rest) (step now (Come finds first) m).0).1)
   cut_step finds now first rest m =
-      let x : Core = begins_at model now m.core in
+      let x : Core = new_event_at model now m.core in
       let vs : List Verdict = news m.stream first in
       let us : List Verdict = news (m.stream ++ first) rest in
       let y : Core = hears_each finds now vs x in
@@ -91,7 +90,7 @@ module _ (stands : KeptStandsForStream) where
           stream = append_assoc m.stream first rest;
           begun = λ at le.
               heard_begun finds now at us y le
-              ∙ ap (λ (z : Core). begins_at model at z) (sym (heard_parts finds now vs us x) ∙ ap (λ (fs : List Verdict). hears_each finds now fs x) (sym parts));
+              ∙ ap (λ (z : Core). new_event_at model at z) (sym (heard_parts finds now vs us x) ∙ ap (λ (fs : List Verdict). hears_each finds now fs x) (sym parts));
         },
         ap (λ (fs : List Verdict). told_of_each finds now fs x) parts ∙ told_parts finds now vs us x
             ∙ ap (λ (os : List Outcome). told_of_each finds now vs x ++ os) (sym (told_begun finds now us y)),
@@ -105,9 +104,9 @@ module _ (stands : KeptStandsForStream) where
       stream = sym (append-nil m.stream);
       begun = λ at le.
           sym (begins_again now at m.core le)
-          ∙ ap (λ (fs : List Verdict). begins_at model at (hears_each finds now fs (begins_at model now m.core))) (sym (news_none m.stream));
+          ∙ ap (λ (fs : List Verdict). new_event_at model at (hears_each finds now fs (new_event_at model now m.core))) (sym (news_none m.stream));
     },
-    ap (λ (fs : List Verdict). told_of_each finds now fs (begins_at model now m.core)) (news_none m.stream),
+    ap (λ (fs : List Verdict). told_of_each finds now fs (new_event_at model now m.core)) (news_none m.stream),
   )
 
   alike_then : (now : ℕ) (a b c : End) → AlikeFrom now a b → AlikeFrom now b c → AlikeFrom now a c

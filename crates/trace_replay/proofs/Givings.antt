@@ -1,18 +1,18 @@
 -- An event that was given to an end is one of its connection.
-use Rattle.std.proofs.Common.{◌≡◌, ◌≤◌, ◌∙◌, ◌⊎◌, inl, inr, ℕ, true, false, List, [], ◌∷◌, ◌++◌, Option, Some, None, Result, Ok, Err, OnOk, refl, sym, ap, subst, append_assoc, append-nil}
+use Rattle.std.proofs.Common.{◌≡◌, ◌≤◌, ◌∙◌, ◌⊎◌, inl, inr, ℕ, true, false, List, [], ◌++◌, Option, Some, Result, Ok, Err, OnOk, refl, sym, ap, subst, append_assoc, append-nil}
 use Rattle.er_base.specs.declared.no_memory.NoMemory.{NoMemory}
 use Rattle.er_base.specs.declared.release.Release.{Release}
-use Rattle.er_settings.specs.declared.settings.Settings.{Settings}
+use Rattle.er_settings.specs.Values.{Settings}
 use Rattle.er_trace.specs.declared.entry.Entry.{Entry}
 use Rattle.er_trace.specs.declared.event.Event.{Event}
 use Rattle.er_trace.specs.declared.event.Event.TheVariants.{Octets}
 use Rattle.er_trace.specs.declared.event.Event.TheVariants as event
 use Rattle.er_base.specs.declared.octets.Octets.{Octets as Text}
 use Rattle.trace_model.specs.Checks.{role_of, opens}
-use Rattle.end_model.specs.Outcomes.{Outcome}
-use Rattle.end_model.specs.Steps.{Finds}
-use Rattle.end_model.specs.Ends as of
-use Rattle.end_model.specs.Ends.{End, step}
+use Rattle.er_end_model.specs.Outcomes.{Outcome}
+use Rattle.er_end_model.specs.Steps.{Finds}
+use Rattle.er_end_model.specs.Ends as of
+use Rattle.er_end_model.specs.Ends.{End, step}
 use Rattle.er_end.specs.KeptEnds.{KEnd, tells}
 use Rattle.er_end.specs.KeptEnds as kept
 use Rattle.er_end.specs.Standing.{StepsAlike, event_of}

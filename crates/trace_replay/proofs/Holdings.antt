@@ -1,24 +1,24 @@
 -- One event more: what is kept goes on to stand for the ends of all connections.
-use Rattle.std.proofs.Common.{◌≡◌, ◌≤◌, ◌∙◌, inl, inr, ℕ, ◌+◌, max, Bool, true, false, not, ◌&&◌, ◌||◌, if◌then◌else◌, List, [], ◌∷◌, ◌++◌, length, Option, Some, None, is_some, refl, sym, ap, ap₂, arith, subst, append-nil, eqb-true}
+use Rattle.std.proofs.Common.{◌≡◌, ◌≤◌, ◌∙◌, inl, inr, ℕ, max, Bool, true, false, not, ◌&&◌, ◌||◌, if◌then◌else◌, List, [], ◌∷◌, ◌++◌, length, Option, Some, None, is_some, refl, sym, ap, ap₂, arith, subst, append-nil, eqb-true}
 use Rattle.std.specs.Prelude.{◌==◌}
 use Rattle.std.proofs.lemmas.Bool.{cases_Bool, eq-eqb}
 use Rattle.std.proofs.lemmas.List.Folds.{list_any-append}
 use Rattle.std.specs.BTreeMap.{btree_map_len}
 use Rattle.er_base.specs.declared.release.Release.{Release}
-use Rattle.er_settings.specs.declared.settings.Settings.{Settings}
+use Rattle.er_settings.specs.Values.{Settings}
 use Rattle.er_trace.specs.declared.entry.Entry.{Entry}
-use Rattle.end_model.specs.Steps.{Finds}
-use Rattle.end_model.specs.Layers.{model}
-use Rattle.end_model.specs.Ends.{End}
+use Rattle.er_end_model.specs.Steps.{Finds}
+use Rattle.er_end_model.specs.Layers.{model}
+use Rattle.er_end_model.specs.Ends.{End}
 use Rattle.er_end.specs.KeptEnds.{KEnd, waiting_in}
 use Rattle.er_end.specs.Standing.{ShowsAlike}
 use Rattle.trace_model.specs.Connections.{happens, happens_at, end_behind, end_at}
-use Rattle.trace_model.specs.Checks.{Role, Opens, role_of, opens, names, is_named, is_opened, last_moment, is_live, opened_in, live_count}
+use Rattle.trace_model.specs.Checks.{role_of, opens, names, is_named, is_opened, last_moment, is_live, opened_in, live_count}
 use Rattle.trace_replay.specs.declared.connections.Connections.{Connections}
-use Rattle.trace_replay.specs.Places.{Place, Absent, Declined, Live, Over, place, place_for, over_of, is_absent, is_there, one_if, Places, Follows, FollowsEnd, IsOver, Keeps, has, AreApart, count_of, AllHold, Holds}
+use Rattle.trace_replay.specs.Places.{Place, Absent, Declined, Live, Over, place, place_for, over_of, is_absent, is_there, one_if, Places, FollowsEnd, IsOver, Keeps, has, AreApart, count_of, AllHold, Holds}
 use Rattle.trace_replay.proofs.Alike.{follows_later, untaken_alike, released_alike}
 use Rattle.trace_replay.proofs.Changes.{for_over, for_live}
-use Rattle.trace_replay.proofs.Counts.{or_false, or_assoc, has_more, apart_more, count_more, count_same, count_swap, count_filter}
+use Rattle.trace_replay.proofs.Counts.{or_false, apart_more, count_more, count_same, count_swap, count_filter}
 
 -- ---- one event more
 

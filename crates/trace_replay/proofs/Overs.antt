@@ -1,16 +1,15 @@
 -- An end that is over stays so, and what it shows of an event is fixed.
-use Rattle.std.proofs.Common.{◌≡◌, ◌≤◌, ◌-◌, ◌∙◌, ℕ, Bool, true, false, List, [], ◌∷◌, ◌++◌, length, slice_get, Option, Some, None, refl, sym, ap, arith}
+use Rattle.std.proofs.Common.{◌≡◌, ◌-◌, ℕ, false, List, [], ◌∷◌, length, Some, None, refl, arith}
 use Rattle.std.proofs.lemmas.Option.{slice_get_past}
 use Rattle.er_base.specs.declared.release.Release.{Release}
-use Rattle.er_settings.specs.declared.settings.Settings.{Settings}
+use Rattle.er_settings.specs.Values.{Settings}
 use Rattle.hdlc_frames.specs.Framing.{Verdict}
 use Rattle.er_trace.specs.declared.event.Event.{Event}
 use Rattle.er_trace.specs.declared.event.Event.TheVariants as event
-use Rattle.end_model.specs.Outcomes.{Outcome}
-use Rattle.end_model.specs.Steps.{Finds, begins_at, comes, outcomes_of, uses, if_taken}
-use Rattle.end_model.specs.Layers.{Core, model}
-use Rattle.station_model.specs.Events.{news}
-use Rattle.end_model.specs.Ends.{End, hears_each, told_of_each}
+use Rattle.er_end_model.specs.Steps.{Finds, new_event_at, step_frame, step_take}
+use Rattle.er_end_model.specs.Layers.{Core, model}
+use Rattle.hdlc_station_model.specs.Events.{news}
+use Rattle.er_end_model.specs.Ends.{End, hears_each, told_of_each}
 use Rattle.trace_model.specs.Connections.{happens}
 use Rattle.trace_model.specs.Checks.{role_of, opens}
 use Rattle.trace_replay.specs.Places.{IsOver}
@@ -25,12 +24,12 @@ each_rests : (finds : Finds) (now : ℕ) (why : Release) (vs : List Verdict) (x 
     → Rest why (hears_each finds now vs x) × (told_of_each finds now vs x ≡ [])
 each_rests finds now why [] x r = (r, refl)
 each_rests finds now why (v ∷ vs) x r =
-    let is : comes model finds now v x ≡ begins_at model now x = rw r.released refl in
-    let more = each_rests finds now why vs (begins_at model now x) (record { released = r.released; untaken = r.untaken }) in
+    let is : step_frame model finds now v x ≡ new_event_at model now x = rw r.released refl in
+    let more = each_rests finds now why vs (new_event_at model now x) (record { released = r.released; untaken = r.untaken }) in
     rw is more
 
 -- a take
-uses_is : (now : ℕ) (x : Core) → model.untaken x.upper ≡ 0 → uses model now x ≡ begins_at model now x
+uses_is : (now : ℕ) (x : Core) → model.untaken x.upper ≡ 0 → step_take model now x ≡ new_event_at model now x
 uses_is now x e = rw e refl
 
 none_left : (x : Core) → model.untaken x.upper ≡ 0 → model.oldest x.upper ≡ None
@@ -41,7 +40,7 @@ pub over_step : (settings : Settings) (finds : Finds) (now : ℕ) (why : Release
 over_step settings finds now why (event.Call engine rbc rb) m b o = absurd (let u : ⊥ = cc in u)
 over_step settings finds now why (event.Answer rbc ra) m b o = absurd (let u : ⊥ = cc in u)
 over_step settings finds now why (event.Octets octets) m b o =
-    let r = each_rests finds now why (news m.stream octets) (begins_at model now m.core) (record { released = o.0; untaken = o.1 }) in
+    let r = each_rests finds now why (news m.stream octets) (new_event_at model now m.core) (record { released = o.0; untaken = o.1 }) in
     ((r.0.released, r.0.untaken), r.1)
 over_step settings finds now why (event.Send text) m b o = rw o.0 ((refl, o.1), refl)
 over_step settings finds now why event.Take m b o =

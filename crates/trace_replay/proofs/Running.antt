@@ -1,25 +1,24 @@
 -- The events one after the other.
-use Rattle.std.proofs.Common.{◌≡◌, ◌≤◌, ◌<◌, ◌∙◌, ◌+◌, inl, inr, ℕ, zero, suc, Bool, true, false, if◌then◌else◌, List, [], ◌∷◌, ◌++◌, length, take, drop, max, slice_get, Option, Some, None, Result, Ok, Err, refl, sym, ap, ap₂, subst, arith, append-nil, append_assoc, length-append, eqb-true, nat_lt}
+use Rattle.std.proofs.Common.{◌≡◌, ◌≤◌, ◌<◌, ◌∙◌, ◌+◌, inl, inr, ℕ, zero, suc, Bool, true, false, if◌then◌else◌, List, [], ◌∷◌, ◌++◌, length, take, drop, slice_get, Option, Some, None, Ok, Err, refl, sym, ap, ap₂, subst, arith, append-nil, append_assoc, length-append, eqb-true, nat_lt}
 use Rattle.std.specs.Prelude.{◌==◌}
 use Rattle.std.proofs.lemmas.Bool.{cases_Bool, ltb-false, ltb-true}
 use Rattle.std.proofs.lemmas.List.{take_at, take_all, take-append-drop}
 use Rattle.std.specs.BTreeMap.{get, btree_map_len, BTreeMap}
 use Rattle.std.specs.Ordering.{nat_cmp}
 use Rattle.er_base.specs.declared.release.Release.{Release}
-use Rattle.er_base.specs.declared.no_memory.NoMemory.{NoMemory as Want}
 use Rattle.er_base.specs.LineTexts.{line_text}
-use Rattle.er_settings.specs.declared.settings.Settings.{Settings}
+use Rattle.er_settings.specs.Values.{Settings}
 use Rattle.er_trace.specs.declared.entry.Entry.{Entry}
 use Rattle.er_trace.specs.Texts.{header_words, AreReadable, IsReadable}
 use Rattle.link_trait.specs.Outside.{Grew, GrewPart, Rose}
-use Rattle.end_model.specs.Steps.{Finds}
+use Rattle.er_end_model.specs.Steps.{Finds}
 use Rattle.er_end.specs.KeptEnds.{KEnd}
 use Rattle.trace_model.specs.declared.replay_fault.ReplayFault.{ReplayFault}
 use Rattle.trace_model.specs.declared.replay_fault.ReplayFault.TheVariants.{NoConn, ConnTwice, MomentBack, NoKey, Many, Sink, NoMemory}
 use Rattle.trace_model.specs.Connections.{end_behind}
 use Rattle.trace_model.specs.Checks.{fault_of, role_check, role_of, last_moment, is_named, is_opened, opened_in}
 use Rattle.trace_model.specs.Printed.{entry_text, entries_text, printed}
-use Rattle.trace_model.specs.Replays.{AreTaken, FirstRefused, WroteAll, WroteBefore, WrotePart, Replays}
+use Rattle.trace_model.specs.Replays.{AreTaken, WroteBefore, WrotePart, Replays}
 use Rattle.trace_replay.specs.declared.connections.Connections.{Connections}
 use Rattle.trace_replay.specs.Places.{Absent, place, has, count_of, AllHold, Holds}
 use Rattle.trace_replay.specs.Takings.{Takes, Taken, Replayed, Refuses, Fails, ReplaysOne}

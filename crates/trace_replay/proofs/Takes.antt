@@ -1,11 +1,11 @@
 -- What a take shows: the message, and the octets that then go to the line.
-use Rattle.std.proofs.Common.{◌≡◌, ◌≤◌, ◌<◌, ◌∙◌, inl, inr, ℕ, zero, suc, Bool, true, false, List, [], ◌∷◌, ◌++◌, length, slice_get, Option, Some, None, is_some, refl, sym, ap, ap₂, arith, if◌then◌else◌, eqb}
+use Rattle.std.proofs.Common.{◌≡◌, ◌<◌, ◌∙◌, inl, inr, ℕ, zero, suc, List, [], ◌∷◌, ◌++◌, length, slice_get, Option, Some, None, is_some, refl, sym, ap, ap₂, arith}
 use Rattle.std.specs.Prelude.{◌==◌}
 use Rattle.std.proofs.lemmas.Bool.{cases_Bool}
-use Rattle.end_model.specs.Outcomes.{Outcome, Taken, NothingToTake}
-use Rattle.end_model.specs.Steps.{begins_at, offers, gives_next, goes_on, most_offers, concludes, finishes, uses, used, outcomes_of, if_octets, if_taken, if_connected, if_accepted, if_released}
-use Rattle.end_model.specs.Ends.{Take}
-use Rattle.er_end.specs.Inboxes.{first_in, newest_of}
+use Rattle.er_end_model.specs.Outcomes.{Outcome, Taken, NothingToTake}
+use Rattle.er_end_model.specs.Steps.{new_event_at, hand_waiting_tpdus, hand_next_tpdu, has_next_tpdu, most_offers, conclude_event, step_take, outcomes_of, if_octets, if_taken, if_connected, if_accepted, if_released}
+use Rattle.er_end_model.specs.Ends.{Take}
+use Rattle.er_end.specs.Inboxes.{first_in}
 use Rattle.er_end.specs.KeptLayers.{KCore, kept}
 use Rattle.er_end.specs.KeptEnds.{KEnd, waiting_in, after_take, tells}
 
@@ -21,29 +21,29 @@ quiet_told x q =
     ∙ ap (λ (o : Option (List ℕ)). if_accepted o ++ if_released x.leaves ++ if_octets x.line.out) q.accepted
     ∙ ap (λ (o : Option _). if_released o ++ if_octets x.line.out) q.leaves
 
-offers_quiet : (n : ℕ) (x : KCore) → Quiet x → Quiet (offers kept n x)
-unfolding offers
+offers_quiet : (n : ℕ) (x : KCore) → Quiet x → Quiet (hand_waiting_tpdus kept n x)
+unfolding hand_waiting_tpdus
 offers_quiet zero x q = q
-offers_quiet (suc n) x q = elim (cases_Bool (goes_on kept x)) [
-  | inl y ↦ rw y (offers_quiet n (gives_next kept x) (record { connected = q.connected; accepted = q.accepted; leaves = q.leaves }))
+offers_quiet (suc n) x q = elim (cases_Bool (has_next_tpdu kept x)) [
+  | inl y ↦ rw y (offers_quiet n (hand_next_tpdu kept x) (record { connected = q.connected; accepted = q.accepted; leaves = q.leaves }))
   | inr y ↦ rw y q
 ]
 
-concludes_quiet : (x : KCore) → Quiet x → Quiet (concludes kept x)
+concludes_quiet : (x : KCore) → Quiet x → Quiet (conclude_event kept x)
 concludes_quiet x q = elim (cases_Bool (is_some x.released)) [
   | inl y ↦ rw y q
   | inr y ↦ rw y (let o = offers_quiet most_offers x q in record { connected = o.connected; accepted = o.accepted; leaves = o.leaves })
 ]
 
-take_quiet : (now : ℕ) (x : KCore) → Quiet (uses kept now x)
+take_quiet : (now : ℕ) (x : KCore) → Quiet (step_take kept now x)
 take_quiet now x = elim (cases_Bool (kept.untaken x.upper == 0)) [
   | inl y ↦ rw y (record { connected = refl; accepted = refl; leaves = refl })
-  | inr y ↦ rw y (concludes_quiet (record (begins_at kept now x) { upper = kept.uses (begins_at kept now x).upper }) (record { connected = refl; accepted = refl; leaves = refl }))
+  | inr y ↦ rw y (concludes_quiet (record (new_event_at kept now x) { upper = kept.uses (new_event_at kept now x).upper }) (record { connected = refl; accepted = refl; leaves = refl }))
 ]
 
 pub take_told : (now : ℕ) (k : KEnd) → outcomes_of kept (after_take now k).core ≡ if_octets (after_take now k).core.line.out
 unfolding after_take
-take_told now k = quiet_told (uses kept now k.core) (take_quiet now k.core)
+take_told now k = quiet_told (step_take kept now k.core) (take_quiet now k.core)
 
 first_waits : (ms : List (List ℕ)) → 0 < length ms → slice_get ms 0 ≡ Some (first_in ms)
 first_waits [] some = absurd (let p : ⊥ = omega (arith, some) in p)
@@ -62,7 +62,7 @@ none_waits : (ms : List (List ℕ)) → length ms ≡ 0 → slice_get ms 0 ≡ N
 none_waits [] none = refl
 none_waits (m ∷ ms) none = absurd (let p : ⊥ = omega (arith, none) in p)
 
-begun_out : (now : ℕ) (x : KCore) → length x.upper.inbox.waits ≡ 0 → (uses kept now x).line.out ≡ []
+begun_out : (now : ℕ) (x : KCore) → length x.upper.inbox.waits ≡ 0 → (step_take kept now x).line.out ≡ []
 begun_out now x e = rw e refl
 
 pub tells_empty : (now : ℕ) (k : KEnd) → length (waiting_in k) ≡ 0 → tells now Take k ≡ NothingToTake ∷ []

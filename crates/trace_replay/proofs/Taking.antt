@@ -1,5 +1,5 @@
 -- An event is taken, or it isn't, by what is kept of its connection.
-use Rattle.std.proofs.Common.{◌≡◌, ◌≤◌, ◌∙◌, ◌⊎◌, inl, inr, ℕ, Bool, true, false, not, ◌||◌, if◌then◌else◌, List, [], ◌∷◌, ◌++◌, Option, Some, None, is_some, Result, Ok, Err, OnOk, refl, sym, ap, subst, arith, append-nil, append_assoc}
+use Rattle.std.proofs.Common.{◌≡◌, ◌≤◌, ◌∙◌, ◌⊎◌, inl, inr, ℕ, Bool, true, false, not, ◌||◌, if◌then◌else◌, List, [], ◌∷◌, ◌++◌, Option, Some, None, Result, Ok, Err, refl, sym, ap, subst, arith, append-nil, append_assoc}
 use Rattle.std.specs.Prelude.{nat_le}
 use Rattle.std.proofs.lemmas.Bool.{cases_Bool}
 use Rattle.std.specs.BTreeMap.{get, btree_map_len}
@@ -8,16 +8,16 @@ use Rattle.des_block.specs.declared.triple_key.TripleKey.{TripleKey}
 use Rattle.er_base.specs.declared.release.Release.{Release}
 use Rattle.er_base.specs.LineTexts.{line_text}
 use Rattle.er_base.specs.declared.no_memory.NoMemory.{NoMemory as Want}
-use Rattle.er_settings.specs.declared.settings.Settings.{Settings}
+use Rattle.er_settings.specs.Values.{Settings}
 use Rattle.er_settings.specs.Ranges.{AllAllowed}
 use Rattle.er_trace.specs.declared.entry.Entry.{Entry}
 use Rattle.er_trace.specs.declared.event.Event.{Event}
 use Rattle.er_trace.specs.declared.event.Event.TheVariants as event
 use Rattle.er_trace.specs.Texts.{entry_words}
-use Rattle.end_model.specs.Outcomes.{Outcome}
-use Rattle.end_model.specs.Steps.{Finds}
-use Rattle.end_model.specs.Ends as of
-use Rattle.end_model.specs.Ends.{End, step}
+use Rattle.er_end_model.specs.Outcomes.{Outcome}
+use Rattle.er_end_model.specs.Steps.{Finds}
+use Rattle.er_end_model.specs.Ends as of
+use Rattle.er_end_model.specs.Ends.{End, step}
 use Rattle.er_end.specs.KeptEnds.{KEnd, kept_opened, tells}
 use Rattle.er_end.specs.KeptEnds as kept
 use Rattle.er_end.specs.Standing.{ShowsAlike, MadeStands, StepsAlike}
@@ -25,10 +25,10 @@ use Rattle.trace_model.specs.declared.replay_fault.ReplayFault.{ReplayFault}
 use Rattle.trace_model.specs.declared.replay_fault.ReplayFault.TheVariants.{NoConn, ConnTwice, NoKey, Many}
 use Rattle.trace_model.specs.Connections.{happens, end_at}
 use Rattle.trace_model.specs.Checks.{Role, Opens, Declines, Belongs, role_of, opens, names, is_named, is_opened, last_moment, live_count, key_check, many_check, role_check}
-use Rattle.trace_model.specs.Printed.{outcomes_text, entry_text}
+use Rattle.trace_model.specs.Printed.{outcomes_text}
 use Rattle.trace_replay.specs.declared.connections.Connections.{Connections}
-use Rattle.trace_replay.specs.Places.{Place, Absent, Declined, Live, Over, place, place_for, is_absent, unless_live, why_in, Places, Follows, FollowsEnd, IsOver, Keeps, Holds}
-use Rattle.trace_replay.specs.Takings.{Gives, GivesLive, GivesIfLive, Taken, Takes, told_over}
+use Rattle.trace_replay.specs.Places.{Place, Absent, Declined, Live, Over, place, place_for, is_absent, unless_live, why_in, Places, Follows, Keeps, Holds}
+use Rattle.trace_replay.specs.Takings.{GivesLive, GivesIfLive, Taken, Takes, told_over}
 use Rattle.trace_replay.proofs.Alike.{alike_same, follows_step}
 use Rattle.trace_replay.proofs.Overs.{over_step}
 use Rattle.trace_replay.proofs.Changes.{live_place, place_is, given_places, same_places}

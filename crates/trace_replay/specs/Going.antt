@@ -1,9 +1,9 @@
 -- Representation: how far a replay went; no claim rests on it.
 use Rattle.std.specs.Prelude.{ℕ, ◌≡◌, ◌≤◌, ◌<◌, List, [], ◌∷◌, ◌++◌, length, take, Option, None}
-use Rattle.er_settings.specs.declared.settings.Settings.{Settings}
+use Rattle.er_settings.specs.Values.{Settings}
 use Rattle.er_trace.specs.declared.entry.Entry.{Entry}
 use Rattle.link_trait.specs.Outside.{Grew}
-use Rattle.end_model.specs.Steps.{Finds}
+use Rattle.er_end_model.specs.Steps.{Finds}
 use Rattle.trace_model.specs.Checks.{fault_of, last_moment}
 use Rattle.trace_model.specs.Printed.{entries_text}
 use Rattle.trace_replay.specs.declared.connections.Connections.{Connections}

@@ -1,13 +1,13 @@
 -- Representation: what a replay keeps of the connections of a trace, and how it stands for their ends; no claim rests on it.
-use Rattle.std.specs.Prelude.{ℕ, ◌≡◌, ◌≤◌, ◌+◌, ◌==◌, Bool, true, false, not, ◌&&◌, ◌||◌, if◌then◌else◌, List, [], ◌∷◌, length, Option, Some, None, is_some}
+use Rattle.std.specs.Prelude.{ℕ, ◌≡◌, ◌≤◌, ◌+◌, ◌==◌, Bool, true, false, ◌||◌, if◌then◌else◌, List, [], ◌∷◌, length, Option, Some, None}
 use Rattle.std.specs.BTreeMap.{get, btree_map_len}
 use Rattle.std.specs.Ordering.{nat_cmp}
 use Rattle.er_base.specs.declared.release.Release.{Release}
-use Rattle.er_settings.specs.declared.settings.Settings.{Settings}
+use Rattle.er_settings.specs.Values.{Settings}
 use Rattle.er_trace.specs.declared.entry.Entry.{Entry}
-use Rattle.end_model.specs.Steps.{Finds, begins_at}
-use Rattle.end_model.specs.Layers.{model}
-use Rattle.end_model.specs.Ends.{End}
+use Rattle.er_end_model.specs.Steps.{Finds, new_event_at}
+use Rattle.er_end_model.specs.Layers.{model}
+use Rattle.er_end_model.specs.Ends.{End}
 use Rattle.er_end.specs.KeptEnds.{KEnd, waiting_in}
 use Rattle.er_end.specs.Standing.{EndStands}
 use Rattle.trace_model.specs.Connections.{end_at}
@@ -19,7 +19,7 @@ use Rattle.trace_replay.specs.declared.connections.Connections.{Connections}
 -- two ends that differ at most in what the last event showed, which the next one clears, and in moments before this one
 pub record AlikeFrom (last : ℕ) (m n : End) : Type 0 where
   pub stream : m.stream ≡ n.stream
-  pub begun : (now : ℕ) → last ≤ now → begins_at model now m.core ≡ begins_at model now n.core
+  pub begun : (now : ℕ) → last ≤ now → new_event_at model now m.core ≡ new_event_at model now n.core
 
 -- what the code keeps of an end stands for such an end: octets are given piece by piece, and a last one may close no frame
 pub record Follows (last : ℕ) (k : KEnd) (n : End) : Type 0 where

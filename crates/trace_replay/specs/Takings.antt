@@ -1,5 +1,5 @@
 -- Representation: how the parts of a replay end; no claim rests on it.
-use Rattle.std.specs.Prelude.{ℕ, ◌≡◌, ◌≤◌, ◌==◌, Bool, true, false, List, [], ◌∷◌, ◌++◌, Option, Some, None, Result, Ok, Err, OnOk}
+use Rattle.std.specs.Prelude.{ℕ, ◌≡◌, ◌≤◌, ◌==◌, Bool, true, false, List, [], ◌∷◌, ◌++◌, Option, Some, None, Result, Ok, Err}
 use Rattle.std.specs.BTreeMap.{get, btree_map_len}
 use Rattle.std.specs.Ordering.{nat_cmp}
 use Rattle.er_base.specs.declared.no_memory.NoMemory.{NoMemory as Want}
@@ -8,12 +8,12 @@ use Rattle.er_base.specs.LineTexts.{line_text}
 use Rattle.er_trace.specs.declared.event.Event.{Event}
 use Rattle.er_trace.specs.declared.event.Event.TheVariants as event
 use Rattle.er_trace.specs.Texts.{entry_words}
-use Rattle.end_model.specs.Outcomes.{Outcome, Refused, RefusedReleased, NothingToTake}
-use Rattle.er_settings.specs.declared.settings.Settings.{Settings}
+use Rattle.er_end_model.specs.Outcomes.{Outcome, Refused, RefusedReleased, NothingToTake}
+use Rattle.er_settings.specs.Values.{Settings}
 use Rattle.er_trace.specs.declared.entry.Entry.{Entry}
 use Rattle.link_trait.specs.Outside.{Grew, GrewPart, Rose}
-use Rattle.end_model.specs.Steps.{Finds}
-use Rattle.end_model.specs.Ends.{End, Come, step}
+use Rattle.er_end_model.specs.Steps.{Finds}
+use Rattle.er_end_model.specs.Ends.{End, Come, step}
 use Rattle.er_end.specs.KeptEnds.{KEnd}
 use Rattle.trace_model.specs.declared.replay_fault.ReplayFault.{ReplayFault}
 use Rattle.trace_model.specs.declared.replay_fault.ReplayFault.TheVariants.{NoConn, ConnTwice, MomentBack, NoKey, Many, Sink, NoMemory}

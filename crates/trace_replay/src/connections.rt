@@ -8,8 +8,8 @@ ghost use Rattle.safety_automaton.specs.Keys.{key_at};
 ghost use Rattle.er_trace.specs.declared.entry.Entry.{Entry as TraceEntry};
 ghost use Rattle.er_trace.specs.declared.event.Event.TheVariants as event;
 ghost use Rattle.er_trace.specs.Texts.{IsReadable};
-ghost use Rattle.er_settings.specs.declared.settings.Settings.{Settings as TraceSettings};
-ghost use Rattle.end_model.specs.Steps.{Finds};
+ghost use Rattle.er_settings.specs.Values.{Settings as TraceSettings};
+ghost use Rattle.er_end_model.specs.Steps.{Finds};
 ghost use Rattle.er_end.specs.KeptEnds.{KEnd};
 ghost use Rattle.trace_model.specs.declared.replay_fault.ReplayFault.TheVariants as fault;
 ghost use Rattle.trace_model.specs.Checks.{role_of, Declines, Belongs, many_check, last_moment};
@@ -17,7 +17,8 @@ ghost use Rattle.trace_replay.specs.Places.{Places, place, place_for, Declined, 
 ghost use Rattle.trace_replay.specs.Takings.{GivesIfLive, Takes};
 
 use crate::gives::{give, give_start, tell_over};
-use er_base::{NoMemory, Release};
+use crate::timed::Timed;
+use er_base::{EtcsNumber, NoMemory, Release};
 use er_end::End;
 use er_settings::Settings;
 use er_trace::{Entry, Event, print_entry};
@@ -30,10 +31,10 @@ use trace_model::ReplayFault;
 const MOST_LIVE: usize = 256;
 
 // What an engine calls with.
-#[derive(Clone, Copy, Debug, PartialEq, Eq)]
+#[derive(Clone, Copy)]
 struct Calling {
-    engine: u32,
-    rbc: u32,
+    engine: EtcsNumber,
+    rbc: EtcsNumber,
     rb: u64,
 }
 
@@ -43,6 +44,13 @@ pub struct Connections {
     alloc: Global,
     live: BTreeMap<u64, End>,
     over: BTreeMap<u64, Option<Release>>,
+}
+
+// Settings are in their ranges, by their type: this call does nothing.
+fn see_settings(settings: &Settings)
+    ensures { AllAllowed settings.now }
+{
+    let _setup = settings.setup;
 }
 
 // Why an end is over: it is released, and no message waits. None where it is live.
@@ -154,37 +162,38 @@ impl Connections {
         &mut self,
         settings: &Settings,
         keys: &K,
-        entry: &Entry,
+        timed: &Timed<'_>,
         call: &Calling,
         out: &mut Vec<u8>,
     ) -> Result<(), ReplayFault>
-        requires settings { AllAllowed settings.now }
-        requires entry { IsReadable entry.now }
-        requires event { entry.now.event ≡ event.Call call.now.engine call.now.rbc call.now.rb }
-        ensures { (before : List TraceEntry) → Holds settings.now (key_at (K.entries keys.now)) before self.old → last_moment before ≤ entry.now.moment
-            → Takes settings.now (key_at (K.entries keys.now)) before entry.now self.new out.old.items out.new.items result }
+        requires { timed.now.entry.now.event ≡ event.Call call.now.engine call.now.rbc call.now.rb }
+        ensures { (before : List TraceEntry) → Holds settings.now (key_at (K.entries keys.now)) before self.old → last_moment before ≤ timed.now.entry.now.moment
+            → Takes settings.now (key_at (K.entries keys.now)) before timed.now.entry.now self.new out.old.items out.new.items result }
     {
         er_end::laws::standing();
+        see_settings(settings);
+        let entry = timed.entry;
+        let (engine, rbc) = (call.engine.get(), call.rbc.get());
         self.check_new(entry)?;
-        let Some(kmac) = keys.find(call.engine, call.rbc, entry.moment) else {
+        let Some(kmac) = keys.find(engine, rbc, entry.moment) else {
             return Err(ReplayFault::NoKey {
                 line: entry.line,
-                engine: call.engine,
-                rbc: call.rbc,
+                engine,
+                rbc,
             });
         };
         self.check_room(entry)?;
         let mut end = End::call(
             self.alloc,
             settings,
-            call.engine,
-            call.rbc,
+            engine,
+            rbc,
             kmac,
             call.rb,
             entry.moment,
         )?;
         print_entry(entry, out)?;
-        give_start(&mut end, entry.moment, entry.conn, out)?;
+        give_start(&mut end, timed.moment(), entry.conn, out)?;
         self.open(entry.conn, end)?;
         Ok(())
     }
@@ -193,21 +202,21 @@ impl Connections {
     fn answer(
         &mut self,
         settings: &Settings,
-        entry: &Entry,
-        rbc: u32,
+        timed: &Timed<'_>,
+        rbc: EtcsNumber,
         ra: u64,
         out: &mut Vec<u8>,
     ) -> Result<(), ReplayFault>
-        requires settings { AllAllowed settings.now }
-        requires entry { IsReadable entry.now }
-        requires event { entry.now.event ≡ event.Answer rbc ra }
-        ensures { (finds : Finds) (before : List TraceEntry) → Holds settings.now finds before self.old → last_moment before ≤ entry.now.moment
-            → Takes settings.now finds before entry.now self.new out.old.items out.new.items result }
+        requires { timed.now.entry.now.event ≡ event.Answer rbc ra }
+        ensures { (finds : Finds) (before : List TraceEntry) → Holds settings.now finds before self.old → last_moment before ≤ timed.now.entry.now.moment
+            → Takes settings.now finds before timed.now.entry.now self.new out.old.items out.new.items result }
     {
         er_end::laws::standing();
+        see_settings(settings);
+        let entry = timed.entry;
         self.check_new(entry)?;
         self.check_room(entry)?;
-        let end = End::answer(self.alloc, settings, rbc, ra, entry.moment)?;
+        let end = End::answer(self.alloc, settings, rbc.get(), ra, entry.moment)?;
         print_entry(entry, out)?;
         self.open(entry.conn, end)?;
         Ok(())
@@ -229,18 +238,18 @@ impl Connections {
     fn give_live<K: KeyFinder>(
         &mut self,
         keys: &K,
-        entry: &Entry,
+        timed: &Timed<'_>,
         out: &mut Vec<u8>,
     ) -> Result<bool, NoMemory>
-        requires entry { IsReadable entry.now }
-        requires event { role_of entry.now.event ≡ Belongs }
-        ensures { GivesIfLive (key_at (K.entries keys.now)) entry.now self.old self.new out.old.items out.new.items result }
+        requires { role_of timed.now.entry.now.event ≡ Belongs }
+        ensures { GivesIfLive (key_at (K.entries keys.now)) timed.now.entry.now self.old self.new out.old.items out.new.items result }
     {
+        let entry = timed.entry;
         let Some(end) = self.live.get_mut(&entry.conn) else {
             return Ok(false);
         };
         print_entry(entry, out)?;
-        give(end, keys, entry, out)?;
+        give(end, keys, timed, out)?;
         Ok(true)
     }
 
@@ -248,16 +257,16 @@ impl Connections {
     fn give<K: KeyFinder>(
         &mut self,
         keys: &K,
-        entry: &Entry,
+        timed: &Timed<'_>,
         out: &mut Vec<u8>,
     ) -> Result<(), ReplayFault>
-        requires entry { IsReadable entry.now }
-        requires event { role_of entry.now.event ≡ Belongs }
-        ensures { (settings : TraceSettings) (before : List TraceEntry) → Holds settings (key_at (K.entries keys.now)) before self.old → last_moment before ≤ entry.now.moment
-            → Takes settings (key_at (K.entries keys.now)) before entry.now self.new out.old.items out.new.items result }
+        requires { role_of timed.now.entry.now.event ≡ Belongs }
+        ensures { (settings : TraceSettings) (before : List TraceEntry) → Holds settings (key_at (K.entries keys.now)) before self.old → last_moment before ≤ timed.now.entry.now.moment
+            → Takes settings (key_at (K.entries keys.now)) before timed.now.entry.now self.new out.old.items out.new.items result }
     {
         er_end::laws::standing();
-        if self.give_live(keys, entry, out)? {
+        let entry = timed.entry;
+        if self.give_live(keys, timed, out)? {
             self.settle(entry.conn)?;
             return Ok(());
         }
@@ -280,23 +289,25 @@ impl Connections {
         entry: &Entry,
         out: &mut Vec<u8>,
     ) -> Result<(), ReplayFault>
-        requires settings { AllAllowed settings.now }
-        requires entry { IsReadable entry.now }
+        requires { IsReadable entry.now }
         ensures { (before : List TraceEntry) → Holds settings.now (key_at (K.entries keys.now)) before self.old → last_moment before ≤ entry.now.moment
             → Takes settings.now (key_at (K.entries keys.now)) before entry.now self.new out.old.items out.new.items result }
     {
+        let timed = Timed { entry };
         match &entry.event {
             Event::Call { engine, rbc, rb } => {
                 let call = Calling {
-                    engine: *engine,
-                    rbc: *rbc,
+                    engine: EtcsNumber::new(*engine),
+                    rbc: EtcsNumber::new(*rbc),
                     rb: *rb,
                 };
-                self.call(settings, keys, entry, &call, out)
+                self.call(settings, keys, &timed, &call, out)
             }
-            Event::Answer { rbc, ra } => self.answer(settings, entry, *rbc, *ra, out),
+            Event::Answer { rbc, ra } => {
+                self.answer(settings, &timed, EtcsNumber::new(*rbc), *ra, out)
+            }
             Event::Full(_) | Event::Unserved(_) => self.decline(entry, out),
-            _ => self.give(keys, entry, out),
+            _ => self.give(keys, &timed, out),
         }
     }
 }

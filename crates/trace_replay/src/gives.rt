@@ -1,20 +1,21 @@
 //! Events given to the end of a connection, and the lines of what came of them.
 
 ghost use Rattle.std.specs.Prelude.{ℕ, List, ◌≡◌, ◌≤◌, ◌<◌, ◌++◌, length, drop, take, false, Some, IfOk, OnOk};
-ghost use Rattle.er_settings.specs.declared.settings.Settings.{Settings as TraceSettings};
+ghost use Rattle.er_settings.specs.Values.{Settings as TraceSettings};
 ghost use Rattle.safety_automaton.specs.Keys.{key_at};
-ghost use Rattle.end_model.specs.Ends as of;
+ghost use Rattle.er_end_model.specs.Ends as of;
 ghost use Rattle.er_end.specs.KeptEnds.{happens, tells, used_of};
 ghost use Rattle.trace_model.specs.Checks.{role_of, opens};
 ghost use Rattle.trace_model.specs.Printed.{outcomes_text};
 ghost use Rattle.trace_replay.specs.Places.{Follows};
 ghost use Rattle.trace_replay.specs.Takings.{Gives, Heard, told_over};
 
-use end_lines::{tell, tell_empty, tell_octets, tell_refused, tell_taken};
-use er_base::{NoMemory, Release};
+use crate::timed::Timed;
+use er_base::{Moment, NoMemory, Release};
 use er_end::{End, SendRefused};
 use er_trace::{Entry, Event};
 use safety_automaton::KeyFinder;
+use trace_lines::{tell, tell_empty, tell_octets, tell_refused, tell_taken};
 
 // What is left of octets of which so many were used.
 fn behind(octets: &[u8], used: usize) -> &[u8]
@@ -28,19 +29,18 @@ fn behind(octets: &[u8], used: usize) -> &[u8]
 fn give_piece<K: KeyFinder>(
     end: &mut End,
     keys: &K,
-    now: u64,
+    now: Moment,
     conn: u64,
     piece: &[u8],
     out: &mut Vec<u8>,
 ) -> Result<usize, NoMemory>
-    requires { now ≤ 1000000000000000 }
     ensures end { OnOk result (end.new ≡ happens now (of.Come (key_at (K.entries keys.now)) piece.now) end.old) }
     ensures text { OnOk result (out.new.items ≡ out.old.items ++ outcomes_text conn (tells now (of.Come (key_at (K.entries keys.now)) piece.now) end.old)) }
     ensures used { IfOk result (λ used. used ≡ used_of end.old piece.now) }
     ensures within { IfOk result (λ used. used ≤ length piece.now) }
     ensures moves { IfOk result (λ used. 0 < length piece.now → 0 < used) }
 {
-    let (used, deeds) = end.octets(keys, now, piece);
+    let (used, deeds) = end.octets(keys, now.get(), piece);
     tell(conn, &deeds, out)?;
     Ok(used)
 }
@@ -49,12 +49,11 @@ fn give_piece<K: KeyFinder>(
 fn give_octets<K: KeyFinder>(
     end: &mut End,
     keys: &K,
-    now: u64,
+    now: Moment,
     conn: u64,
     octets: &[u8],
     out: &mut Vec<u8>,
 ) -> Result<(), NoMemory>
-    requires { now ≤ 1000000000000000 }
     ensures { (last : ℕ) (m : of.End) → Follows last end.old m → last ≤ now
         → OnOk result (Heard now conn (key_at (K.entries keys.now)) octets.now m end.new out.old.items out.new.items) }
 {
@@ -62,10 +61,7 @@ fn give_octets<K: KeyFinder>(
     hdlc_frames::laws::kept_stands_for_stream();
     let mut used = 0;
     while used < octets.len() {
-        match give_piece(end, keys, now, conn, behind(octets, used), out) {
-            Ok(more) => used += more,
-            Err(want) => return Err(want),
-        }
+        used += give_piece(end, keys, now, conn, behind(octets, used), out)?;
     }
     Ok(())
 }
@@ -73,28 +69,26 @@ fn give_octets<K: KeyFinder>(
 // The user sends a message.
 fn give_send(
     end: &mut End,
-    now: u64,
+    now: Moment,
     conn: u64,
     text: &[u8],
     out: &mut Vec<u8>,
 ) -> Result<(), NoMemory>
-    requires { now ≤ 1000000000000000 }
     ensures end { OnOk result (end.new ≡ happens now (of.Send text.now) end.old) }
     ensures text { OnOk result (out.new.items ≡ out.old.items ++ outcomes_text conn (tells now (of.Send text.now) end.old)) }
 {
-    match end.send(now, text) {
+    match end.send(now.get(), text) {
         Ok(deeds) => tell(conn, &deeds, out),
         Err(refused) => tell_refused(conn, &refused, out),
     }
 }
 
 // The user takes a message.
-fn give_take(end: &mut End, now: u64, conn: u64, out: &mut Vec<u8>) -> Result<(), NoMemory>
-    requires { now ≤ 1000000000000000 }
+fn give_take(end: &mut End, now: Moment, conn: u64, out: &mut Vec<u8>) -> Result<(), NoMemory>
     ensures end { OnOk result (end.new ≡ happens now of.Take end.old) }
     ensures text { OnOk result (out.new.items ≡ out.old.items ++ outcomes_text conn (tells now of.Take end.old)) }
 {
-    match end.take(now) {
+    match end.take(now.get()) {
         Some(taken) => {
             tell_taken(conn, taken.text, out)?;
             tell_octets(conn, taken.out, out)
@@ -106,25 +100,23 @@ fn give_take(end: &mut End, now: u64, conn: u64, out: &mut Vec<u8>) -> Result<()
 // The user releases.
 fn give_release(
     end: &mut End,
-    now: u64,
+    now: Moment,
     conn: u64,
     sub: u8,
     out: &mut Vec<u8>,
 ) -> Result<(), NoMemory>
-    requires { now ≤ 1000000000000000 }
     ensures end { OnOk result (end.new ≡ happens now (of.Leave sub) end.old) }
     ensures text { OnOk result (out.new.items ≡ out.old.items ++ outcomes_text conn (tells now (of.Leave sub) end.old)) }
 {
-    tell(conn, &end.release(now, sub), out)
+    tell(conn, &end.release(now.get(), sub), out)
 }
 
 // A moment has come.
-fn give_tick(end: &mut End, now: u64, conn: u64, out: &mut Vec<u8>) -> Result<(), NoMemory>
-    requires { now ≤ 1000000000000000 }
+fn give_tick(end: &mut End, now: Moment, conn: u64, out: &mut Vec<u8>) -> Result<(), NoMemory>
     ensures end { OnOk result (end.new ≡ happens now of.Tick end.old) }
     ensures text { OnOk result (out.new.items ≡ out.old.items ++ outcomes_text conn (tells now of.Tick end.old)) }
 {
-    tell(conn, &end.tick(now), out)
+    tell(conn, &end.tick(now.get()), out)
 }
 
 // The line ended.
@@ -152,29 +144,27 @@ fn give_stalled(end: &mut End, conn: u64, out: &mut Vec<u8>) -> Result<(), NoMem
 }
 
 /// Starts an end that calls.
-pub fn give_start(end: &mut End, now: u64, conn: u64, out: &mut Vec<u8>) -> Result<(), NoMemory>
-    requires { now ≤ 1000000000000000 }
+pub fn give_start(end: &mut End, now: Moment, conn: u64, out: &mut Vec<u8>) -> Result<(), NoMemory>
     ensures end { OnOk result (end.new ≡ happens now of.Start end.old) }
     ensures text { OnOk result (out.new.items ≡ out.old.items ++ outcomes_text conn (tells now of.Start end.old)) }
 {
-    tell(conn, &end.start(now), out)
+    tell(conn, &end.start(now.get()), out)
 }
 
 /// Gives an end an event of its connection that isn't its opening, and appends the lines of what came of it.
 pub fn give<K: KeyFinder>(
     end: &mut End,
     keys: &K,
-    entry: &Entry,
+    timed: &Timed<'_>,
     out: &mut Vec<u8>,
 ) -> Result<(), NoMemory>
-    requires moment { entry.now.moment ≤ 1000000000000000 }
-    requires belongs { opens (role_of entry.now.event) ≡ false }
-    ensures { (settings : TraceSettings) (last : ℕ) (m : of.End) → Follows last end.old m → last ≤ entry.now.moment
-        → OnOk result (Gives settings (key_at (K.entries keys.now)) entry.now (Some m) end.new out.old.items out.new.items) }
+    requires { opens (role_of timed.now.entry.now.event) ≡ false }
+    ensures { (settings : TraceSettings) (last : ℕ) (m : of.End) → Follows last end.old m → last ≤ timed.now.entry.now.moment
+        → OnOk result (Gives settings (key_at (K.entries keys.now)) timed.now.entry.now (Some m) end.new out.old.items out.new.items) }
 {
     er_end::laws::standing();
-    let (now, conn) = (entry.moment, entry.conn);
-    match &entry.event {
+    let (now, conn) = (timed.moment(), timed.entry.conn);
+    match &timed.entry.event {
         Event::Octets(octets) => give_octets(end, keys, now, conn, octets.as_slice(), out),
         Event::Send(text) => give_send(end, now, conn, text.as_slice(), out),
         Event::Take => give_take(end, now, conn, out),

@@ -7,6 +7,7 @@
 mod connections;
 mod gives;
 mod run;
+mod timed;
 
 pub use run::replay;
 pub use trace_model::ReplayFault;

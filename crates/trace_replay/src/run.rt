@@ -2,7 +2,6 @@
 
 ghost use Rattle.std.specs.Prelude.{◌≡◌, ◌≤◌, ℕ, List, Option, OnOk, OnErr};
 ghost use Rattle.er_base.specs.LineTexts.{line_text};
-ghost use Rattle.er_settings.specs.Ranges.{AllAllowed};
 ghost use Rattle.safety_automaton.specs.Keys.{key_at};
 ghost use Rattle.link_trait.specs.Outside.{Grew, GrewPart, Rose};
 ghost use Rattle.er_trace.specs.declared.entry.Entry.{Entry as TraceEntry};
@@ -44,8 +43,7 @@ fn replay_entry<K: KeyFinder, S: Sink>(
     line: &mut Vec<u8>,
     sink: &mut S,
 ) -> Result<(), ReplayFault>
-    requires settings { AllAllowed settings.now }
-    requires entry { IsReadable entry.now }
+    requires { IsReadable entry.now }
     ensures replays { (before : List TraceEntry) → last ≡ last_moment before → Holds settings.now (key_at (K.entries keys.now)) before connections.old
         → ReplaysOne settings.now (key_at (K.entries keys.now)) before entry.now connections.new (S.state sink.old).held (S.state sink.new).held (S.state sink.old).faults (S.state sink.new).faults result }
     ensures later { (S.state sink.old).faults ≤ (S.state sink.new).faults }
@@ -58,10 +56,7 @@ fn replay_entry<K: KeyFinder, S: Sink>(
         });
     }
     line.clear();
-    match connections.take(settings, keys, entry, line) {
-        Ok(()) => {}
-        Err(fault) => return Err(fault),
-    }
+    connections.take(settings, keys, entry, line)?;
     match write_lines(line.as_slice(), sink) {
         Ok(()) => Ok(()),
         Err(_failed) => Err(ReplayFault::Sink),
@@ -85,10 +80,8 @@ fn replay_entries<K: KeyFinder, S: Sink>(
     let mut connections = Connections::new(alloc);
     let mut last = 0;
     for entry in trace.entries.as_slice() {
-        match replay_entry(&mut connections, settings, keys, last, entry, line, sink) {
-            Ok(()) => last = entry.moment,
-            Err(fault) => return Err(fault),
-        }
+        replay_entry(&mut connections, settings, keys, last, entry, line, sink)?;
+        last = entry.moment;
     }
     Ok(())
 }

@@ -1,7 +1,7 @@
 -- What a call keeps and tells, said of the sides of the model that what was kept stands for.
 use Rattle.std.proofs.Common.{◌≡◌, ℕ, ◌<◌, ◌≤◌, ◌&&◌, Bool, true, List, length, is_some, sym, ◌∙◌, ap, subst}
 use Rattle.er_base.specs.Stored.{Stored, Appends}
-use Rattle.er_settings.specs.declared.settings.Settings.{Settings}
+use Rattle.er_settings.specs.Values.{Settings}
 use Rattle.er_settings.specs.Ranges.{AllAllowed}
 use Rattle.x224_class2.specs.Transport.{Transport, Deed, side_made, is_new, is_called, is_open, after_connect, after_accept, after_hand, after_taken, after_next, reception, next_tpdu, waiting_count, untaken_count}
 use Rattle.x224_class2.specs.Kept.{Kept, kept_made, kept_after_connect, kept_after_accept, kept_after_hand, kept_after_taken, kept_reception, kept_next_tpdu, kept_after_next, octets_next}

@@ -1,6 +1,6 @@
 -- Messages that wait: one more, one less.
 use Rattle.std.proofs.Common.{◌≡◌, ℕ, ◌+◌, ◌%◌, ◌<◌, List, [], ◌∷◌, ◌++◌, length, drop, refl, arith, length-append}
-use Rattle.x224_class2.specs.Waiting.{left_of, AreNonempty, IsBegun, IsWaiting, AreInRange, AreNumbers}
+use Rattle.x224_class2.specs.Waiting.{left_of, AreNonempty, IsBegun, IsWaiting}
 
 pub length_left : (n : ℕ) (ms : List (List ℕ)) → length (left_of n ms) ≡ length ms
 length_left n [] = refl
@@ -35,20 +35,3 @@ behind_first (m ∷ ms) h = h.0
 pub waiting_pop : (n : ℕ) (ms : List (List ℕ)) → IsWaiting n ms → IsWaiting 0 (drop 1 ms)
 waiting_pop n [] w = record { count = w.count; nonempty = tt; begun = refl }
 waiting_pop n (m ∷ ms) w = record { count = omega (arith, w.count); nonempty = w.nonempty.1; begun = behind_first ms w.nonempty.1 }
-
-pub numbers_push : (ns : List ℕ) (n : ℕ) → AreNumbers ns → n < 128 → AreNumbers (ns ++ n ∷ [])
-numbers_push [] n h below = (below, tt)
-numbers_push (m ∷ ns) n h below = (h.0, numbers_push ns n h.1 below)
-
--- the number of the next DT
-pub number_next : (c s g a e r n : ℕ) → AreInRange c s g a e r n → AreInRange c s g a e ((r + 1) % 128) n
-number_next c s g a e r n h = record {
-  credit = h.credit;
-  size = h.size;
-  size_most = h.size_most;
-  given = h.given;
-  acked = h.acked;
-  edge = h.edge;
-  received = omega arith;
-  newest = h.newest;
-}

@@ -2,7 +2,7 @@
 -- refuses.
 use Rattle.std.specs.Prelude.{◌≡◌, ℕ, zero, suc, true, false, List, [], ◌∷◌, Some, None, Ok, Err, refl}
 use Rattle.er_settings.specs.Ranges.{settings_of}
-use Rattle.er_settings.specs.declared.settings.Settings.{Settings}
+use Rattle.er_settings.specs.Values.{Settings}
 use Rattle.x224_tpdu.specs.Spelling.{connection_request, connection_confirm, disconnect_request, disconnect_confirm, data_tpdu, acknowledgement}
 use Rattle.x224_tpdu.specs.declared.fault.TpFault.TheVariants.{Class, Parameter}
 use Rattle.x224_class2.specs.Segments.{Segment, segments_of, messages_in, text_so_far, ack_number}

@@ -22,19 +22,3 @@ pub record IsWaiting (n : ℕ) (messages : List (List ℕ)) : Type 0 where
   pub count : length messages ≤ 16
   pub nonempty : AreNonempty messages
   pub begun : IsBegun n messages
-
--- the ranges of the numbers
-pub record AreInRange (c s g a e r n : ℕ) : Type 0 where
-  pub credit : c < 16
-  pub size : IsSize s
-  pub size_most : s ≤ 1024
-  pub given : g < 128
-  pub acked : a < 128
-  pub edge : e < 128
-  pub received : r < 128
-  pub newest : n < 128
-
--- each is a number of seven bits
-abbrev pub AreNumbers : List ℕ → Type 0
-AreNumbers [] = Unit {0}
-AreNumbers (n ∷ ns) = (n < 128) × AreNumbers ns

@@ -7,9 +7,12 @@
 
 #![tactic(auto)]
 
+mod credit;
 mod deed;
 pub mod laws;
+mod number;
 mod outgoing;
+mod size;
 mod stage;
 mod transport;
 

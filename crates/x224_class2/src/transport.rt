@@ -1,7 +1,6 @@
 ghost use Rattle.std.specs.Prelude.{◌≡◌, ◌≢◌, ◌+◌, ◌<◌, ◌≤◌, ◌&&◌, [], length, true, false, IfOk, IfErr, MatchResult, min, is_some, if◌then◌else◌};
 ghost use Rattle.std.specs.Borrow.{sem};
 ghost use Rattle.er_base.specs.Stored.{HasRoom, Appends};
-ghost use Rattle.er_settings.specs.Ranges.{AllAllowed};
 ghost use Rattle.x224_class2.specs.Transport.{is_new, is_called, is_open, is_over, Refused, Data, side_made, after_connect, after_accept, after_hand, after_taken, after_next, reception, next_tpdu, waiting_count, untaken_count};
 ghost use Rattle.x224_class2.specs.Standing.{Stands, Follows, Shown};
 ghost use Rattle.x224_class2.specs.Kept.{kept_made, kept_after_connect, kept_after_accept, kept_after_hand, kept_after_taken, kept_reception, kept_after_next, kept_next_tpdu, octets_next, kept_over, may_be_called, kept_called, may_be_confirmed, kept_confirmed, may_be_disconnected, kept_on_data, kept_is_expected, may_acknowledge, kept_acknowledged, kept_ack, kept_behind, kept_tpdu_at, distance, stage_behind, untaken_behind};
@@ -9,11 +8,13 @@ ghost use Rattle.x224_class2.specs.Refusals.{dr_reason};
 ghost use Rattle.x224_class2.specs.Resting.{deed_of};
 ghost use Rattle.x224_class2.specs.Tpdus as given;
 ghost use Rattle.x224_class2.specs.Tpdus.{octets_given};
-ghost use Rattle.x224_tpdu.specs.Writing.{IsSize};
 ghost use Rattle.er_base.specs.Causes.{release_of};
 
+use crate::credit::Credit;
 use crate::deed::{Full, TransportDeed};
+use crate::number::Number;
 use crate::outgoing::{Outgoing, SLOTS};
+use crate::size::Size;
 use crate::stage::Stage;
 use arrayvec::ArrayVec;
 use er_base::{Cause, NoMemory, Room};
@@ -43,15 +44,15 @@ const PROTOCOL_ERROR: u8 = 133;
 #[derive(Drop)]
 pub struct Transport {
     is_caller: bool,
-    credit: u8,
+    credit: Credit,
     stage: Stage,
-    size: u16,
-    given: u8,
-    acked: u8,
-    edge: u8,
-    received: u8,
-    newest: u8,
-    lasts: ArrayVec<u8, 15>,
+    size: Size,
+    given: Number,
+    acked: Number,
+    edge: Number,
+    received: Number,
+    newest: Number,
+    lasts: ArrayVec<Number, 15>,
     text: Room,
     is_whole: bool,
     due: Option<ArrayVec<u8, 32>>,
@@ -59,10 +60,9 @@ pub struct Transport {
 }
 
 impl Model for Transport {
-    ghost use Rattle.std.specs.Prelude.{◌≡◌, [], if◌then◌else◌};
+    ghost use Rattle.std.specs.Prelude.{◌≡◌, ◌≤◌, [], if◌then◌else◌};
     ghost use Rattle.std.specs.Option.{option_map};
     ghost use Rattle.x224_class2.specs.Kept.{Kept};
-    ghost use Rattle.x224_class2.specs.Waiting.{AreInRange, AreNumbers};
 
     ghost Value = { Kept };
 
@@ -82,7 +82,7 @@ impl Model for Transport {
       due = option_map (λ user. user.items) t.due;
     } };
 
-    ghost invariant = { λ t. AreInRange t.credit t.size t.given t.acked t.edge t.received t.newest × AreNumbers t.lasts.items × (t.text.capacity ≡ 1032) };
+    ghost invariant = { λ t. (t.size ≤ 1024) × (t.text.capacity ≡ 1032) };
 }
 
 impl Transport {
@@ -90,7 +90,6 @@ impl Transport {
 
     /// The side that calls. It proposes the TPDU size of the settings and grants their credit.
     pub fn caller(alloc: Global, settings: &Settings) -> Result<Transport, NoMemory>
-        requires { AllAllowed settings.now }
         ensures kept { IfOk result (λ made. made ≡ kept_made true settings.now) }
         ensures stands { IfOk result (λ made. Stands made (side_made true settings.now)) }
     {
@@ -100,7 +99,6 @@ impl Transport {
     /// The side that is called. It answers the least of the proposal, 1,024 and the TPDU size of the settings,
     /// and grants their credit.
     pub fn callee(alloc: Global, settings: &Settings) -> Result<Transport, NoMemory>
-        requires { AllAllowed settings.now }
         ensures kept { IfOk result (λ made. made ≡ kept_made false settings.now) }
         ensures stands { IfOk result (λ made. Stands made (side_made false settings.now)) }
     {
@@ -109,7 +107,6 @@ impl Transport {
 
     #[tactic(auto, using(crate::proofs::Allowed::credit_most, crate::proofs::Allowed::size_named, crate::proofs::Allowed::size_most, crate::proofs::Following::made_follows))]
     fn made(alloc: Global, is_caller: bool, settings: &Settings) -> Result<Transport, NoMemory>
-        requires { AllAllowed settings.now }
         ensures kept { IfOk result (λ made. made ≡ kept_made is_caller settings.now) }
         ensures stands { IfOk result (λ made. Stands made (side_made is_caller settings.now)) }
     {
@@ -117,15 +114,15 @@ impl Transport {
         let text = Room::with_capacity(alloc, LONGEST)?;
         Ok(Transport {
             is_caller,
-            credit: settings.credit,
+            credit: Credit::new(settings.credit),
             stage: Stage::New,
-            size: settings.size,
+            size: Size::new(settings.size),
             outgoing,
-            given: 0,
-            acked: 0,
-            edge: 0,
-            received: 0,
-            newest: 0,
+            given: Number::new(0),
+            acked: Number::new(0),
+            edge: Number::new(0),
+            received: Number::new(0),
+            newest: Number::new(0),
             lasts: ArrayVec::new(),
             text,
             is_whole: false,
@@ -222,7 +219,7 @@ impl Transport {
                     user,
                 },
             ) => {
-                if self.request_comes(credit, dst, src, size) {
+                if self.request_comes(Credit::new(credit), dst, src, Size::new(size)) {
                     TransportDeed::Called(user)
                 } else {
                     refused(Cause::TpduRefused, PROTOCOL_ERROR)
@@ -237,7 +234,7 @@ impl Transport {
                     user,
                 },
             ) => {
-                if self.confirm_comes(credit, dst, src, size) {
+                if self.confirm_comes(Credit::new(credit), dst, src, Size::new(size)) {
                     TransportDeed::Confirmed(user)
                 } else {
                     refused(Cause::TpduRefused, PROTOCOL_ERROR)
@@ -257,7 +254,7 @@ impl Transport {
                     number,
                 },
             ) => {
-                if self.acknowledgement_comes(credit, dst, number) {
+                if self.acknowledgement_comes(Credit::new(credit), dst, Number::new(number)) {
                     TransportDeed::Nothing
                 } else {
                     refused(Cause::TpduRefused, PROTOCOL_ERROR)
@@ -345,17 +342,17 @@ impl Transport {
             return false;
         }
         if let Some(user) = &self.due {
-            self.write_opening(user.as_slice(), out);
+            self.write_opening(user, out);
             self.due = None;
             return true;
         }
         let ack = self.ack();
-        if ack != self.newest {
+        if ack.get() != self.newest.get() {
             self.newest = ack;
             self.write_acknowledgement(out);
             return true;
         }
-        if self.outgoing.len() == 0 || self.given == self.edge {
+        if self.outgoing.len() == 0 || self.given.get() == self.edge.get() {
             return false;
         }
         self.give_segment(out);
@@ -392,9 +389,7 @@ impl Transport {
     }
 
     // A CR comes: whether the callee expects it.
-    fn request_comes(&mut self, credit: u8, dst: u16, src: u16, size: u16) -> bool
-        requires credit { credit < 16 }
-        requires size { IsSize size }
+    fn request_comes(&mut self, credit: Credit, dst: u16, src: u16, size: Size) -> bool
         ensures fit { result ≡ may_be_called self.old dst src }
         ensures kept { self.new ≡ if result then kept_called self.old credit size else kept_over self.old }
     {
@@ -403,29 +398,27 @@ impl Transport {
             return false;
         }
         self.stage = Stage::Called;
-        self.size = agreed_size(size, self.size);
-        self.edge = credit;
+        self.size = size.agreed(self.size);
+        self.edge = Number::new(credit.get());
         true
     }
 
     // A CC comes: whether the caller expects it.
-    fn confirm_comes(&mut self, credit: u8, dst: u16, src: u16, size: u16) -> bool
-        requires credit { credit < 16 }
-        requires size { IsSize size }
+    fn confirm_comes(&mut self, credit: Credit, dst: u16, src: u16, size: Size) -> bool
         ensures fit { result ≡ may_be_confirmed self.old dst src size }
         ensures kept { self.new ≡ if result then kept_confirmed self.old credit size else kept_over self.old }
     {
         if self.stage != Stage::Calling
             || dst != REFERENCE
             || src != REFERENCE
-            || size > self.size
+            || size.get() > self.size.get()
         {
             self.stage = Stage::Over;
             return false;
         }
         self.stage = Stage::Open;
         self.size = size;
-        self.edge = credit;
+        self.edge = Number::new(credit.get());
         true
     }
 
@@ -440,23 +433,21 @@ impl Transport {
     }
 
     // An AK comes: whether it names a number that was given, and doesn't lower the edge.
-    fn acknowledgement_comes(&mut self, credit: u8, dst: u16, number: u8) -> bool
-        requires credit { credit < 16 }
-        requires number { number < 128 }
+    fn acknowledgement_comes(&mut self, credit: Credit, dst: u16, number: Number) -> bool
         ensures fit { result ≡ may_acknowledge self.old credit dst number }
         ensures kept { self.new ≡ if result then kept_acknowledged self.old credit number else kept_over self.old }
     {
-        let up = distance(self.acked, number);
+        let up = self.acked.distance(number);
         if self.stage != Stage::Open
             || dst != REFERENCE
-            || up > distance(self.acked, self.given)
-            || up + credit < distance(self.acked, self.edge)
+            || up > self.acked.distance(self.given)
+            || up + credit.get() < self.acked.distance(self.edge)
         {
             self.stage = Stage::Over;
             return false;
         }
         self.acked = number;
-        self.edge = (number + credit) % 128;
+        self.edge = number.edge(credit);
         true
     }
 
@@ -484,7 +475,7 @@ impl Transport {
             return refused(Cause::MessageTooLong, PROTOCOL_ERROR);
         }
         let number = self.received;
-        self.received = (number + 1) % 128;
+        self.received = number.next();
         if !last {
             self.text.put(user);
             return TransportDeed::Nothing;
@@ -505,26 +496,26 @@ impl Transport {
     {
         self.stage == Stage::Open
             && dst == REFERENCE
-            && number == self.received
-            && distance(self.newest, self.received) < self.credit
+            && number == self.received.get()
+            && self.newest.distance(self.received) < self.credit.get()
             && self.lasts.len() < 15
-            && user.len() <= usize::from(self.size) - 5
+            && user.len() <= usize::from(self.size.get()) - 5
     }
 
     // The number that an AK would name now.
-    fn ack(&self) -> u8
-        ensures value { result ≡ kept_ack self.now }
-        ensures small { result < 128 }
+    fn ack(&self) -> Number
+        ensures { result ≡ kept_ack self.now }
     {
         self.lasts.first().copied().unwrap_or(self.received)
     }
 
-    fn write_opening(&self, user: &[u8], out: &mut Room)
-        requires user { length user.now ≤ 32 }
-        requires room { HasRoom out.old 1024 }
-        ensures { Appends out.old out.new (octets_given (if self.now.is_caller then given.Cr self.now.credit self.now.size user.now else given.Cc self.now.credit self.now.size user.now)) }
+    fn write_opening(&self, user: &ArrayVec<u8, 32>, out: &mut Room)
+        requires { HasRoom out.old 1024 }
+        ensures wrote { Appends out.old out.new (octets_given (if self.now.is_caller then given.Cr self.now.credit self.now.size user.now.items else given.Cc self.now.credit self.now.size user.now.items)) }
+        ensures most { length out.new.items ≤ length out.old.items + 1024 }
     {
-        let (credit, size) = (self.credit, self.size);
+        let user = user.as_slice();
+        let (credit, size) = (self.credit.get(), self.size.get());
         let (dst, src) = (UNKNOWN, REFERENCE);
         if self.is_caller {
             write_into(
@@ -555,7 +546,8 @@ impl Transport {
         requires room { HasRoom out.old 1024 }
         ensures { Appends out.old out.new (octets_given (given.Ak self.now.credit self.now.newest)) }
     {
-        let (credit, dst, number) = (self.credit, REFERENCE, self.newest);
+        let (credit, number) = (self.credit.get(), self.newest.get());
+        let dst = REFERENCE;
         write_into(
             &Tpdu::Ak {
                 credit,
@@ -573,9 +565,9 @@ impl Transport {
         ensures wrote { Appends out.old out.new (octets_next (kept_tpdu_at self.old Data)) }
     {
         let dst = REFERENCE;
-        let number = self.given;
+        let number = self.given.get();
         let left = self.outgoing.first();
-        let longest = usize::from(self.size) - 5;
+        let longest = usize::from(self.size.get()) - 5;
         let last = left.len() <= longest;
         let user = if last { left } else { &left[..longest] };
         write_into(
@@ -589,29 +581,8 @@ impl Transport {
         );
         let octets = user.len();
         self.outgoing.give(octets);
-        self.given = (number + 1) % 128;
+        self.given = self.given.next();
     }
-}
-
-// How far a number lies above another, modulo 128.
-fn distance(from: u8, to: u8) -> u8
-    requires from { from < 128 }
-    requires to { to < 128 }
-    ensures value { result ≡ distance from to }
-    ensures small { result < 128 }
-{
-    (to + 128 - from) % 128
-}
-
-// The least of a proposed size, 1,024 and the own size.
-fn agreed_size(proposed: u16, own: u16) -> u16
-    requires proposed { IsSize proposed }
-    requires own { IsSize own }
-    ensures value { result ≡ min (min proposed 1024) own }
-    ensures size { IsSize result }
-    ensures most { result ≤ 1024 }
-{
-    proposed.min(1_024).min(own)
 }
 
 fn user_data(user: &[u8]) -> ArrayVec<u8, 32>

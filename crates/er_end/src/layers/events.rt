@@ -1,51 +1,53 @@
 //! The events.
 
-ghost use Rattle.std.specs.Prelude.{◌≡◌, ◌≤◌, ◌<◌, ◌==◌, [], None, length, is_some, MatchResult};
+ghost use Rattle.std.specs.Prelude.{◌≡◌, ◌<◌, length, None};
 ghost use Rattle.er_base.specs.Causes.{release_of};
 ghost use Rattle.er_base.specs.declared.cause.Cause.TheVariants.{SetUpTimeSpent};
 ghost use Rattle.hdlc_frames.specs.Shown.{shown};
 ghost use Rattle.safety_automaton.specs.Keys.{key_at};
-ghost use Rattle.end_model.specs.Steps.{started, received, refusal_of, sent, used, left, ticked, time_at, broken, departs, normal_disconnect, di_of, deadline};
+ghost use Rattle.er_end_model.specs.Steps.{new_event_at, step_start, step_frame, refusal_of, on_send, step_take, step_release, step_tick, on_expiry, send_dr, di_of, normal_disconnect, step_break, deadline};
 ghost use Rattle.er_end.specs.Inboxes.{first_in};
-ghost use Rattle.er_end.specs.KeptLayers.{kept, line_given_up, line_ticks};
-ghost use Rattle.er_end.specs.Coming.{Spent};
+ghost use Rattle.er_end.specs.KeptLayers.{kept};
 ghost use Rattle.er_end.specs.Shown.{IsRefused};
 
 use crate::deeds::SendRefused;
-use crate::layers::Layers;
-use er_base::{Cause, Release, Room};
+use crate::layers::{Layers, NORMAL_DISCONNECT};
+use crate::sapdu_room::SapduRoom;
+use er_base::{Cause, Moment, Release};
 use hdlc_frames::Found;
 use safety_automaton::KeyFinder;
-use sapdu::{SaPdu, is_message, write_into};
+use sapdu::is_message;
 
 impl Layers {
-    /// The end is to begin.
-    pub(crate) fn start(&mut self, scratch: &mut Room)
-        requires begun { self.old.line.out ≡ [] }
-        requires scratch { scratch.old.capacity ≡ 1032 }
-        ensures core { self.new ≡ started kept self.old }
-        ensures capacity { scratch.new.capacity ≡ 1032 }
+    /// The end is to begin: a calling station sends its set-up frame.
+    pub(crate) fn start_station(&mut self, now: Moment, room: &mut SapduRoom)
+        ensures { self.new ≡ step_start kept now self.old }
     {
+        self.begin_at(now);
         if self.is_released() {
             return;
         }
         self.line.start(self.moment);
-        self.conclude(scratch);
+        self.conclude(room);
     }
 
     /// What a deframer found comes.
-    pub(crate) fn receive<K: KeyFinder>(&mut self, keys: &K, found: &Found, scratch: &mut Room)
-        requires begun { self.old.line.out ≡ [] }
-        requires scratch { scratch.old.capacity ≡ 1032 }
-        ensures core { self.new ≡ received kept (key_at (K.entries keys.now)) (shown found.now) self.old }
-        ensures capacity { scratch.new.capacity ≡ 1032 }
+    pub(crate) fn receive<K: KeyFinder>(
+        &mut self,
+        keys: &K,
+        now: Moment,
+        found: &Found,
+        room: &mut SapduRoom,
+    )
+        ensures { self.new ≡ step_frame kept (key_at (K.entries keys.now)) now (shown found.now) self.old }
     {
+        self.begin_at(now);
         if self.is_released() {
             return;
         }
         let deed = self.line.receive(self.moment, found);
-        self.link_comes(keys, &deed, scratch);
-        self.conclude(scratch);
+        self.link_comes(keys, &deed, room);
+        self.conclude(room);
     }
 
     /// Why a send is refused, where it is.
@@ -69,140 +71,88 @@ impl Layers {
     }
 
     /// A message is sealed and handed down.
-    pub(crate) fn send(&mut self, user: &[u8], scratch: &mut Room)
-        requires room { Spent 63 self.old.line }
-        requires texts { self.old.safe.sealed ≡ None × self.old.safe.verified ≡ None }
-        requires scratch { scratch.old.capacity ≡ 1032 }
-        ensures core { self.new ≡ sent kept user.now self.old }
-        ensures capacity { scratch.new.capacity ≡ 1032 }
+    pub(crate) fn send_message(&mut self, now: Moment, user: &[u8], room: &mut SapduRoom)
+        ensures { self.new ≡ on_send kept user.now (new_event_at kept now self.old) }
     {
-        scratch.clear();
-        let _sent = self.safe.send(user, scratch);
-        self.say(scratch.held());
-        self.conclude(scratch);
+        self.begin_at(now);
+        room.seal(&mut self.side.safe, user);
+        self.hand_message(room.held());
+        self.conclude(room);
     }
 
     /// The user takes the oldest message.
-    pub(crate) fn take(&mut self, scratch: &mut Room)
-        requires scratch { scratch.old.capacity ≡ 1032 }
-        requires room { Spent 63 self.old.line }
-        ensures core { self.new ≡ used kept self.old }
+    #[tactic(auto, using(crate::proofs::Offers::concludes_keep))]
+    pub(crate) fn take_message(&mut self, now: Moment, room: &mut SapduRoom)
+        ensures core { self.new ≡ step_take kept now self.old }
         ensures text { 0 < length self.old.upper.inbox.waits → self.new.upper.inbox.last ≡ first_in self.old.upper.inbox.waits }
-        ensures capacity { scratch.new.capacity ≡ 1032 }
     {
-        if self.inbox.len() == 0 {
+        self.begin_at(now);
+        if self.side.inbox.len() == 0 {
             return;
         }
-        self.inbox.take();
-        self.skip();
-        self.conclude(scratch);
+        self.side.inbox.take();
+        self.take_from_transport();
+        self.conclude(room);
     }
 
     /// The user releases.
-    pub(crate) fn leave(&mut self, sub: u8, scratch: &mut Room)
-        requires room { Spent 63 self.old.line }
-        requires scratch { scratch.old.capacity ≡ 1032 }
-        ensures core { self.new ≡ left kept sub self.old }
-        ensures capacity { scratch.new.capacity ≡ 1032 }
+    pub(crate) fn release_by_user(&mut self, now: Moment, sub: u8, room: &mut SapduRoom)
+        ensures { self.new ≡ step_release kept now sub self.old }
     {
+        self.begin_at(now);
         if self.is_released() {
             return;
         }
-        scratch.clear();
-        self.safe.release(sub, scratch);
+        let di = room.release(&mut self.side.safe, sub);
         let why = Cause::User { sub }.release();
-        self.depart_with_di(why, scratch);
+        self.release_by_dr(why, NORMAL_DISCONNECT, di, room);
     }
 
-    // The DI of a release, with the own direction flag.
-    fn write_di(&self, why: Release, scratch: &mut Room)
-        requires { scratch.old.capacity ≡ 1032 }
-        ensures di { scratch.new.items ≡ di_of why self.now.safe.safety }
-        ensures short { length scratch.new.items ≤ 3 }
-        ensures capacity { scratch.new.capacity ≡ 1032 }
-    {
-        let Release { reason, sub, .. } = why;
-        let flag = self.safe.role().flag();
-        scratch.clear();
-        write_into(&SaPdu::Di { reason, sub }, flag, scratch);
-    }
-
-    // The time for the set-up is spent: a DR with a DI of the end's own.
-    fn give_up(&mut self, scratch: &mut Room)
-        requires scratch { scratch.old.capacity ≡ 1032 }
-        requires room { Spent 63 self.old.line }
-        ensures core { self.new ≡ departs kept (release_of SetUpTimeSpent) normal_disconnect (di_of (release_of SetUpTimeSpent) self.old.safe.safety) self.old }
-        ensures capacity { scratch.new.capacity ≡ 1032 }
+    // The time for the set-up is spent: the DR has a DI of the end's own.
+    fn release_late(&mut self, room: &mut SapduRoom)
+        ensures { self.new ≡ send_dr kept (release_of SetUpTimeSpent) normal_disconnect (di_of (release_of SetUpTimeSpent) self.old.safe.safety) self.old }
     {
         let why = Cause::SetUpTimeSpent.release();
-        self.write_di(why, scratch);
-        self.depart_with_di(why, scratch);
-    }
-
-    // The time for the set-up is spent, where it is.
-    fn set_up_ends(&mut self, scratch: &mut Room)
-        requires scratch { scratch.old.capacity ≡ 1032 }
-        requires room { Spent 63 self.old.line }
-        requires live { self.old.released ≡ None }
-        ensures core { self.new ≡ time_at kept None self.old }
-        ensures capacity { scratch.new.capacity ≡ 1032 }
-        ensures spent { self.new.released ≡ None → Spent 63 self.new.line }
-    {
-        if self.is_spent() {
-            self.give_up(scratch);
-        }
-    }
-
-    // T1 may expire, then the time for the set-up may be spent.
-    fn let_expire(&mut self, scratch: &mut Room)
-        requires begun { self.old.line.out ≡ [] }
-        requires scratch { scratch.old.capacity ≡ 1032 }
-        requires live { self.old.released ≡ None }
-        ensures core { self.new ≡ time_at kept (line_given_up self.old.moment self.old.line) (record self.old { line = line_ticks self.old.moment self.old.line }) }
-        ensures capacity { scratch.new.capacity ≡ 1032 }
-        ensures spent { self.new.released ≡ None → Spent 63 self.new.line }
-    {
-        let given_up = self.line.tick(self.moment);
-        self.time_goes(given_up, scratch);
+        let di = room.di(&self.side.safe, why);
+        self.release_by_dr(why, NORMAL_DISCONNECT, di, room);
     }
 
     // The station gave up, or the time for the set-up may be spent.
-    fn time_goes(&mut self, given_up: Option<Release>, scratch: &mut Room)
-        requires scratch { scratch.old.capacity ≡ 1032 }
-        requires room { Spent 63 self.old.line }
-        requires live { self.old.released ≡ None }
-        ensures core { self.new ≡ time_at kept given_up self.old }
-        ensures capacity { scratch.new.capacity ≡ 1032 }
-        ensures spent { self.new.released ≡ None → Spent 63 self.new.line }
+    fn let_expire(&mut self, given_up: Option<Release>, room: &mut SapduRoom)
+        ensures { self.new ≡ on_expiry kept given_up self.old }
     {
         match given_up {
-            Some(why) => self.end(why),
-            None => self.set_up_ends(scratch),
+            Some(why) => self.set_released(why),
+            None => {
+                if self.is_spent() {
+                    self.release_late(room);
+                }
+            }
         }
     }
 
-    /// The moment has come.
-    pub(crate) fn tick(&mut self, scratch: &mut Room)
-        requires begun { self.old.line.out ≡ [] }
-        requires scratch { scratch.old.capacity ≡ 1032 }
-        ensures core { self.new ≡ ticked kept self.old }
-        ensures capacity { scratch.new.capacity ≡ 1032 }
+    /// The moment has come: T1 may expire, then the time for the set-up may be spent.
+    pub(crate) fn tick(&mut self, now: Moment, room: &mut SapduRoom)
+        ensures { self.new ≡ step_tick kept now self.old }
     {
+        self.begin_at(now);
         if self.is_released() {
             return;
         }
-        self.let_expire(scratch);
-        self.conclude(scratch);
+        let given_up = self.line.tick(self.moment);
+        self.let_expire(given_up, room);
+        self.conclude(room);
     }
 
     /// The line ended, failed or stalled.
     pub(crate) fn break_off(&mut self, cause: Cause)
-        ensures { self.new ≡ broken cause self.old }
+        ensures { self.new ≡ step_break kept cause self.old }
     {
+        self.begin();
         if self.is_released() {
             return;
         }
-        self.end(cause.release());
+        self.set_released(cause.release());
     }
 
     /// The moment at which the end wants a tick.

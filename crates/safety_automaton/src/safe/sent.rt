@@ -1,51 +1,49 @@
 //! What a side does at the requests of its user: the start, and a message.
 
-ghost use Rattle.std.specs.Prelude.{◌≡◌, ◌≤◌, ◌+◌, length, None, OnOk, OnErr};
-ghost use Rattle.sapdu.specs.Messages.{HasRoomForSapdu};
+ghost use Rattle.std.specs.Prelude.{◌≡◌, None, OnOk, OnErr};
+ghost use Rattle.sapdu.specs.Messages.{IsMessage};
 ghost use Rattle.safety_automaton.specs.Keys.{no_keys};
-ghost use Rattle.safety_automaton.specs.Safety.{ConnectRequest, DataRequest, step, sealed_by, sent_by};
-ghost use Rattle.safety_automaton.specs.Reports.{state_of, SendsAs};
+ghost use Rattle.safety_automaton.specs.Safety.{ConnectRequest, DataRequest, step, sealed_by, sent_by, flag_of};
+ghost use Rattle.safety_automaton.specs.Reports.{state_of};
+ghost use Rattle.safety_automaton.specs.Kept.{octets_of, SealsAs};
 ghost use Rattle.safety_automaton.specs.declared.safe_state.SafeState.TheVariants as state;
-ghost use Rattle.er_base.specs.Stored.{Appends};
 
 use super::Safe;
+use crate::control_pdu::ControlPdu;
 use crate::deed::SealRefused;
 use crate::phase::{Phase, Stage};
-use crate::text::{FEATURE, message_text};
-use er_base::Room;
-use sapdu::{SaPdu, is_message};
+use crate::text::message_text;
+use sapdu::is_message;
+use std::mem;
 
 impl Safe {
-    // A start: AU1 is sent.
-    pub(super) fn send_au1(&mut self, out: &mut Room)
-        requires ready { state_of self.old.safety.phase ≡ state.Ready }
-        requires room { HasRoomForSapdu out.old }
+    // A start: the AU1 that is to be sent.
+    pub(super) fn begin(&mut self) -> ControlPdu
+        requires { state_of self.old.safety.phase ≡ state.Ready }
         ensures safety { self.new.safety ≡ (step no_keys self.old.safety ConnectRequest).0 }
         ensures sealed { self.new.sealed ≡ None }
         ensures verified { self.new.verified ≡ None }
-        ensures out { Appends out.old out.new (sent_by (step no_keys self.old.safety ConnectRequest).1) }
+        ensures sends { octets_of result (flag_of self.new.safety.role) ≡ sent_by (step no_keys self.old.safety ConnectRequest).1 }
     {
-        let Phase::Ready { peer, kmac, rb } = self.phase else {
+        // the KMAC is moved from one phase to the next, and not copied
+        let before = mem::replace(&mut self.phase, Phase::WaitAu1 { ra: 0 });
+        let Phase::Ready { peer, kmac, rb } = before else {
             unreachable!()
         };
-        let au1 = SaPdu::Au1 {
-            id: self.me,
-            feature: FEATURE,
-            rb,
-        };
-        self.write(&au1, out);
-        self.set_phase(Phase::WaitAu2 { peer, kmac, rb }, None, None);
+        self.phase = Phase::WaitAu2 { peer, kmac, rb };
+        self.sealed.clear();
+        self.verified.clear();
+        ControlPdu::Au1 { id: self.me, rb }
     }
 
-    // A message of the user: DT is sent.
-    pub(super) fn send_dt(&mut self, user: &[u8], out: &mut Room) -> Result<(), SealRefused>
-        requires room { HasRoomForSapdu out.old }
+    // A message of the user: the MAC of the DT that is to be sent.
+    pub(super) fn seal_dt(&mut self, user: &[u8]) -> Result<u64, SealRefused>
         ensures safety { self.new.safety ≡ (step no_keys self.old.safety (DataRequest user.now)).0 }
-        ensures report { SendsAs result (step no_keys self.old.safety (DataRequest user.now)).1 }
-        ensures out { Appends out.old out.new (sent_by (step no_keys self.old.safety (DataRequest user.now)).1) }
+        ensures report { SealsAs user.now (flag_of self.old.safety.role) result (step no_keys self.old.safety (DataRequest user.now)).1 }
         ensures sealed { OnOk result (self.new.sealed ≡ sealed_by (step no_keys self.old.safety (DataRequest user.now)).1) }
         ensures verified { OnOk result (self.new.verified ≡ None) }
-        ensures refused { OnErr result ((self.new ≡ self.old) × (out.new ≡ out.old)) }
+        ensures user { OnOk result (IsMessage user.now) }
+        ensures refused { OnErr result (self.new ≡ self.old) }
     {
         let session = match &self.phase {
             Phase::Released { release, .. } => return Err(SealRefused::Released(*release)),
@@ -59,10 +57,9 @@ impl Safe {
             return Err(SealRefused::Length(user.len()));
         }
         let sealed = message_text(self.role.flag(), session.peer, user);
-        let mac = session.keys.mac(sealed.octets());
-        self.write(&SaPdu::Dt { user, mac }, out);
+        let mac = session.mac(&sealed);
         self.sealed.keep(&sealed);
         self.verified.clear();
-        Ok(())
+        Ok(mac)
     }
 }

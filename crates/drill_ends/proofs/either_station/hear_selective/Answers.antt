@@ -1,5 +1,5 @@
 use Rattle.hdlc_frames.specs.Shown.{shown}
-use Rattle.station_model.specs.Selective.{selective_receives}
+use Rattle.hdlc_station_model.specs.Selective.{selective_receives}
 use Rattle.drill_ends.proofs.EitherCalls.{selective_brought}
 use Rattle.drill_ends.proofs.either_station.hear_selective.Goals as goal
 

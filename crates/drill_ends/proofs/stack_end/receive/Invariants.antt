@@ -1,5 +1,5 @@
 use Rattle.std.proofs.Common.{length}
-use Rattle.end_model.specs.Ends.{End as Stack}
+use Rattle.er_end_model.specs.Ends.{End as Stack}
 use Rattle.drill_ends.specs.KeptStacks.{StandsStack}
 use Rattle.drill_ends.specs.StackEnds.{StackReading}
 use Rattle.drill_ends.proofs.stack_end.receive.Given as goal

@@ -1,5 +1,5 @@
 use Rattle.std.proofs.Common.{◌≡◌, Bool, List, length}
-use Rattle.station_model.specs.Frames.{Frame}
+use Rattle.hdlc_station_model.specs.Frames.{Frame}
 use Rattle.hdlc_balanced.specs.Kept.{texts}
 use Rattle.drill_ends.specs.StationEnds.{TellingFrames}
 use Rattle.drill_ends.proofs.telling.tell_frames.Given as goal

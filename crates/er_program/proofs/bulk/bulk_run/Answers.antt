@@ -13,7 +13,7 @@ do_all-requires-clause-ran g c = ran_so _ _ c.in_ok-world.ensures.plan c.in_ok-w
 pub returns-in-Ok-clause-ends : goal.returns-in-Ok-clause-ends
 returns-in-Ok-clause-ends g c =
     ends_counted _ _ _ _ _ _ _ _ _ _ _ (planned _ _ c.in_ok-world.ensures.plan c.usual.ensures.value) (c.as_slice.ensures.value ∙ c.in_ok-steps.ensures.steps)
-    c.in-Ok.ensures c.totals.ensures c.counted.ensures.gives
+    c.in-Ok.ensures c.totals.ensures (rw c.get.ensures.same at c.counted.ensures.gives)
 
 pub returns-clause-ends : goal.returns-clause-ends
 returns-clause-ends g c =

@@ -1,29 +1,28 @@
--- The key file that was fetched, and the fetch that failed.
-use Rattle.std.proofs.Common.{[], ◌∷◌, Err, ap}
-use Rattle.link_trait.specs.declared.cabinet.FetchFault.{FetchFault}
+-- The key file that was fetched, and how the run ends without it.
+use Rattle.std.proofs.Common.{[], ◌∷◌}
 use Rattle.link_trait.specs.Growth.{part_then, part_more}
-use Rattle.er_program.proofs.RunEndings.{has_file_kept}
+use Rattle.er_statuses.specs.Fetching.{has_file_kept}
 use Rattle.er_program.proofs.ReplayRuns.{ends_replayed, ends_replay_lost}
-use Rattle.er_program.proofs.Askings.{asks_words}
+use Rattle.er_program.proofs.Askings.{asks_words, asks_words_lost}
 use Rattle.er_program.proofs.replay.replay_run.Goals as goal
 
 pub returns-in-Ok-clause-ends : goal.returns-in-Ok-clause-ends
 returns-in-Ok-clause-ends g c =
     ends_replayed _ _ c.in-Ok.octets.items _ _ _ _ _ _ _ _ _ c.in-Ok.ensures.count
-    (has_file_kept _ _ _ _ (has_file_kept _ _ _ _ c.in-Ok.ensures.ok c.in-Ok.ensures.kept) c.replay_with.ensures.files)
-    (rw c.as_slice.ensures.value at c.replay_with.ensures.ends)
+    (has_file_kept _ _ _ _ c.in-Ok.ensures.file c.replay_with.ensures.files)
+    (rw (c.as_slice.ensures.value, c.in-Ok.ensures.untouched) at c.replay_with.ensures.ends)
 
 pub returns-in-Ok-clause-asks : goal.returns-in-Ok-clause-asks
-returns-in-Ok-clause-asks g c = asks_words _ _ _ _ _ _ _ _ c.in-Ok.ensures.noted c.replay_with.ensures.asks
+returns-in-Ok-clause-asks g c = asks_words _ _ _ _ _ _ _ _ c.in-Ok.ensures.asked (rw c.in-Ok.ensures.untouched at c.replay_with.ensures.asks)
 
 pub returns-in-Ok-clause-part : goal.returns-in-Ok-clause-part
-returns-in-Ok-clause-part g c = part_then _ _ _ _ _ c.in-Ok.ensures.noted c.replay_with.ensures.part
+returns-in-Ok-clause-part g c = part_then _ _ _ _ _ c.in-Ok.ensures.asked c.replay_with.ensures.part
 
-pub returns-in-Err-Failed-clause-ends : goal.returns-in-Err-Failed-clause-ends
-returns-in-Err-Failed-clause-ends g c =
-    ends_replay_lost _ _ _ _ _ _ _ _ _ _ (c.in-Err-Failed.ensures.failed (ap (λ (e : FetchFault). Err e) c.in-Err-Failed.field-0-is)) c.unfetched.ensures.gives
+pub returns-in-Err-clause-ends : goal.returns-in-Err-clause-ends
+returns-in-Err-clause-ends g c = ends_replay_lost _ _ _ _ _ _ _ _ _ _ c.in-Err.ensures.ended
 
-pub returns-in-Err-NoMemory-clause-part : goal.returns-in-Err-NoMemory-clause-part
-returns-in-Err-NoMemory-clause-part g c =
-    part_more _ _ (c.args.keys.now ∷ []) (c.args.trace.now ∷ [])
-    (rw c.in-Err-NoMemory.field-0-is at c.in-Err-NoMemory.ensures.noted)
+pub returns-in-Err-clause-asks : goal.returns-in-Err-clause-asks
+returns-in-Err-clause-asks g c = asks_words_lost _ _ _ _ _ _ _ _ _ _ _ c.in-Err.ensures.asked_for c.in-Err.ensures.ended
+
+pub returns-in-Err-clause-part : goal.returns-in-Err-clause-part
+returns-in-Err-clause-part g c = part_more _ _ (c.args.keys.now ∷ []) (c.args.trace.now ∷ []) c.in-Err.ensures.part

@@ -1,5 +1,5 @@
 -- Beside the cabinet and the sink, the rest is as it was.
-use Rattle.er_program.specs.Outsides.{traffic_of, outside_of}
+use Rattle.er_serving.specs.Outsides.{traffic_of, outside_of}
 use Rattle.er_program.proofs.top.dispatched.Goals as goal
 
 pub returns-else-needs_wires-clause-run : goal.returns-else-needs_wires-clause-run

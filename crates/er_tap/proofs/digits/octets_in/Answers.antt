@@ -1,5 +1,5 @@
 -- One block more, and the last one.
-use Rattle.std.proofs.Common.{◌≡◌, ℕ, ◌+◌, ◌-◌, ◌/◌, ◌%◌, List, ◌++◌, Some, length, take, replicate, arith, ap, sym, ◌∙◌, append_assoc, take-append-drop, length-append}
+use Rattle.std.proofs.Common.{◌≡◌, ℕ, ◌+◌, ◌-◌, ◌/◌, List, ◌++◌, Some, length, take, replicate, arith, ap, sym, ◌∙◌, append_assoc, take-append-drop, length-append}
 use Rattle.std.proofs.lemmas.Bool.{eqb-false}
 use Rattle.er_tap.specs.Digits.{joined, octets_by, AreValues, AreDigits}
 use Rattle.er_tap.proofs.Values.{digits_then, digits_before, octets_then, octets_before, spelled}

@@ -10,11 +10,11 @@ returns-in-Ok-clause-line c =
     let cut = rw c.in-Some.is at c.next_row.ensures.cut in
     let kept = rw (sym c.as_slice.ensures.value) at cut.kept in
     let said = said_by_kept _ cut.words _ kept (rw c.in-Ok.is at c.read_line.ensures.said) in
+    let number = rw c.in-Some.is at c.next_row.ensures.number in
     record {
-      said = ap lines_said cut.rows ∙ one_line _ _ _ said;
+      said = rw number (ap lines_said cut.rows ∙ one_line _ _ _ said);
       range = rw c.in-Ok.is at c.read_line.ensures.range;
       less = rw c.in-Some.is at c.next_row.ensures.less;
-      count = rw c.in-Some.is at c.next_row.ensures.count;
     }
 
 pub returns-in-Err-clause-fault : goal.returns-in-Err-clause-fault

@@ -1,6 +1,6 @@
 -- By the ranges of the settings.
 use Rattle.std.proofs.Common.{sym, subst, ◌∙◌, ap, Some}
-use Rattle.er_settings.specs.declared.settings.Settings.{Settings}
+use Rattle.er_settings.specs.Values.{Settings}
 use Rattle.er_settings.specs.Ranges.{AllAllowed}
 use Rattle.er_trace.proofs.HeaderRanges.{allowed_some, refused_none}
 use Rattle.er_trace.proofs.header.allowed.Goals as goal

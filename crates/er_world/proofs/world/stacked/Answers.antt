@@ -1,7 +1,7 @@
 use Rattle.std.proofs.Common.{ℕ, subst}
 use Rattle.er_base.specs.declared.side.Side.TheVariants.{E}
-use Rattle.end_model.specs.Ends.{Call, Answer}
-use Rattle.end_model.specs.Ends as stacks
+use Rattle.er_end_model.specs.Ends.{Call, Answer}
+use Rattle.er_end_model.specs.Ends as stacks
 use Rattle.drill_ends.specs.KeptStacks.{StandsStack}
 use Rattle.er_world.proofs.LinkRows.{place_at}
 use Rattle.er_world.proofs.Opening.{stack_stands, opens_stacked}

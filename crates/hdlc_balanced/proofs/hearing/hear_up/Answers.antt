@@ -1,43 +1,34 @@
 use Rattle.hdlc_balanced.proofs.hearing.hear_up.Goals as goal
 
-pub returns-in-Info-clause-tells : goal.returns-in-Info-clause-tells
-returns-in-Info-clause-tells c = rw c.in-Info.is (λ information s before h. c.hear_info.ensures.tells information s before h)
+pub returns-in-Info-clause-hears : goal.returns-in-Info-clause-hears
+returns-in-Info-clause-hears c = rw c.in-Info.is c.hear_info.ensures.hears
 
-pub returns-in-Rr-clause-tells : goal.returns-in-Rr-clause-tells
-returns-in-Rr-clause-tells c = rw c.in-Rr.is (λ information s before h. c.hear_ready.ensures.tells information s before h)
+pub returns-in-Rr-clause-hears : goal.returns-in-Rr-clause-hears
+returns-in-Rr-clause-hears c = rw c.in-Rr.is c.hear_ready.ensures.hears
 
-pub returns-in-Rnr-clause-tells : goal.returns-in-Rnr-clause-tells
-returns-in-Rnr-clause-tells c = rw c.in-Rnr.is (λ information s before h. c.hear_ready-in-Rnr.ensures.tells information s before h)
+pub returns-in-Rnr-clause-hears : goal.returns-in-Rnr-clause-hears
+returns-in-Rnr-clause-hears c = rw c.in-Rnr.is c.hear_ready-in-Rnr.ensures.hears
 
-pub returns-in-Rej-clause-tells : goal.returns-in-Rej-clause-tells
-returns-in-Rej-clause-tells c = rw c.in-Rej.is (λ information s before h. c.hear_reject.ensures.tells information s before h)
+pub returns-in-Rej-clause-hears : goal.returns-in-Rej-clause-hears
+returns-in-Rej-clause-hears c = rw c.in-Rej.is c.hear_reject.ensures.hears
 
-pub returns-in-Srej-clause-tells : goal.returns-in-Srej-clause-tells
-returns-in-Srej-clause-tells c = rw c.in-Srej.is (λ information s before h. c.refuse.ensures.tells information s before h)
+pub returns-in-Srej-clause-hears : goal.returns-in-Srej-clause-hears
+returns-in-Srej-clause-hears c = rw c.in-Srej.is c.refuse.ensures.hears
 
-pub returns-in-Sabm-clause-tells : goal.returns-in-Sabm-clause-tells
-returns-in-Sabm-clause-tells c = rw c.in-Sabm.is (λ information s before h. c.set_up_again.ensures.tells information s before h)
+pub returns-in-Sabm-clause-hears : goal.returns-in-Sabm-clause-hears
+returns-in-Sabm-clause-hears c = rw c.in-Sabm.is c.set_up_again.ensures.hears
 
-pub returns-in-Sabme-clause-tells : goal.returns-in-Sabme-clause-tells
-returns-in-Sabme-clause-tells c = rw c.in-Sabme.is (λ information s before h. c.set_up_again-in-Sabme.ensures.tells information s before h)
+pub returns-in-Sabme-clause-hears : goal.returns-in-Sabme-clause-hears
+returns-in-Sabme-clause-hears c = rw c.in-Sabme.is c.set_up_again-in-Sabme.ensures.hears
 
-pub returns-in-Disc-clause-tells : goal.returns-in-Disc-clause-tells
-returns-in-Disc-clause-tells c = rw c.in-Disc.is (λ information s before h. c.disconnect.ensures.tells information s before h)
+pub returns-in-Disc-clause-hears : goal.returns-in-Disc-clause-hears
+returns-in-Disc-clause-hears c = rw c.in-Disc.is c.disconnect.ensures.hears
 
-pub returns-in-Ua-clause-tells : goal.returns-in-Ua-clause-tells
-returns-in-Ua-clause-tells c = rw c.in-Ua.is (λ information s before h. c.stray.ensures.tells information _ s before h)
+pub returns-in-Ua-clause-hears : goal.returns-in-Ua-clause-hears
+returns-in-Ua-clause-hears c = rw c.in-Ua.is c.stray.ensures.hears
 
-pub returns-in-Dm-clause-tells : goal.returns-in-Dm-clause-tells
-returns-in-Dm-clause-tells c = rw c.in-Dm.is (λ information s before h. c.drop_link.ensures.tells information _ s before h)
+pub returns-in-Dm-clause-hears : goal.returns-in-Dm-clause-hears
+returns-in-Dm-clause-hears c = rw c.in-Dm.is c.drop_link.ensures.hears
 
-pub returns-in-Frmr-clause-tells : goal.returns-in-Frmr-clause-tells
-returns-in-Frmr-clause-tells c = rw c.in-Frmr.is (λ information s before h. c.drop_link-in-Frmr.ensures.tells information _ s before h)
-
-pub returns-in-Ua-clause-within : goal.returns-in-Ua-clause-within
-returns-in-Ua-clause-within c = c.stray.ensures.within _ _
-
-pub returns-in-Dm-clause-within : goal.returns-in-Dm-clause-within
-returns-in-Dm-clause-within c = c.drop_link.ensures.within _ _
-
-pub returns-in-Frmr-clause-within : goal.returns-in-Frmr-clause-within
-returns-in-Frmr-clause-within c = c.drop_link-in-Frmr.ensures.within _ _
+pub returns-in-Frmr-clause-hears : goal.returns-in-Frmr-clause-hears
+returns-in-Frmr-clause-hears c = rw c.in-Frmr.is c.drop_link-in-Frmr.ensures.hears

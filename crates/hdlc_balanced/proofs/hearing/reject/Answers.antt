@@ -1,12 +1,18 @@
-use Rattle.std.proofs.Common.{true, length, ap, sym, ◌∙◌}
-use Rattle.station_model.specs.Frames.{Rr, Rej}
-use Rattle.station_model.specs.Stations.{puts}
+use Rattle.std.proofs.Common.{length, ◌++◌, true, refl, ap, sym, ◌∙◌}
+use Rattle.hdlc_station_model.specs.Frames.{Rr, Rej}
+use Rattle.hdlc_station_model.specs.Stations.{puts}
 use Rattle.hdlc_balanced.specs.Kept.{Kept}
-use Rattle.station_core.specs.Following.{stands_yes, stands_no}
+use Rattle.hdlc_station_core.specs.declared.deeds.Reply.TheVariants.{Ready, Reject}
+use Rattle.hdlc_station_core.specs.Following.{stands_yes, stands_no}
+use Rattle.hdlc_station_core.specs.Saying.{saying}
 use Rattle.hdlc_balanced.proofs.hearing.reject.Goals as goal
 
-pub returns-then-has_gap-clause-follows : goal.returns-then-has_gap-clause-follows
-returns-then-has_gap-clause-follows c = λ s before d h. stands_yes _ before _ d s.gap (puts (Rr (length s.taken)) s) (puts (Rej (length s.taken)) (record s { gap = true })) (sym (ap (λ (k : Kept). k.gap) h.is) ∙ sym c.has_gap.ensures ∙ c.if-has_gap.true) (c.say_ready.ensures.follows s before d h)
+pub returns-then-has_gap-clause-answers : goal.returns-then-has_gap-clause-answers
+returns-then-has_gap-clause-answers c = λ out out' e s before d h.
+    stands_yes _ before _ d s.gap (puts (Rr (length s.taken)) s) (puts (Rej (length s.taken)) (record s { gap = true })) (sym (ap (λ (k : Kept). k.gap) h.is) ∙ sym c.has_gap.ensures ∙ c.if-has_gap.true)
+    (saying _ before out out' d s (Rr (length s.taken)) Ready refl h e)
 
-pub returns-else-has_gap-clause-follows : goal.returns-else-has_gap-clause-follows
-returns-else-has_gap-clause-follows c = λ s before d h. stands_no _ before _ d s.gap (puts (Rr (length s.taken)) s) (puts (Rej (length s.taken)) (record s { gap = true })) (sym (ap (λ (k : Kept). k.gap) h.is) ∙ sym c.has_gap.ensures ∙ c.if-has_gap.false) (c.say_reject.ensures.follows _ before d (c.mark_gap.ensures.follows _ s before d h))
+pub returns-clause-answers : goal.returns-clause-answers
+returns-clause-answers c = λ out out' e s before d h.
+    stands_no _ before _ d s.gap (puts (Rr (length s.taken)) s) (puts (Rej (length s.taken)) (record s { gap = true })) (sym (ap (λ (k : Kept). k.gap) h.is) ∙ sym c.has_gap.ensures ∙ c.if-has_gap.false)
+    (saying _ before out out' d (record s { gap = true }) (Rej (length s.taken)) Reject refl (c.mark_gap.ensures.follows out s before d h) e)

@@ -1,17 +1,21 @@
 use Rattle.std.proofs.Common.{◌%◌, length, ap, sym, ◌∙◌, eq-eqb, ne_eqb}
 use Rattle.std.specs.Prelude.{◌==◌}
-use Rattle.station_model.specs.Frames.{modulo}
-use Rattle.station_model.specs.Stations.{no_deed}
-use Rattle.station_model.specs.Receiving.{accepts, rejects}
+use Rattle.hdlc_station_model.specs.Frames.{modulo}
+use Rattle.hdlc_station_model.specs.Stations.{no_deed}
+use Rattle.hdlc_station_model.specs.Receiving.{accepts, rejects}
 use Rattle.hdlc_balanced.specs.Kept.{Kept}
-use Rattle.station_core.specs.Following.{stands_yes, stands_no}
+use Rattle.hdlc_station_core.specs.Following.{stands_yes, stands_no}
+use Rattle.hdlc_station_core.specs.Saying.{silent}
 use Rattle.hdlc_balanced.proofs.hearing.take.Goals as goal
 
-pub returns-then-got-ns-clause-tells : goal.returns-then-got-ns-clause-tells
-returns-then-got-ns-clause-tells c = λ payload s before h. stands_yes _ before _ _ (length s.taken % modulo s.extended == c.args.ns) (accepts payload s) (rejects s) (eq-eqb (length s.taken % modulo s.extended) c.args.ns (sym (ap (λ (k : Kept). k.got) h.is) ∙ sym c.got.ensures ∙ c.if-got-ns.true)) (c.accept.ensures.tells payload _ s before h)
+pub returns-then-vr-ns-clause-hears : goal.returns-then-vr-ns-clause-hears
+returns-then-vr-ns-clause-hears c = λ payload out out' e s before h.
+    stands_yes _ before _ _ (length s.taken % modulo s.extended == c.args.ns) (accepts payload s) (rejects s)
+    (eq-eqb (length s.taken % modulo s.extended) c.args.ns (sym (ap (λ (k : Kept). k.vr) h.is) ∙ sym c.vr.ensures ∙ c.if-vr-ns.true))
+    (silent _ before out out' _ _ (c.accept.ensures.tells payload out s before h) e)
 
-pub returns-clause-tells : goal.returns-clause-tells
-returns-clause-tells c = λ payload s before h. stands_no _ before _ _ (length s.taken % modulo s.extended == c.args.ns) (accepts payload s) (rejects s) (ne_eqb (length s.taken % modulo s.extended) c.args.ns (λ e. c.if-got-ns.false (c.got.ensures ∙ ap (λ (k : Kept). k.got) h.is ∙ e))) (c.reject.ensures.follows s before no_deed h)
-
-pub returns-then-got-ns-clause-within : goal.returns-then-got-ns-clause-within
-returns-then-got-ns-clause-within c = c.accept.ensures.within _ _
+pub returns-clause-hears : goal.returns-clause-hears
+returns-clause-hears c = λ payload out out' e s before h.
+    stands_no _ before _ _ (length s.taken % modulo s.extended == c.args.ns) (accepts payload s) (rejects s)
+    (ne_eqb (length s.taken % modulo s.extended) c.args.ns (λ x. c.if-vr-ns.false (c.vr.ensures ∙ ap (λ (k : Kept). k.vr) h.is ∙ x)))
+    (c.reject.ensures.answers out out' e s before no_deed h)

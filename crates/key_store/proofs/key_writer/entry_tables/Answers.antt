@@ -11,9 +11,9 @@ pub loop-entry-preserved : goal.loop-entry-preserved
 loop-entry-preserved c = record {
   said =
       ap items_view c.in_ok-push.ensures
-      ∙ tables_more c.loop-entry.list.items c.in_ok-value.value c.args.entries.now c.loop-entry.entry-index c.loop-entry-test.true c.loop-entry.invariant.said c.in_ok-value.ensures;
-  left = range_left c.args.entries.now c.loop-entry.entry-index c.loop-entry.invariant.left;
+      ∙ tables_more c.loop-entry.list.items c.in_ok-value.value c.list-all.result.now c.loop-entry.entry-index c.loop-entry-test.true c.loop-entry.invariant.said c.in_ok-value.ensures;
+  left = range_left c.list-all.result.now c.loop-entry.entry-index c.loop-entry.invariant.left;
 }
 
-pub returns : goal.returns
-returns c = c.loop-entry.invariant.said ∙ ap (λ es. entry_items (map entry_of es)) (take_all _ c.args.entries.now (omega (arith, c.loop-entry-test.false)))
+pub returns-clause-made : goal.returns-clause-made
+returns-clause-made c = rw (← c.list-all.ensures.list) (c.loop-entry.invariant.said ∙ ap (λ es. entry_items (map entry_of es)) (take_all _ c.list-all.result.now (omega (arith, c.loop-entry-test.false))))

@@ -8,6 +8,6 @@ use Rattle.key_store.proofs.key_writer.entry_tables.Given as goal
 
 abbrev pub invariant-loop-entry : goal.invariant-loop-entry
 invariant-loop-entry l = record {
-  said : items_view l.list.items ≡ entry_items (map entry_of (take l.entry-index l.entries));
-  left : AreInRange (map entry_of (drop l.entry-index l.entries));
+  said : items_view l.list.items ≡ entry_items (map entry_of (take l.entry-index l.all));
+  left : AreInRange (map entry_of (drop l.entry-index l.all));
 }

@@ -7,10 +7,10 @@ pub returns-in-Some : goal.returns-in-Some
 returns-in-Some c =
     ap (option_map (λ (first : ℕ). (first, c.in_ok-before.before + 1))) (sym c.in-Some.is)
     ∙ first_is c.args.entries.now c.in_ok-before.before _ c.place_at_once.result c.in_ok-before.ensures.once c.in_ok-before.ensures.twice c.in_ok-before.ensures.there
-    c.place_at_once.ensures
+    (rw c.list-list.ensures.list at c.place_at_once.ensures)
 
 pub returns : goal.returns
 returns c =
     ap (option_map (λ (first : ℕ). (first, c.in_ok-before.before + 1))) (sym c.in-None.is)
     ∙ first_is c.args.entries.now c.in_ok-before.before _ c.place_at_once.result c.in_ok-before.ensures.once c.in_ok-before.ensures.twice c.in_ok-before.ensures.there
-    c.place_at_once.ensures
+    (rw c.list-list.ensures.list at c.place_at_once.ensures)

@@ -1,5 +1,6 @@
 -- One link more, one that isn't written, and the end.
 use Rattle.std.proofs.Common.{arith}
+use Rattle.std.proofs.lemmas.Result.{err_from_is_err_and}
 use Rattle.link_audit.proofs.Written.{leads_then, leads_fault, leads_end}
 use Rattle.link_audit.proofs.Printed.{links_more, links_none}
 use Rattle.link_audit.proofs.run.audit_links.Goals as goal
@@ -9,16 +10,18 @@ loop-link-preserved g c =
     let most = c.loop-link-test.true in
     record {
       leads =
-          leads_then _ _ _ _ _ _ _ _ (links_more _ c.args.lines.now c.loop-link.link most) c.loop-link.invariant.leads _ _ c.in-Ok.ensures.later c.in-Ok.ensures.writes;
+          leads_then _ _ _ _ _ _ _ _ (links_more _ c.args.lines.now c.args.openings.now c.loop-link.link most) c.loop-link.invariant.leads _ _ c.in_ok-audit_number.ensures.later c.in_ok-audit_number.ensures.writes;
       least = omega arith;
       most = omega (arith, most);
     }
 
-pub returns-in-Err-clause-writes : goal.returns-in-Err-clause-writes
-returns-in-Err-clause-writes g c =
-    leads_fault _ _ _ _ _ _ _ _ (links_more _ c.args.lines.now c.loop-link.link c.loop-link-test.true) c.loop-link.invariant.leads _ _ c.in-Err.fault c.in-Err.ensures.writes
+pub returns-in_err-audit_number-clause-writes : goal.returns-in_err-audit_number-clause-writes
+returns-in_err-audit_number-clause-writes g c =
+    let p = err_from_is_err_and c.from_residual.result c.from_residual.ensures.1 in
+    rw (p.1, p.2)
+    (leads_fault _ _ _ _ _ _ _ _ (links_more _ c.args.lines.now c.args.openings.now c.loop-link.link c.loop-link-test.true) c.loop-link.invariant.leads _ _ c.in_err-audit_number.field-0.0 c.in_err-audit_number.ensures.writes)
 
 pub returns-clause-writes : goal.returns-clause-writes
 returns-clause-writes g c =
     let past = c.loop-link-test.false in
-    leads_end _ _ _ _ _ _ (links_none _ c.args.lines.now c.loop-link.link (omega (arith, past))) c.loop-link.invariant.leads
+    leads_end _ _ _ _ _ _ (links_none _ c.args.lines.now c.args.openings.now c.loop-link.link (omega (arith, past))) c.loop-link.invariant.leads

@@ -1,5 +1,6 @@
 -- One item more, one that isn't written, and the end.
 use Rattle.std.proofs.Common.{arith, sym}
+use Rattle.std.proofs.lemmas.Result.{err_from_is_err_and}
 use Rattle.link_audit.proofs.Written.{leads_then, leads_fault, leads_end}
 use Rattle.link_audit.proofs.Printed.{More, Stays, side_next, side_more, side_none}
 use Rattle.link_audit.proofs.run.write_items.Goals as goal
@@ -12,7 +13,7 @@ loop-item-preserved-then-place-lt2 g c =
       leads =
           rw c.advance.ensures
           (leads_then _ _ _ _ _ _ _ _ (side_more c.args.link c.args.known.now c.args.side c.loop-item.place _ c.loop-item.items c.in-Some.item.now item (More few))
-          c.loop-item.invariant.leads _ _ c.in-Ok.ensures.later c.in-Ok.ensures.writes);
+          c.loop-item.invariant.leads _ _ c.in_ok-write_item.ensures.later c.in_ok-write_item.ensures.writes);
       place = omega (arith, few);
     }
 
@@ -24,15 +25,17 @@ loop-item-preserved g c =
       leads =
           rw c.advance.ensures
           (leads_then _ _ _ _ _ _ _ _ (side_more c.args.link c.args.known.now c.args.side c.loop-item.place _ c.loop-item.items c.in-Some.item.now item (Stays (omega (arith, late))))
-          c.loop-item.invariant.leads _ _ c.in-Ok.ensures.later c.in-Ok.ensures.writes);
+          c.loop-item.invariant.leads _ _ c.in_ok-write_item.ensures.later c.in_ok-write_item.ensures.writes);
       place = c.loop-item.invariant.place;
     }
 
-pub returns-in-Err-clause-writes : goal.returns-in-Err-clause-writes
-returns-in-Err-clause-writes g c =
+pub returns-in_err-write_item-clause-writes : goal.returns-in_err-write_item-clause-writes
+returns-in_err-write_item-clause-writes g c =
     let item = sym (rw c.in-Some.is at c.first.ensures) in
-    leads_fault _ _ _ _ _ _ _ _ (side_next c.args.link c.args.known.now c.args.side c.loop-item.place c.loop-item.items c.in-Some.item.now item)
-    c.loop-item.invariant.leads _ _ c.in-Err.fault c.in-Err.ensures.writes
+    let p = err_from_is_err_and c.from_residual.result c.from_residual.ensures.1 in
+    rw (p.1, p.2)
+    (leads_fault _ _ _ _ _ _ _ _ (side_next c.args.link c.args.known.now c.args.side c.loop-item.place c.loop-item.items c.in-Some.item.now item)
+    c.loop-item.invariant.leads _ _ c.in_err-write_item.field-0.0 c.in_err-write_item.ensures.writes)
 
 pub returns-clause-writes : goal.returns-clause-writes
 returns-clause-writes g c =

@@ -8,7 +8,7 @@ use Rattle.loop_session.proofs.event_lines.write_event.Goals as goal
 pub returns-clause-puts : goal.returns-clause-puts
 returns-clause-puts g c =
     subst (λ (z : List ℕ). Puts (g.S.Sink.state c.args.sink.now) (g.S.Sink.state c.write_lines.new.sink) z c.write_lines.result)
-    (c.as_slice.ensures.value ∙ event_line c.args.moment c.args.conn c.args.event _ c.clear.new.self.items c.clear.ensures.items c.in_ok-print_entry.ensures.ok)
+    (c.as_slice.ensures.value ∙ event_line c.args.moment c.args.conn c.args.event _ c.clear.new.self.items c.clear.ensures.items (rw c.get.ensures.same at c.in_ok-print_entry.ensures.ok))
     c.write_lines.ensures.puts
 
 pub returns-in_err-print_entry-clause-puts : goal.returns-in_err-print_entry-clause-puts

@@ -9,4 +9,4 @@ returns g c =
     serves_on g.S.Sink g.W.Wires g.C.Clock c.args.sink.now c.serve_users.new.sink c.args.wires.now c.serve_users.new.wires c.args.clock.now c.serve_users.new.clock
     (serving c.args.keys.now c.args.plan.now c.args.rbc c.len.result) (serving c.args.keys.now c.args.plan.now c.args.rbc (length c.args.users.items))
     c.args.address.now _ (g.R.Rng.stream c.args.randoms.now) (g.R.Rng.stream c.serve_users.new.randoms) c.serve_users.result
-    (ap (λ z. serving c.args.keys.now c.args.plan.now c.args.rbc z) many) c.serve_users.ensures.does c.serve_users.ensures.sunk
+    (ap (λ z. serving c.args.keys.now c.args.plan.now c.args.rbc z) many) (rw c.new.ensures at c.serve_users.ensures.does) c.serve_users.ensures.sunk

@@ -1,3 +1,4 @@
+use Rattle.std.proofs.lemmas.Result.{err_from_is_err_and}
 use Rattle.loop_model.specs.Journals.{header}
 use Rattle.readiness_loop.proofs.Acceptings.{line_wanted}
 use Rattle.readiness_loop.proofs.Listening.{header_put}
@@ -7,7 +8,9 @@ pub returns-clause-puts : goal.returns-clause-puts
 returns-clause-puts g c =
     header_put (g.S.Sink.state c.args.sink.now) (g.S.Sink.state c.write_lines.new.sink)
     c.args.settings.now c.new-line.result.items c.print_header.new.out.items c.as_slice.result.now c.write_lines.result
-    c.new-line.ensures.items c.in-Ok.ensures.ok c.as_slice.ensures.value c.write_lines.ensures.puts
+    c.new-line.ensures.items c.in_ok-print_header.ensures.ok c.as_slice.ensures.value c.write_lines.ensures.puts
 
-pub returns-in-Err-clause-puts : goal.returns-in-Err-clause-puts
-returns-in-Err-clause-puts g c = line_wanted (g.S.Sink.state c.args.sink.now) (header c.args.settings.now) c.in-Err.want
+pub returns-in_err-print_header-clause-puts : goal.returns-in_err-print_header-clause-puts
+returns-in_err-print_header-clause-puts g c =
+    let p = err_from_is_err_and c.from_residual.result c.from_residual.ensures.1 in
+    rw (p.1, p.2) (line_wanted (g.S.Sink.state c.args.sink.now) (header c.args.settings.now) _)

@@ -1,5 +1,5 @@
 -- Nothing yet, one piece more, and all.
-use Rattle.std.proofs.Common.{◌≤◌, ◌-◌, ◌≡◌, ℕ, List, length, drop, subst, arith, sym, ap, ◌∙◌, ◌+◌}
+use Rattle.std.proofs.Common.{◌≤◌, ℕ, List, length, drop, subst, arith, ◌+◌}
 use Rattle.std.proofs.lemmas.List.{take_all, length-drop}
 use Rattle.safety_automaton.specs.Keys.{key_at}
 use Rattle.trace_replay.specs.Takings.{Heard}
@@ -15,16 +15,16 @@ loop-used-init g c = record {
 pub loop-used-preserved : goal.loop-used-preserved
 loop-used-preserved g c =
     let is = c.behind.ensures in
-    let short : c.in-Ok.more ≤ length (drop c.loop-used.used c.args.octets.now) = rw is at c.in-Ok.ensures.within in
+    let short : c.in_ok-used.field-0 ≤ length (drop c.loop-used.used c.args.octets.now) = rw is at c.in_ok-used.ensures.within in
     let left = length-drop c.loop-used.used c.args.octets.now in
     let before : c.loop-used.used ≤ length c.args.octets.now = c.loop-used.invariant.within in
-    let within : c.loop-used.used + c.in-Ok.more ≤ length c.args.octets.now = omega (arith, short, left, before) in
+    let within : c.loop-used.used + c.in_ok-used.field-0 ≤ length c.args.octets.now = omega (arith, short, left, before) in
     record {
       within = within;
       heard = λ last m f le.
           heard_more c.kept_stands_for_stream.ensures c.standing.ensures.steps c.args.now c.args.conn _ c.args.octets.now m c.loop-used.end c.give_piece.new.end
-          _ c.loop-used.out.items c.give_piece.new.out.items c.loop-used.used c.in-Ok.more
-          (c.loop-used.invariant.heard last m f le) (rw is at c.in-Ok.ensures.used) within (rw is at c.in-Ok.ensures.end) (rw is at c.in-Ok.ensures.text);
+          _ c.loop-used.out.items c.give_piece.new.out.items c.loop-used.used c.in_ok-used.field-0
+          (c.loop-used.invariant.heard last m f le) (rw is at c.in_ok-used.ensures.used) within (rw is at c.in_ok-used.ensures.end) (rw is at c.in_ok-used.ensures.text);
     }
 
 pub returns : goal.returns

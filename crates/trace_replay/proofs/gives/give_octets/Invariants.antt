@@ -1,7 +1,7 @@
 -- The octets so far were given.
 use Rattle.std.proofs.Common.{ℕ, ◌≤◌, ◌-◌, take, length}
 use Rattle.safety_automaton.specs.Keys.{key_at}
-use Rattle.end_model.specs.Ends.{End}
+use Rattle.er_end_model.specs.Ends.{End}
 use Rattle.trace_replay.specs.Places.{Follows}
 use Rattle.trace_replay.specs.Takings.{Heard}
 use Rattle.trace_replay.proofs.gives.give_octets.Given as goal

@@ -1,4 +1,4 @@
-use Rattle.station_model.specs.Calls.{finishes}
+use Rattle.hdlc_station_model.specs.Calls.{finishes}
 use Rattle.drill_ends.proofs.EitherCalls.{does_back, does_selective}
 use Rattle.drill_ends.proofs.either_station.EitherStation.finish.Goals as goal
 

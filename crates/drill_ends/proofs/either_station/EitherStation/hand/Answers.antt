@@ -1,5 +1,5 @@
 use Rattle.std.proofs.lemmas.Result.{IfOk-weaker}
-use Rattle.station_model.specs.Calls.{hands}
+use Rattle.hdlc_station_model.specs.Calls.{hands}
 use Rattle.drill_ends.proofs.EitherCalls.{does_back, does_selective}
 use Rattle.drill_ends.proofs.either_station.EitherStation.hand.Goals as goal
 

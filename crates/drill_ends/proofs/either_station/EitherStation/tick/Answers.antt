@@ -1,4 +1,4 @@
-use Rattle.station_model.specs.Calls.{ticks}
+use Rattle.hdlc_station_model.specs.Calls.{ticks}
 use Rattle.hdlc_balanced.specs.Told.{released_as}
 use Rattle.drill_ends.proofs.EitherCalls.{says_back, says_selective}
 use Rattle.drill_ends.proofs.either_station.EitherStation.tick.Goals as goal

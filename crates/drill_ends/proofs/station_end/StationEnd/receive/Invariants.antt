@@ -1,5 +1,5 @@
 use Rattle.std.proofs.Common.{ℕ, Bool, List, length}
-use Rattle.station_model.specs.Stations.{Station}
+use Rattle.hdlc_station_model.specs.Stations.{Station}
 use Rattle.drill_ends.specs.KeptStations.{StandsStation}
 use Rattle.drill_ends.specs.StationEnds.{Reading}
 use Rattle.drill_ends.proofs.station_end.StationEnd.receive.Given as goal

@@ -1,7 +1,7 @@
 use Rattle.std.proofs.Common.{ℕ, List, [], ◌∙◌, subst}
 use Rattle.std.proofs.lemmas.Result.{on_ok_weaker}
-use Rattle.station_model.specs.Stations.{Station, no_deed}
-use Rattle.station_model.specs.Calls.{hands, finishes}
+use Rattle.hdlc_station_model.specs.Stations.{Station, no_deed}
+use Rattle.hdlc_station_model.specs.Calls.{hands, finishes}
 use Rattle.drill_ends.specs.StationEnds.{TellsFrames}
 use Rattle.drill_ends.proofs.StationCalls.{stands_at, keeps_inside, begins_inside, call_ends, nothing_told, none_refused, full_refused, hand_did, full_did}
 use Rattle.drill_ends.proofs.telling_station.TellingStation.hand.Goals as goal

@@ -1,8 +1,8 @@
 use Rattle.std.proofs.Common.{ℕ, List, [], Some, ap, subst}
 use Rattle.er_base.specs.declared.cause.Cause.TheVariants.{User}
 use Rattle.er_base.specs.Causes.{release_of}
-use Rattle.station_model.specs.Stations.{no_deed}
-use Rattle.station_model.specs.Events.{quits}
+use Rattle.hdlc_station_model.specs.Stations.{no_deed}
+use Rattle.hdlc_station_model.specs.Events.{quits}
 use Rattle.hdlc_balanced.specs.Told.{released_as}
 use Rattle.drill_ends.specs.StationEnds.{TellsFrames}
 use Rattle.drill_ends.proofs.StationCalls.{begins_inside, call_ends, quit_stands}

@@ -1,7 +1,7 @@
 use Rattle.std.proofs.Common.{ℕ, List, [], sym, ap, subst}
 use Rattle.std.proofs.lemmas.Result.{on_ok_weaker}
-use Rattle.station_model.specs.Stations.{Deed, no_deed}
-use Rattle.station_model.specs.Calls.{starts, finishes}
+use Rattle.hdlc_station_model.specs.Stations.{Deed, no_deed}
+use Rattle.hdlc_station_model.specs.Calls.{starts, finishes}
 use Rattle.drill_ends.specs.StationEnds.{TellsFrames}
 use Rattle.drill_ends.proofs.StationCalls.{stands_at, begins_inside, call_ends, nothing_told}
 use Rattle.drill_ends.proofs.telling_station.TellingStation.start.Goals as goal

@@ -1,6 +1,6 @@
 use Rattle.std.proofs.Common.{ℕ, List, [], sym, ap, subst}
-use Rattle.station_model.specs.Stations.{Deed}
-use Rattle.station_model.specs.Calls.{ticks, finishes}
+use Rattle.hdlc_station_model.specs.Stations.{Deed}
+use Rattle.hdlc_station_model.specs.Calls.{ticks, finishes}
 use Rattle.hdlc_balanced.specs.Told.{released_as}
 use Rattle.drill_ends.specs.StationEnds.{TellsFrames}
 use Rattle.drill_ends.proofs.StationCalls.{stands_at, begins_inside, call_ends}

@@ -1,6 +1,6 @@
 -- What is left to be told leads to where all lead.
 use Rattle.std.specs.Prelude.{List, length}
-use Rattle.safe_pair.specs.Facts.{MarkedFact}
+use Rattle.safety_pair_laws.specs.Facts.{MarkedFact}
 use Rattle.drill_model.specs.Outcomes.{Outcome}
 use Rattle.drill_ends.specs.Tellings.{AreTold, heard_in}
 use Rattle.er_world.specs.Ledgers.{HoldsLedger, Telling}

@@ -1,5 +1,5 @@
 use Rattle.std.proofs.Common.{◌≡◌, refl, sym, ap, ◌∙◌, subst, Option, Some}
-use Rattle.safe_pair.specs.Openings.{OfKeys}
+use Rattle.safety_pair_laws.specs.Openings.{OfKeys}
 use Rattle.drill_model.specs.Links.{LinkOpening, OfPair, OfStacks}
 use Rattle.drill_model.specs.Worlds.{link_opening}
 use Rattle.er_world.proofs.WorldRows.{OpenDone, opens_does, opens_nothing}

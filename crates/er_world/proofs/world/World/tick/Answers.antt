@@ -1,5 +1,5 @@
 use Rattle.std.proofs.Common.{◌≤◌, ℕ, subst, arith}
-use Rattle.drill_model.specs.Worlds.{ticks}
+use Rattle.drill_model.specs.Worlds.{tick_each_link}
 use Rattle.er_world.specs.Standing.{KeptWorld}
 use Rattle.er_world.specs.WorldSteps.{WorldDoes}
 use Rattle.er_world.proofs.Ticks.{ticks_done_in}
@@ -15,5 +15,5 @@ returns-clause-does c =
     } in
     let after : c.self.inside.moment ≤ c.args.moment = omega (arith, c.if-moment-get.false, c.get.ensures.same) in
     ticks_done_in inside c.args.self.now c.tick_links.new.self c.args.moment c.args.out.now.items c.tick_links.new.out.items c.self.view_is after
-    (subst (λ (m : ℕ). WorldDoes (λ v. ticks m v 1 64) (record inside { moment = m }) c.tick_links.new.self c.args.out.now.items c.tick_links.new.out.items)
+    (subst (λ (m : ℕ). WorldDoes (λ v. tick_each_link m v 1 64) (record inside { moment = m }) c.tick_links.new.self c.args.out.now.items c.tick_links.new.out.items)
     c.new-now.ensures c.in_ok-tick_links.ensures.went)

@@ -1,14 +1,16 @@
 use Rattle.std.proofs.Common.{subst}
-use Rattle.station_model.specs.Calls.{closes}
+use Rattle.hdlc_station_model.specs.Calls.{closes}
 use Rattle.hdlc_balanced.specs.Kept.{Kept, Follows}
 use Rattle.hdlc_balanced.specs.Alike.{Ranged}
 use Rattle.hdlc_balanced.proofs.Alikes.{does_followed}
 use Rattle.hdlc_balanced.proofs.station.Station.close.Goals as goal
 
 pub returns-clause-follows : goal.returns-clause-follows
-returns-clause-follows c = subst (λ (k : Kept). Follows k c.args.out.now c.close.new.self c.close.new.out (closes)) c.self.view_is c.close.ensures.follows
+returns-clause-follows c =
+    subst (λ (k : Kept). Follows k c.args.out.now c.close-reply.new.self c.write.new.out (closes)) c.self.view_is
+    (c.close-reply.ensures.answers c.args.out.now c.write.new.out c.write.ensures.appends.items)
 
 pub returns-clause-does : goal.returns-clause-does
 returns-clause-does c =
-    does_followed c.args.self.now c.args.out.now c.close.new.self c.close.new.out (closes) (subst Ranged c.self.view_is c.bounds.ensures.ranged)
+    does_followed c.args.self.now c.args.out.now c.close-reply.new.self c.write.new.out (closes) (subst Ranged c.self.view_is c.bounds.ensures.ranged)
     (returns-clause-follows c)

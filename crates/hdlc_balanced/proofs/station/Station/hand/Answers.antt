@@ -1,7 +1,7 @@
-use Rattle.std.proofs.Common.{IfOk, subst}
+use Rattle.std.proofs.Common.{IfOk, List, ℕ, subst}
 use Rattle.std.proofs.lemmas.Result.{IfOk-weaker}
-use Rattle.station_model.specs.Stations.{no_deed}
-use Rattle.station_model.specs.Calls.{hands}
+use Rattle.hdlc_station_model.specs.Stations.{no_deed}
+use Rattle.hdlc_station_model.specs.Calls.{hands}
 use Rattle.hdlc_balanced.specs.Kept.{Kept, Follows}
 use Rattle.hdlc_balanced.specs.Alike.{model_of, Ranged, Does}
 use Rattle.hdlc_balanced.proofs.Alikes.{does_followed}
@@ -9,7 +9,9 @@ use Rattle.hdlc_balanced.proofs.station.Station.hand.Goals as goal
 
 pub returns-clause-handed : goal.returns-clause-handed
 returns-clause-handed c =
-    subst (λ (k : Kept). IfOk c.hand.result (λ _. Follows k c.args.out.now c.hand.new.self c.hand.new.out (hands c.args.now c.args.payload.now))) c.self.view_is c.hand.ensures.handed
+    subst (λ (n : ℕ). IfOk c.hand.result (λ _. Follows c.args.self.now c.args.out.now c.hand.new.self c.hand.new.out (hands n c.args.payload.now))) c.new.ensures
+    (subst (λ (p : List ℕ). IfOk c.hand.result (λ _. Follows c.args.self.now c.args.out.now c.hand.new.self c.hand.new.out (hands c.new.result p))) c.new-2.ensures
+    (subst (λ (k : Kept). IfOk c.hand.result (λ _. Follows k c.args.out.now c.hand.new.self c.hand.new.out (hands c.new.result c.new-2.result))) c.self.view_is c.hand.ensures.handed))
 
 pub returns-clause-does : goal.returns-clause-does
 returns-clause-does c =

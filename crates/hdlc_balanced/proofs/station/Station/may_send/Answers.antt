@@ -1,5 +1,5 @@
 use Rattle.std.proofs.Common.{◌≡◌, subst}
-use Rattle.station_model.specs.Calls.{may_send}
+use Rattle.hdlc_station_model.specs.Calls.{may_send}
 use Rattle.hdlc_balanced.specs.Kept.{Kept, Shown}
 use Rattle.hdlc_balanced.specs.Alike.{Ranged}
 use Rattle.hdlc_balanced.proofs.Alikes.{shown_made}

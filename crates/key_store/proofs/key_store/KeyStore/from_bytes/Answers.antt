@@ -5,4 +5,4 @@ use Rattle.key_store.proofs.key_store.KeyStore.from_bytes.Goals as goal
 
 pub invariant_of-result : goal.invariant_of-result
 invariant_of-result c =
-    (distinct_where_none _ (sym (rw c.as_slice.ensures.value at c.in_ok-first.ensures) ∙ c.in-None.is), c.in_ok-entries.ensures.range)
+    (distinct_where_none _ (sym (rw (c.new.ensures, c.as_slice.ensures.value) at c.in_ok-first.ensures) ∙ c.in-None.is), c.in_ok-entries.ensures.range)

@@ -1,8 +1,8 @@
 -- The line at the place, and the lines behind it.
-use Rattle.std.proofs.Common.{ℕ, List, ◌+◌, ◌-◌, ◌∷◌, length, take, drop, get_or, arith, sym, ap, ◌∙◌}
+use Rattle.std.proofs.Common.{ℕ, List, ◌+◌, ◌-◌, length, drop, get_or, arith, sym}
 use Rattle.std.proofs.lemmas.List.{take_all, drop_more, length-drop}
 use Rattle.er_tap.specs.declared.tap_line.TapLine.{TapLine}
-use Rattle.link_audit.proofs.Marking.{piece_then, marks_left}
+use Rattle.link_audit.proofs.Marking.{piece_then, marks_left, same_length}
 use Rattle.link_audit.proofs.marked_lines.MarkedLines.next_piece.Goals as goal
 
 pub invariant_of-self : goal.invariant_of-self
@@ -22,5 +22,17 @@ returns-clause-piece c =
     let first : TapLine = get_or lines count c.index-self-count.result in
     let fewer = length-drop (count + 1) lines in
     rw (sym c.self.view_is, c.piece_of.ensures, take_all (length lines - (count + 1)) (drop (count + 1) lines) (omega (arith, fewer)))
-    (piece_then c.args.link c.args.side lines (drop (count + 1) lines) first count c.in-Some.ensures.stream
-    (drop_more lines count c.index-self-count.result c.in-Some.ensures.within))
+    (piece_then c.args.link c.args.side lines (drop (count + 1) lines) first count (rw (sym c.self.view_is) at c.in-Some.ensures.stream)
+    (drop_more lines count c.index-self-count.result (rw (sym c.self.view_is) at c.in-Some.ensures.within)))
+
+pub slice_bounds-self-count-2 : goal.slice_bounds-self-count-2
+slice_bounds-self-count-2 c =
+    let within = rw (sym c.self.view_is) at c.in-Some.ensures.within in
+    let same = same_length c.args.link c.args.side c.self.inside.lines.now c.self.inside.marks.now c.self.invariant in
+    omega (arith, within, same)
+
+pub slice_bounds-self-start-2 : goal.slice_bounds-self-start-2
+slice_bounds-self-start-2 c =
+    let within = rw (sym c.self.view_is) at c.in-Some.ensures.within in
+    let same = same_length c.args.link c.args.side c.self.inside.lines.now c.self.inside.marks.now c.self.invariant in
+    omega (arith, within, same)

@@ -13,6 +13,6 @@ invariant_of-self c =
 pub returns-clause-fed : goal.returns-clause-fed
 returns-clause-fed c = rw (sym c.self.view_is) (λ over.
     fed c.kept_stands_for_stream.ensures c.hearing_turns.ensures c.hear-turned.result _ _ c.feed.result.0 (option_map shown c.feed.result.1) over c.feed.ensures.stands
-    refl refl refl c.hear-turned.ensures.side c.behind-self-inside.ensures
+    refl refl refl c.hear-turned.ensures.side c.split_at.ensures.back
     (feeding_kept c.self.inside.deframer _ c.self.inside.piece.now c.feed.result.0 c.feed.follows.holds-at-none c.feed.ensures.used)
     c.feed.ensures.frames c.hear-turned.ensures.turn)

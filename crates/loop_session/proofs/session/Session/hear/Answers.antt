@@ -11,30 +11,32 @@ use Rattle.loop_session.proofs.session.Session.hear.Goals as goal
 pub returns-in_err-given-clause-chooses : goal.returns-in_err-given-clause-chooses
 returns-in_err-given-clause-chooses g c =
     let p = err_from_is_err_and c.from_residual.result c.from_residual.ensures.1 in
-    wanted (g.S.Sink.state c.args.sink.now) _ nothing_said (handled kept_ends (rules (g.K.KeyFinder.entries c.args.keys.now) c.args.when.setup) c.args.when.moment c.args.self.now (Hears c.args.octets.now)) c.from_residual.result p.0 _ p.1 p.2
+    wanted (g.S.Sink.state c.args.sink.now) _ nothing_said (handled kept_ends (rules (g.K.KeyFinder.entries c.args.keys.now) c.args.when.now.setup) c.args.when.now.moment c.args.self.now (Hears c.args.octets.now)) c.from_residual.result p.0 _ p.1 p.2
 
-pub returns-in-Ok-clause-chooses : goal.returns-in-Ok-clause-chooses
-returns-in-Ok-clause-chooses g c =
+pub returns-clause-chooses : goal.returns-clause-chooses
+returns-clause-chooses g c =
     let entries = g.K.KeyFinder.entries c.args.keys.now in
-    c.in-Ok.ensures.chooses entries c.args.self.now (Hears c.args.octets.now)
-    (gave_of (rules entries c.args.when.setup) c.args.when.moment c.args.self.now _ (Hears c.args.octets.now) _ _ c.clear.new.self.items c.in_ok-given.given.1.fits
+    c.in_ok-follow.ensures.chooses entries c.args.self.now (Hears c.args.octets.now)
+    (gave_of (rules entries c.args.when.now.setup) c.args.when.now.moment c.args.self.now _ (Hears c.args.octets.now) _ _ c.clear.new.self.items c.in_ok-given.given.1.fits
     (sym c.self.view_is) refl refl c.in_ok-given.ensures.end c.clear.ensures.items c.in_ok-given.ensures.text c.in_ok-given.ensures.joins c.in_ok-given.ensures.grammar)
     (ap (λ (z : Session KEnd). z.mind) c.self.view_is)
-    (told_as (rules entries c.args.when.setup) c.args.when.moment c.args.self.now _ (Hears c.args.octets.now) _ (sym c.self.view_is) c.in_ok-given.ensures.heard)
+    (told_as (rules entries c.args.when.now.setup) c.args.when.now.moment c.args.self.now _ (Hears c.args.octets.now) _ (sym c.self.view_is) c.in_ok-given.ensures.heard)
 
-pub returns-in-Err-clause-chooses : goal.returns-in-Err-clause-chooses
-returns-in-Err-clause-chooses g c =
+pub returns-in_err-follow-clause-chooses : goal.returns-in_err-follow-clause-chooses
+returns-in_err-follow-clause-chooses g c =
     let entries = g.K.KeyFinder.entries c.args.keys.now in
-    c.in-Err.ensures.chooses entries c.args.self.now (Hears c.args.octets.now)
-    (gave_of (rules entries c.args.when.setup) c.args.when.moment c.args.self.now _ (Hears c.args.octets.now) _ _ c.clear.new.self.items c.in_ok-given.given.1.fits
+    let p = err_from_is_err_and c.from_residual-in_err-follow.result c.from_residual-in_err-follow.ensures.1 in
+    rw (p.1, p.2)
+    (c.in_err-follow.ensures.chooses entries c.args.self.now (Hears c.args.octets.now)
+    (gave_of (rules entries c.args.when.now.setup) c.args.when.now.moment c.args.self.now _ (Hears c.args.octets.now) _ _ c.clear.new.self.items c.in_ok-given.given.1.fits
     (sym c.self.view_is) refl refl c.in_ok-given.ensures.end c.clear.ensures.items c.in_ok-given.ensures.text c.in_ok-given.ensures.joins c.in_ok-given.ensures.grammar)
     (ap (λ (z : Session KEnd). z.mind) c.self.view_is)
-    (told_as (rules entries c.args.when.setup) c.args.when.moment c.args.self.now _ (Hears c.args.octets.now) _ (sym c.self.view_is) c.in_ok-given.ensures.heard)
+    (told_as (rules entries c.args.when.now.setup) c.args.when.now.moment c.args.self.now _ (Hears c.args.octets.now) _ (sym c.self.view_is) c.in_ok-given.ensures.heard))
 
-pub returns-in-Ok-clause-within : goal.returns-in-Ok-clause-within
-returns-in-Ok-clause-within g c =
+pub returns-clause-within : goal.returns-clause-within
+returns-clause-within g c =
     subst (λ (n : ℕ). n ≤ length c.args.octets.now) (sym c.in_ok-given.ensures.used) (used_within c.self.inside.end c.args.octets.now)
 
-pub returns-in-Ok-clause-moves : goal.returns-in-Ok-clause-moves
-returns-in-Ok-clause-moves g c = λ some.
+pub returns-clause-moves : goal.returns-clause-moves
+returns-clause-moves g c = λ some.
     subst (λ (n : ℕ). 0 < n) (sym c.in_ok-given.ensures.used) (used_moves c.self.inside.end c.args.octets.now some)

@@ -1,4 +1,5 @@
 use Rattle.std.proofs.Common.{◌≡◌, ◌<◌, length, slice_index_or, refl, sym, ap, ◌∙◌, arith}
+use Rattle.std.proofs.lemmas.Result.{err_from_is_err_and}
 use Rattle.er_users.specs.Saying.{Spoken}
 use Rattle.loop_session.proofs.Deals.{reply_none, reply_more, reply_broke, reply_leaves}
 use Rattle.loop_session.proofs.session.Session.reply.Goals as goal
@@ -11,13 +12,15 @@ loop-k-init g c = record {
   later = omega arith;
 }
 
-pub returns-in-Err-clause-prints : goal.returns-in-Err-clause-prints
-returns-in-Err-clause-prints g c = λ r.
+pub returns-in_err-send-clause-prints : goal.returns-in_err-send-clause-prints
+returns-in_err-send-clause-prints g c = λ r.
     let few : c.loop-k.k < length c.args.scratch.now.replies.texts = omega (arith, c.loop-k-test.true, c.len-k-end.ensures.len) in
-    reply_broke (g.S.Sink.state c.args.sink.now) (g.S.Sink.state c.loop-k.sink) (g.S.Sink.state c.send.new.sink)
-    r c.args.moment c.args.self.now c.loop-k.self c.loop-k.k c.args.scratch.now.replies c.text.result.now c.text.result.now c.in-Err.fault few
+    let p = err_from_is_err_and c.from_residual.result c.from_residual.ensures.1 in
+    rw (p.1, p.2)
+    (reply_broke (g.S.Sink.state c.args.sink.now) (g.S.Sink.state c.loop-k.sink) (g.S.Sink.state c.send.new.sink)
+    r c.args.moment c.args.self.now c.loop-k.self c.loop-k.k c.args.scratch.now.replies c.text.result.now c.text.result.now _ few
     (c.text.ensures.text ∙ ap (λ (z : Spoken). slice_index_or z.texts c.loop-k.k c.text.result.now) c.loop-k.invariant.same)
-    (c.loop-k.invariant.prints r) (c.in-Err.ensures.prints r)
+    (c.loop-k.invariant.prints r) (c.in_err-send.ensures.prints r))
 
 pub loop-k-preserved : goal.loop-k-preserved
 loop-k-preserved g c =
@@ -27,10 +30,10 @@ loop-k-preserved g c =
           reply_more (g.S.Sink.state c.args.sink.now) (g.S.Sink.state c.loop-k.sink) (g.S.Sink.state c.send.new.sink)
           r c.args.moment c.args.self.now c.loop-k.self c.send.new.self c.loop-k.k c.args.scratch.now.replies.texts c.text.result.now c.text.result.now few
           (c.text.ensures.text ∙ ap (λ (z : Spoken). slice_index_or z.texts c.loop-k.k c.text.result.now) c.loop-k.invariant.same)
-          (c.loop-k.invariant.prints r) (c.in-Ok.ensures.prints r);
+          (c.loop-k.invariant.prints r) (c.in_ok-send.ensures.prints r);
       same = c.loop-k.invariant.same;
-      number = c.in-Ok.ensures.number ∙ c.loop-k.invariant.number;
-      later = omega (arith, c.in-Ok.ensures.later, c.loop-k.invariant.later);
+      number = c.in_ok-send.ensures.number ∙ c.loop-k.invariant.number;
+      later = omega (arith, c.in_ok-send.ensures.later, c.loop-k.invariant.later);
     }
 
 pub returns-in-Some-clause-prints : goal.returns-in-Some-clause-prints

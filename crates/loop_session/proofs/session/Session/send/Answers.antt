@@ -1,8 +1,7 @@
-use Rattle.std.proofs.Common.{sym, ap, refl}
-use Rattle.er_end.specs.KeptEnds.{KEnd}
+use Rattle.std.proofs.Common.{sym, refl}
 use Rattle.loop_session.specs.Keeping.{kept_ends}
 use Rattle.std.proofs.lemmas.Result.{err_from_is_err_and}
-use Rattle.loop_model.specs.Sessions.{Session, Sends, replied}
+use Rattle.loop_model.specs.Sessions.{Sends, replied}
 use Rattle.loop_session.proofs.Written.{gave_of, sent_prints, prints_wanted}
 use Rattle.loop_session.proofs.session.Session.send.Goals as goal
 

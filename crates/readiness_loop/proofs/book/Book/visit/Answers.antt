@@ -1,4 +1,5 @@
 use Rattle.std.proofs.Common.{sym, ◌∙◌}
+use Rattle.std.proofs.lemmas.Result.{err_from_is_err_and}
 use Rattle.readiness_loop.proofs.Awaited.{wake_known, awaited_stays, awaited_closes}
 use Rattle.readiness_loop.proofs.Booked.{nobody_did, empty_did, stays_did, stays_seated, closes_did, closes_seated, stopped_visit, wanted_visit}
 use Rattle.readiness_loop.proofs.book.Book.visit.Goals as goal
@@ -13,27 +14,27 @@ returns-in_default-get_mut-clause-does g c =
     empty_did _ _ (g.W.Wires.state c.args.wires.now).opened c.args.number c.in-Some.slot c.args.self.now.slots c.args.self.now.places c.requires.seated
     (sym c.get.ensures.value ∙ sym c.in-Some.ensures) (sym c.in_default-get_mut.ensures.value)
 
-pub returns-in-Ok-clause-does : goal.returns-in-Ok-clause-does
-returns-in-Ok-clause-does g c =
+pub returns-in_ok-change-in-Ok-true-clause-does : goal.returns-in_ok-change-in-Ok-true-clause-does
+returns-in_ok-change-in-Ok-true-clause-does g c =
     stays_did _ _ _ (g.W.Wires.state c.args.wires.now).opened c.args.number c.in-Some.slot c.args.self.now.slots c.args.self.now.places
     c.in-Some-get_mut.session.now c.visit_session.new.session c.in-Ok-true.field-0 c.requires.seated
     (sym c.get.ensures.value ∙ sym c.in-Some.ensures) (sym c.in-Some-get_mut.ensures.value) c.in-Ok-true.field-0-test c.in-Ok-true.ensures.does
 
-pub returns-in-Ok-clause-seated : goal.returns-in-Ok-clause-seated
-returns-in-Ok-clause-seated g c =
+pub returns-in_ok-change-in-Ok-true-clause-seated : goal.returns-in_ok-change-in-Ok-true-clause-seated
+returns-in_ok-change-in-Ok-true-clause-seated g c =
     stays_seated (g.W.Wires.state c.args.wires.now).opened (g.W.Wires.state c.visit_session.new.wires).opened c.args.number c.in-Some.slot c.args.self.now.slots c.args.self.now.places
     c.in-Some-get_mut.session.now c.visit_session.new.session c.visit_session.ensures.keep.stay.opened c.requires.seated
     (sym c.get.ensures.value ∙ sym c.in-Some.ensures) (sym c.in-Some-get_mut.ensures.value) c.visit_session.ensures.number
 
-pub returns-in-Ok-change-clause-does : goal.returns-in-Ok-change-clause-does
-returns-in-Ok-change-clause-does g c =
+pub returns-in_ok-change-in-Ok-false-clause-does : goal.returns-in_ok-change-in-Ok-false-clause-does
+returns-in_ok-change-in-Ok-false-clause-does g c =
     closes_did _ _ _ (g.W.Wires.state c.args.wires.now).opened c.args.number c.in-Some.slot c.args.self.now.slots c.try_remove.new.self c.args.self.now.places c.remove.new.self
     c.in-Some-get_mut.session.now c.visit_session.new.session c.in-Ok-false.field-0 c.requires.seated
     (sym c.get.ensures.value ∙ sym c.in-Some.ensures) (sym c.in-Some-get_mut.ensures.value) c.in-Ok-false.field-0-test c.in-Ok-false.ensures.does
     c.remove.ensures.entries c.try_remove.ensures.updates
 
-pub returns-in-Ok-change-clause-seated : goal.returns-in-Ok-change-clause-seated
-returns-in-Ok-change-clause-seated g c =
+pub returns-in_ok-change-in-Ok-false-clause-seated : goal.returns-in_ok-change-in-Ok-false-clause-seated
+returns-in_ok-change-in-Ok-false-clause-seated g c =
     closes_seated (g.W.Wires.state c.args.wires.now).opened (g.W.Wires.state c.visit_session.new.wires).opened c.args.number c.in-Some.slot c.args.self.now.slots c.try_remove.new.self c.args.self.now.places c.remove.new.self
     c.in-Some-get_mut.session.now c.visit_session.new.session c.visit_session.ensures.keep.stay.opened c.requires.seated
     (sym c.get.ensures.value ∙ sym c.in-Some.ensures) (sym c.in-Some-get_mut.ensures.value) c.remove.ensures.entries c.try_remove.ensures.updates
@@ -44,17 +45,21 @@ returns-in-Err-clause-does g c =
     c.in-Some-get_mut.session.now c.in-Err.fault c.requires.seated
     (sym c.get.ensures.value ∙ sym c.in-Some.ensures) (sym c.in-Some-get_mut.ensures.value) c.in-Err.ensures.does
 
-pub returns-in-Err-change-clause-does : goal.returns-in-Err-change-clause-does
-returns-in-Err-change-clause-does g c =
-    wanted_visit _ _ _ (g.W.Wires.state c.args.wires.now).opened c.args.number c.in-Some.slot c.args.self.now.slots c.args.self.now.places
-    c.in-Some-get_mut.session.now c.visit_session.new.session c.in-Ok-true.field-0 c.in-Err-change.want c.requires.seated
-    (sym c.get.ensures.value ∙ sym c.in-Some.ensures) (sym c.in-Some-get_mut.ensures.value) c.in-Ok-true.ensures.does
+pub returns-in_err-change-in-Ok-true-clause-does : goal.returns-in_err-change-in-Ok-true-clause-does
+returns-in_err-change-in-Ok-true-clause-does g c =
+    let p = err_from_is_err_and c.from_residual.result c.from_residual.ensures.1 in
+    rw (p.1, p.2)
+    (wanted_visit _ _ _ (g.W.Wires.state c.args.wires.now).opened c.args.number c.in-Some.slot c.args.self.now.slots c.args.self.now.places
+    c.in-Some-get_mut.session.now c.visit_session.new.session c.in-Ok-true.field-0 _ c.requires.seated
+    (sym c.get.ensures.value ∙ sym c.in-Some.ensures) (sym c.in-Some-get_mut.ensures.value) c.in-Ok-true.ensures.does)
 
-pub returns-in-Err-change-2-clause-does : goal.returns-in-Err-change-2-clause-does
-returns-in-Err-change-2-clause-does g c =
-    wanted_visit _ _ _ (g.W.Wires.state c.args.wires.now).opened c.args.number c.in-Some.slot c.args.self.now.slots c.args.self.now.places
-    c.in-Some-get_mut.session.now c.visit_session.new.session c.in-Ok-false.field-0 c.in-Err-change-2.want c.requires.seated
-    (sym c.get.ensures.value ∙ sym c.in-Some.ensures) (sym c.in-Some-get_mut.ensures.value) c.in-Ok-false.ensures.does
+pub returns-in_err-change-in-Ok-false-clause-does : goal.returns-in_err-change-in-Ok-false-clause-does
+returns-in_err-change-in-Ok-false-clause-does g c =
+    let p = err_from_is_err_and c.from_residual-in_err-change-in-Ok-false.result c.from_residual-in_err-change-in-Ok-false.ensures.1 in
+    rw (p.1, p.2)
+    (wanted_visit _ _ _ (g.W.Wires.state c.args.wires.now).opened c.args.number c.in-Some.slot c.args.self.now.slots c.args.self.now.places
+    c.in-Some-get_mut.session.now c.visit_session.new.session c.in-Ok-false.field-0 _ c.requires.seated
+    (sym c.get.ensures.value ∙ sym c.in-Some.ensures) (sym c.in-Some-get_mut.ensures.value) c.in-Ok-false.ensures.does)
 
 -- ---- the moments that are kept
 
@@ -68,14 +73,14 @@ change-requires-in-Ok-false g c =
     wake_known c.args.number c.in-Some.slot c.args.self.now.slots c.args.self.now.places c.args.self.now.wake_times.pairs c.in-Some-get_mut.session.now c.wakes-before.result c.requires.awaited
     (sym c.get.ensures.value ∙ sym c.in-Some.ensures) (sym c.in-Some-get_mut.ensures.value) c.wakes-before.ensures
 
-pub returns-in-Ok-clause-awaited : goal.returns-in-Ok-clause-awaited
-returns-in-Ok-clause-awaited g c =
+pub returns-in_ok-change-in-Ok-true-clause-awaited : goal.returns-in_ok-change-in-Ok-true-clause-awaited
+returns-in_ok-change-in-Ok-true-clause-awaited g c =
     awaited_stays (g.W.Wires.state c.args.wires.now).opened c.args.number c.in-Some.slot c.args.self.now.slots c.args.self.now.places c.args.self.now.wake_times.pairs c.change.new.self.pairs
     c.in-Some-get_mut.session.now c.visit_session.new.session c.wakes-now.result c.requires.seated c.requires.awaited
-    (sym c.get.ensures.value ∙ sym c.in-Some.ensures) (sym c.in-Some-get_mut.ensures.value) c.wakes-now.ensures c.in-Ok.ensures
+    (sym c.get.ensures.value ∙ sym c.in-Some.ensures) (sym c.in-Some-get_mut.ensures.value) c.wakes-now.ensures c.in_ok-change-in-Ok-true.ensures
 
-pub returns-in-Ok-change-clause-awaited : goal.returns-in-Ok-change-clause-awaited
-returns-in-Ok-change-clause-awaited g c =
+pub returns-in_ok-change-in-Ok-false-clause-awaited : goal.returns-in_ok-change-in-Ok-false-clause-awaited
+returns-in_ok-change-in-Ok-false-clause-awaited g c =
     awaited_closes (g.W.Wires.state c.args.wires.now).opened c.args.number c.in-Some.slot c.args.self.now.slots c.try_remove.new.self c.args.self.now.places c.remove.new.self
     c.args.self.now.wake_times.pairs c.change-in-Ok-false.new.self.pairs c.in-Some-get_mut.session.now c.visit_session.new.session c.requires.seated c.requires.awaited
-    (sym c.get.ensures.value ∙ sym c.in-Some.ensures) (sym c.in-Some-get_mut.ensures.value) c.try_remove.ensures.updates c.remove.ensures.updates c.remove.ensures.ordered c.in-Ok-change.ensures
+    (sym c.get.ensures.value ∙ sym c.in-Some.ensures) (sym c.in-Some-get_mut.ensures.value) c.try_remove.ensures.updates c.remove.ensures.updates c.remove.ensures.ordered c.in_ok-change-in-Ok-false.ensures

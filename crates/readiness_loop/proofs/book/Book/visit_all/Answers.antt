@@ -1,4 +1,5 @@
 use Rattle.std.proofs.Common.{get_or, refl, ◌∙◌, arith}
+use Rattle.std.proofs.lemmas.Result.{err_from_is_err_and}
 use Rattle.std.proofs.lemmas.Option.{slice_get-get_or}
 use Rattle.readiness_loop.proofs.Sweeps.{swept_none, swept_next, swept_all, swept_breaks}
 use Rattle.readiness_loop.proofs.book.Book.visit_all.Goals as goal
@@ -14,9 +15,9 @@ loop-number-init g c = record {
 pub loop-number-preserved : goal.loop-number-preserved
 loop-number-preserved g c = record {
   swept = swept_next _ _ _ _ c.args.sequence.now c.loop-number.number-index (get_or c.args.sequence.now c.loop-number.number-index 0) _ _ _ c.loop-number.invariant.swept
-      (slice_get-get_or c.args.sequence.now c.loop-number.number-index 0 c.loop-number-test.true) c.in-Ok.ensures.does;
-  seated = c.in-Ok.ensures.seated;
-  awaited = c.in-Ok.ensures.awaited;
+      (slice_get-get_or c.args.sequence.now c.loop-number.number-index 0 c.loop-number-test.true) c.in_ok-visit.ensures.does;
+  seated = c.in_ok-visit.ensures.seated;
+  awaited = c.in_ok-visit.ensures.awaited;
   keep = record {
     sunk = omega (arith, c.loop-number.invariant.keep.sunk, c.visit.ensures.keep.sunk);
     stay = record {
@@ -28,10 +29,12 @@ loop-number-preserved g c = record {
   };
 }
 
-pub returns-in-Err-clause-does : goal.returns-in-Err-clause-does
-returns-in-Err-clause-does g c =
-    swept_breaks _ _ _ _ c.args.sequence.now c.loop-number.number-index (get_or c.args.sequence.now c.loop-number.number-index 0) _ _ c.in-Err.fault c.loop-number.invariant.swept
-    (slice_get-get_or c.args.sequence.now c.loop-number.number-index 0 c.loop-number-test.true) c.in-Err.ensures.does
+pub returns-in_err-visit-clause-does : goal.returns-in_err-visit-clause-does
+returns-in_err-visit-clause-does g c =
+    let p = err_from_is_err_and c.from_residual.result c.from_residual.ensures.1 in
+    rw (p.1, p.2)
+    (swept_breaks _ _ _ _ c.args.sequence.now c.loop-number.number-index (get_or c.args.sequence.now c.loop-number.number-index 0) _ _ c.in_err-visit.field-0.0 c.loop-number.invariant.swept
+    (slice_get-get_or c.args.sequence.now c.loop-number.number-index 0 c.loop-number-test.true) c.in_err-visit.ensures.does)
 
 pub returns-clause-does : goal.returns-clause-does
 returns-clause-does g c = swept_all _ _ _ _ c.loop-number.number-index _ _ c.loop-number.invariant.swept c.loop-number-test.false

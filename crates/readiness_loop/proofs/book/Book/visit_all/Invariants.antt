@@ -2,8 +2,8 @@
 use Rattle.loop_session.specs.Keeping.{kept_ends}
 use Rattle.loop_model.specs.Visits.{visited}
 use Rattle.loop_session.specs.Parts.{rules}
-use Rattle.loop_visit.specs.Seeing.{seen}
-use Rattle.loop_visit.specs.Visiting.{visit_of, Keep}
+use Rattle.loop_io.specs.Seeing.{seen}
+use Rattle.loop_io.specs.Visiting.{visit_of, Keep}
 use Rattle.readiness_loop.specs.Books.{AreSeated, AreAwaited, sessions}
 use Rattle.readiness_loop.proofs.Sweeps.{SweptSome}
 use Rattle.readiness_loop.proofs.book.Book.visit_all.Given as goal

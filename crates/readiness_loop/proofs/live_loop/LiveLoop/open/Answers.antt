@@ -1,6 +1,7 @@
 use Rattle.std.proofs.Common.{rules, ◌≡◌, map, length, vec_len, [], ◌∷◌, Ok, Err, false, refl, sym, ◌∙◌, ap, append-nil}
 use Rattle.std.proofs.lemmas.List.{map-append}
-use Rattle.loop_visit.specs.Seeing.{seen}
+use Rattle.std.proofs.lemmas.Result.{err_from_is_err_and}
+use Rattle.loop_io.specs.Seeing.{seen}
 use Rattle.readiness_loop.specs.Books.{sessions}
 use Rattle.readiness_loop.specs.Claims.{pair_of, caller_of}
 use Rattle.readiness_loop.specs.Courses.{plan_of, loop_of, around}
@@ -12,63 +13,65 @@ pub returns-in-Some-clause-does : goal.returns-in-Some-clause-does
 returns-in-Some-clause-does g c = λ asked.
     opened_from (plan_of (pair_of c.args.pair.now.engine c.args.pair.now.rbc c.args.pair.now.kmac ∷ []) c.args.plan.now) (caller_of c.args.pair.now.engine c.args.pair.now.kmac)
     (around (g.S.Sink.state c.args.sink.now) (g.W.Wires.state c.args.wires.now) (g.C.Clock.state c.args.clock.now))
-    (around (g.S.Sink.state c.call.new.sink) (g.W.Wires.state c.call.new.wires) (g.C.Clock.state c.now.new.self))
+    (around (g.S.Sink.state c.call.new.sink) (g.W.Wires.state c.call.new.wires) (g.C.Clock.state c.moment_of.new.clock))
     (loop_of c.args.self.now.book.slots c.args.self.now.book.places (map g.U.SafeUser.mind c.args.self.now.users.items) c.args.self.now.moment (g.R.Rng.stream c.args.randoms.now))
-    (loop_of c.call.new.self.book.slots c.call.new.self.book.places (map g.U.SafeUser.mind c.call.new.self.users.items) c.call.new.self.moment (g.R.Rng.stream c.call.new.randoms)) c.args.self.now.turns c.call.new.self.turns c.max-self.result c.now.result c.args.conn.0 asked c.call.result
-    c.call.ensures.rests.turns c.max-self.ensures c.now.ensures.most c.now.ensures.told
+    (loop_of c.call.new.self.book.slots c.call.new.self.book.places (map g.U.SafeUser.mind c.call.new.self.users.items) c.call.new.self.moment (g.R.Rng.stream c.call.new.randoms)) c.args.self.now.turns c.call.new.self.turns c.later-self.result c.moment_of.result c.args.conn.0 asked c.call.result
+    c.call.ensures.rests.turns c.later-self.ensures c.moment_of.ensures.most c.moment_of.ensures.told
     (open_called (seen (g.S.Sink.state c.args.sink.now) (g.W.Wires.state c.args.wires.now))
     (seen (g.S.Sink.state c.call.new.sink) (g.W.Wires.state c.call.new.wires))
     (plan_of (pair_of c.args.pair.now.engine c.args.pair.now.rbc c.args.pair.now.kmac ∷ []) c.args.plan.now) (caller_of c.args.pair.now.engine c.args.pair.now.kmac)
-    (loop_of c.args.self.now.book.slots c.args.self.now.book.places (map g.U.SafeUser.mind c.args.self.now.users.items) c.max-self.result (g.R.Rng.stream c.args.randoms.now))
+    (loop_of c.args.self.now.book.slots c.args.self.now.book.places (map g.U.SafeUser.mind c.args.self.now.users.items) c.later-self.result (g.R.Rng.stream c.args.randoms.now))
     (loop_of c.call.new.self.book.slots c.call.new.self.book.places (map g.U.SafeUser.mind c.call.new.self.users.items) c.call.new.self.moment (g.R.Rng.stream c.call.new.randoms)) (sessions c.call.new.self.book.slots c.call.new.self.book.places) (map g.U.SafeUser.mind c.pop.new.self.items) (g.U.SafeUser.mind c.in-Some.user) c.args.conn.0 c.call.result
     (ap (map g.U.SafeUser.mind) c.in-Some.ensures.items ∙ map-append g.U.SafeUser.mind c.pop.new.self.items (c.in-Some.user ∷ []))
-    (called_state (loop_of c.args.self.now.book.slots c.args.self.now.book.places (map g.U.SafeUser.mind c.args.self.now.users.items) c.max-self.result (g.R.Rng.stream c.args.randoms.now)) c.call.new.self.book.slots c.call.new.self.book.places (map g.U.SafeUser.mind c.pop.new.self.items) (map g.U.SafeUser.mind c.call.new.self.users.items) c.call.new.self.moment (g.R.Rng.stream c.call.new.randoms) c.call.result
+    (called_state (loop_of c.args.self.now.book.slots c.args.self.now.book.places (map g.U.SafeUser.mind c.args.self.now.users.items) c.later-self.result (g.R.Rng.stream c.args.randoms.now)) c.call.new.self.book.slots c.call.new.self.book.places (map g.U.SafeUser.mind c.pop.new.self.items) (map g.U.SafeUser.mind c.call.new.self.users.items) c.call.new.self.moment (g.R.Rng.stream c.call.new.randoms) c.call.result
     c.call.ensures.stream (ap (λ v. map g.U.SafeUser.mind v.items) c.call.ensures.users) c.call.ensures.rests.moment)
     c.call.ensures.does)
     c.call.ensures.keep.stay.opened c.call.ensures.keep.stay.turn_count c.call.ensures.keep.stay.listening
     (halts_so (plan_of (pair_of c.args.pair.now.engine c.args.pair.now.rbc c.args.pair.now.kmac ∷ []) c.args.plan.now) (g.W.Wires.state c.call.new.wires).opened c.call.new.self.book.slots c.call.new.self.book.places c.call.result c.requires.dials c.call.ensures.seated c.call.ensures.stays)
 
-pub returns-in-Ok-clause-does : goal.returns-in-Ok-clause-does
-returns-in-Ok-clause-does g c = λ asked.
+pub returns-in_ok-turn_away-in-None-clause-does : goal.returns-in_ok-turn_away-in-None-clause-does
+returns-in_ok-turn_away-in-None-clause-does g c = λ asked.
     let length_is : length c.args.self.now.users.items ≡ vec_len c.args.self.now.users = search rules in
     let none : c.args.self.now.users.items ≡ [] = empty_list c.args.self.now.users.items (length_is ∙ c.in-None.ensures.cases.0) in
     let same : c.pop.new.self.items ≡ c.args.self.now.users.items = sym (append-nil c.pop.new.self.items) ∙ sym c.in-None.ensures.items in
     opened_from (plan_of (pair_of c.args.pair.now.engine c.args.pair.now.rbc c.args.pair.now.kmac ∷ []) c.args.plan.now) (caller_of c.args.pair.now.engine c.args.pair.now.kmac)
     (around (g.S.Sink.state c.args.sink.now) (g.W.Wires.state c.args.wires.now) (g.C.Clock.state c.args.clock.now))
-    (around (g.S.Sink.state c.turn_away.new.sink) (g.W.Wires.state c.turn_away.new.wires) (g.C.Clock.state c.now.new.self))
+    (around (g.S.Sink.state c.turn_away.new.sink) (g.W.Wires.state c.turn_away.new.wires) (g.C.Clock.state c.moment_of.new.clock))
     (loop_of c.args.self.now.book.slots c.args.self.now.book.places (map g.U.SafeUser.mind c.args.self.now.users.items) c.args.self.now.moment (g.R.Rng.stream c.args.randoms.now))
-    (loop_of c.turn_away.new.self.book.slots c.turn_away.new.self.book.places (map g.U.SafeUser.mind c.turn_away.new.self.users.items) c.turn_away.new.self.moment (g.R.Rng.stream c.args.randoms.now)) c.args.self.now.turns c.turn_away.new.self.turns c.max-self.result c.now.result c.args.conn.0 asked (Ok false)
-    c.turn_away.ensures.rests.turns c.max-self.ensures c.now.ensures.most c.now.ensures.told
+    (loop_of c.turn_away.new.self.book.slots c.turn_away.new.self.book.places (map g.U.SafeUser.mind c.turn_away.new.self.users.items) c.turn_away.new.self.moment (g.R.Rng.stream c.args.randoms.now)) c.args.self.now.turns c.turn_away.new.self.turns c.later-self.result c.moment_of.result c.args.conn.0 asked (Ok false)
+    c.turn_away.ensures.rests.turns c.later-self.ensures c.moment_of.ensures.most c.moment_of.ensures.told
     (unserved_did (seen (g.S.Sink.state c.args.sink.now) (g.W.Wires.state c.args.wires.now))
     (seen (g.S.Sink.state c.turn_away.new.sink) (g.W.Wires.state c.turn_away.new.wires))
     (plan_of (pair_of c.args.pair.now.engine c.args.pair.now.rbc c.args.pair.now.kmac ∷ []) c.args.plan.now) (caller_of c.args.pair.now.engine c.args.pair.now.kmac)
-    (loop_of c.args.self.now.book.slots c.args.self.now.book.places (map g.U.SafeUser.mind c.args.self.now.users.items) c.max-self.result (g.R.Rng.stream c.args.randoms.now))
+    (loop_of c.args.self.now.book.slots c.args.self.now.book.places (map g.U.SafeUser.mind c.args.self.now.users.items) c.later-self.result (g.R.Rng.stream c.args.randoms.now))
     (loop_of c.turn_away.new.self.book.slots c.turn_away.new.self.book.places (map g.U.SafeUser.mind c.turn_away.new.self.users.items) c.turn_away.new.self.moment (g.R.Rng.stream c.args.randoms.now)) c.args.conn.0 (ap (map g.U.SafeUser.mind) none)
-    (same_loop c.args.self.now.book.slots c.turn_away.new.self.book.slots c.args.self.now.book.places c.turn_away.new.self.book.places _ _ c.max-self.result c.turn_away.new.self.moment _
+    (same_loop c.args.self.now.book.slots c.turn_away.new.self.book.slots c.args.self.now.book.places c.turn_away.new.self.book.places _ _ c.later-self.result c.turn_away.new.self.moment _
     (ap (λ b. b.slots) c.turn_away.ensures.book) (ap (λ b. b.places) c.turn_away.ensures.book)
     (ap (λ v. map g.U.SafeUser.mind v.items) c.turn_away.ensures.users ∙ ap (map g.U.SafeUser.mind) same) c.turn_away.ensures.rests.moment)
-    (c.in-Ok.ensures.does (loop_of c.args.self.now.book.slots c.args.self.now.book.places (map g.U.SafeUser.mind c.args.self.now.users.items) c.max-self.result (g.R.Rng.stream c.args.randoms.now)) refl))
+    (c.in_ok-turn_away-in-None.ensures.does (loop_of c.args.self.now.book.slots c.args.self.now.book.places (map g.U.SafeUser.mind c.args.self.now.users.items) c.later-self.result (g.R.Rng.stream c.args.randoms.now)) refl))
     c.turn_away.ensures.keep.stay.opened c.turn_away.ensures.keep.stay.turn_count c.turn_away.ensures.keep.stay.listening (halts_away (plan_of (pair_of c.args.pair.now.engine c.args.pair.now.rbc c.args.pair.now.kmac ∷ []) c.args.plan.now) c.turn_away.new.self.book.slots c.turn_away.new.self.book.places c.requires.dials (ap (λ b. b.places.entries) c.turn_away.ensures.book ∙ c.requires.first.empty))
 
-pub returns-in-Ok-clause-seated : goal.returns-in-Ok-clause-seated
-returns-in-Ok-clause-seated g c =
+pub returns-in_ok-turn_away-in-None-clause-seated : goal.returns-in_ok-turn_away-in-None-clause-seated
+returns-in_ok-turn_away-in-None-clause-seated g c =
     no_seats (g.W.Wires.state c.turn_away.new.wires).opened c.turn_away.new.self.book.slots c.turn_away.new.self.book.places.entries
     (ap (λ b. b.places.entries) c.turn_away.ensures.book ∙ c.requires.first.empty)
 
-pub returns-in-Err-clause-does : goal.returns-in-Err-clause-does
-returns-in-Err-clause-does g c = λ asked.
+pub returns-in_err-turn_away-in-None-clause-does : goal.returns-in_err-turn_away-in-None-clause-does
+returns-in_err-turn_away-in-None-clause-does g c = λ asked.
     let length_is : length c.args.self.now.users.items ≡ vec_len c.args.self.now.users = search rules in
     let none : c.args.self.now.users.items ≡ [] = empty_list c.args.self.now.users.items (length_is ∙ c.in-None.ensures.cases.0) in
-    opened_from (plan_of (pair_of c.args.pair.now.engine c.args.pair.now.rbc c.args.pair.now.kmac ∷ []) c.args.plan.now) (caller_of c.args.pair.now.engine c.args.pair.now.kmac)
+    let p = err_from_is_err_and c.from_residual.result c.from_residual.ensures.1 in
+    rw (p.1, p.2)
+    (opened_from (plan_of (pair_of c.args.pair.now.engine c.args.pair.now.rbc c.args.pair.now.kmac ∷ []) c.args.plan.now) (caller_of c.args.pair.now.engine c.args.pair.now.kmac)
     (around (g.S.Sink.state c.args.sink.now) (g.W.Wires.state c.args.wires.now) (g.C.Clock.state c.args.clock.now))
-    (around (g.S.Sink.state c.turn_away.new.sink) (g.W.Wires.state c.turn_away.new.wires) (g.C.Clock.state c.now.new.self))
+    (around (g.S.Sink.state c.turn_away.new.sink) (g.W.Wires.state c.turn_away.new.wires) (g.C.Clock.state c.moment_of.new.clock))
     (loop_of c.args.self.now.book.slots c.args.self.now.book.places (map g.U.SafeUser.mind c.args.self.now.users.items) c.args.self.now.moment (g.R.Rng.stream c.args.randoms.now))
-    (loop_of c.turn_away.new.self.book.slots c.turn_away.new.self.book.places (map g.U.SafeUser.mind c.turn_away.new.self.users.items) c.turn_away.new.self.moment (g.R.Rng.stream c.args.randoms.now)) c.args.self.now.turns c.turn_away.new.self.turns c.max-self.result c.now.result c.args.conn.0 asked (Err c.in-Err.fault)
-    c.turn_away.ensures.rests.turns c.max-self.ensures c.now.ensures.most c.now.ensures.told
+    (loop_of c.turn_away.new.self.book.slots c.turn_away.new.self.book.places (map g.U.SafeUser.mind c.turn_away.new.self.users.items) c.turn_away.new.self.moment (g.R.Rng.stream c.args.randoms.now)) c.args.self.now.turns c.turn_away.new.self.turns c.later-self.result c.moment_of.result c.args.conn.0 asked (Err c.in_err-turn_away-in-None.field-0.0)
+    c.turn_away.ensures.rests.turns c.later-self.ensures c.moment_of.ensures.most c.moment_of.ensures.told
     (unserved_breaks (seen (g.S.Sink.state c.args.sink.now) (g.W.Wires.state c.args.wires.now))
     (seen (g.S.Sink.state c.turn_away.new.sink) (g.W.Wires.state c.turn_away.new.wires))
     (plan_of (pair_of c.args.pair.now.engine c.args.pair.now.rbc c.args.pair.now.kmac ∷ []) c.args.plan.now) (caller_of c.args.pair.now.engine c.args.pair.now.kmac)
-    (loop_of c.args.self.now.book.slots c.args.self.now.book.places (map g.U.SafeUser.mind c.args.self.now.users.items) c.max-self.result (g.R.Rng.stream c.args.randoms.now))
-    c.args.conn.0 c.in-Err.fault (ap (map g.U.SafeUser.mind) none)
-    (c.in-Err.ensures.does (loop_of c.args.self.now.book.slots c.args.self.now.book.places (map g.U.SafeUser.mind c.args.self.now.users.items) c.max-self.result (g.R.Rng.stream c.args.randoms.now)) refl))
-    c.turn_away.ensures.keep.stay.opened c.turn_away.ensures.keep.stay.turn_count c.turn_away.ensures.keep.stay.listening tt
+    (loop_of c.args.self.now.book.slots c.args.self.now.book.places (map g.U.SafeUser.mind c.args.self.now.users.items) c.later-self.result (g.R.Rng.stream c.args.randoms.now))
+    c.args.conn.0 c.in_err-turn_away-in-None.field-0.0 (ap (map g.U.SafeUser.mind) none)
+    (c.in_err-turn_away-in-None.ensures.does (loop_of c.args.self.now.book.slots c.args.self.now.book.places (map g.U.SafeUser.mind c.args.self.now.users.items) c.later-self.result (g.R.Rng.stream c.args.randoms.now)) refl))
+    c.turn_away.ensures.keep.stay.opened c.turn_away.ensures.keep.stay.turn_count c.turn_away.ensures.keep.stay.listening tt)

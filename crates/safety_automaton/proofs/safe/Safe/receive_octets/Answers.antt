@@ -14,4 +14,4 @@ returns g c =
     let flag : c.flag.result ≡ peer_flag s = c.flag.ensures ∙ ap flag_of c.other.ensures ∙ ap (λ (k : KeptSafe). peer_flag k.safety) c.self.view_is in
     let test : same_flag c.in-Ok.flag (peer_flag s) ≡ true =
     same_flag_if c.in-Ok.flag (peer_flag s) (subst (λ f. not (beq c.in-Ok.flag f) ≡ false) flag c.if-flag.false) in
-    rw (reads_open keys s s.phase c.args.octets.now c.requires.unreleased, ← c.in-Ok.ensures.value, test) c.receive_pdu.ensures
+    rw (reads_open keys s s.phase c.args.octets.now c.requires, ← c.in-Ok.ensures.value, test) c.receive_pdu.ensures

@@ -6,4 +6,4 @@ pub returns-in-Di : goal.returns-in-Di
 returns-in-Di g c =
     let s = c.args.self.now.safety in
     let row = di_row (key_at (g.K.KeyFinder.entries c.args.keys.now) c.args.now) s s.phase c.in-Di.reason c.in-Di.sub in
-    rw (c.in-Di.is, row) (c.receive_di.ensures c.args.out.now)
+    rw (c.in-Di.is, row) c.receive_di.ensures

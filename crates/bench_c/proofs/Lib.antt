@@ -1,0 +1,2 @@
+pub mod FrameCountLaws
+pub mod BitFrameCountLaws

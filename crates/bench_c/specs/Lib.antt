@@ -1,0 +1,3 @@
+pub mod MacPieces
+pub mod FrameCounts
+pub mod BitFrameCounts

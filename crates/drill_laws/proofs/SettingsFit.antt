@@ -1,0 +1,88 @@
+-- Settings in the ranges of a level fit the links of that level.
+use Rattle.std.proofs.Common.{◌≡◌, ℕ, ◌==◌, ◌&&◌, inl, inr, List, [], ◌∷◌, Option, Some, None, sym, subst, ap, ◌∙◌}
+use Rattle.std.specs.Option.{option_map}
+use Rattle.std.proofs.lemmas.Bool.{cases_Bool}
+use Rattle.des_block.specs.declared.triple_key.TripleKey.{TripleKey}
+use Rattle.er_scenario.specs.declared.level.Level.{Level}
+use Rattle.er_scenario.specs.declared.level.Level.TheVariants as level
+use Rattle.er_scenario.specs.declared.step.Step.{Step}
+use Rattle.er_scenario.specs.declared.step.Step.TheVariants as does
+use Rattle.er_settings.specs.Values.{Settings}
+use Rattle.er_settings.specs.Ranges.{AllAllowed}
+use Rattle.drill_model.specs.Links.{LinkOpening, Link}
+use Rattle.drill_model.specs.Worlds.{Plan, is_link, link_at, fixed_opening, link_opening, wire_opening, world_run}
+use Rattle.drill_model.specs.Headline.{FitsLevel}
+use Rattle.drill_laws.specs.Laws.{OpensAlways, FitsSettings}
+use Rattle.drill_model.specs.Claims.{named, opening_by, or_opening, opening_of}
+
+-- where there is an opening, the settings fit it
+abbrev Fit : Settings → Option LinkOpening → Type 0
+Fit settings None = Unit {0}
+Fit settings (Some opening) = FitsSettings settings opening
+
+-- they are in their ranges
+pub all_allowed : (l : Level) (settings : Settings) → FitsLevel l settings → AllAllowed settings
+all_allowed level.Safe settings fits = fits
+all_allowed level.Link settings fits = fits
+all_allowed level.LinkSr settings fits = fits.0
+all_allowed level.Full settings fits = fits
+
+fixed_fit : (l : Level) (settings : Settings) (engine rbc : ℕ) (ke kr : TripleKey) → Fit settings (fixed_opening l engine rbc ke kr)
+fixed_fit level.Safe settings engine rbc ke kr = tt
+fixed_fit level.Link settings engine rbc ke kr = tt
+fixed_fit level.Full settings engine rbc ke kr = tt
+fixed_fit level.LinkSr settings engine rbc ke kr = tt
+
+link_fit : (l : Level) (settings : Settings) (engine rbc : ℕ) (ke : TripleKey) (kr : Option TripleKey) (ra rb : ℕ) → AllAllowed settings
+    → Fit settings (link_opening l engine rbc ke kr ra rb)
+link_fit level.Safe settings engine rbc ke kr ra rb allowed = tt
+link_fit level.Link settings engine rbc ke kr ra rb allowed = tt
+link_fit level.Full settings engine rbc ke kr ra rb allowed = allowed
+link_fit level.LinkSr settings engine rbc ke kr ra rb allowed = tt
+
+wire_fit : (l : Level) (settings : Settings) → FitsLevel l settings → Fit settings (wire_opening l)
+wire_fit level.Safe settings fits = tt
+wire_fit level.Link settings fits = fits
+wire_fit level.Full settings fits = tt
+wire_fit level.LinkSr settings fits = fits
+
+named_fit : (settings : Settings) (n m : ℕ) (opening : Option LinkOpening) → Fit settings opening → Fit settings (named n m opening)
+named_fit settings n m opening fit =
+    elim (cases_Bool ((m == n) && is_link m)) [
+      | inl t ↦ rw t fit
+      | inr f ↦ rw f tt
+    ]
+
+step_fit : (plan : Plan) (n : ℕ) (s : Step) → FitsLevel plan.level plan.settings → Fit plan.settings (opening_by plan n s)
+step_fit plan n (does.Fixed m engine rbc ke kr) fits =
+    named_fit plan.settings n m (fixed_opening plan.level engine rbc ke kr) (fixed_fit plan.level plan.settings engine rbc ke kr)
+step_fit plan n (does.Link m engine rbc ke kr ra rb) fits =
+    named_fit plan.settings n m (link_opening plan.level engine rbc ke kr ra rb) (link_fit plan.level plan.settings engine rbc ke kr ra rb (all_allowed plan.level plan.settings fits))
+step_fit plan n (does.Wire m) fits =
+    named_fit plan.settings n m (wire_opening plan.level) (wire_fit plan.level plan.settings fits)
+step_fit plan n (does.Send m s text) fits = tt
+step_fit plan n (does.Pass m s) fits = tt
+step_fit plan n (does.Lose m s) fits = tt
+step_fit plan n (does.Repeat m s) fits = tt
+step_fit plan n (does.Alter m s place mask) fits = tt
+step_fit plan n (does.Put m s text) fits = tt
+step_fit plan n (does.Copy m s i t) fits = tt
+step_fit plan n (does.Take m s) fits = tt
+step_fit plan n (does.Release m s sub) fits = tt
+step_fit plan n (does.Tick moment) fits = tt
+step_fit plan n (does.Drain m most) fits = tt
+
+either_fit : (settings : Settings) (first later : Option LinkOpening) → Fit settings first → Fit settings later → Fit settings (or_opening first later)
+either_fit settings None later of_first of_later = of_later
+either_fit settings (Some opening) later of_first of_later = of_first
+
+steps_fit : (plan : Plan) (n : ℕ) (steps : List Step) → FitsLevel plan.level plan.settings → Fit plan.settings (opening_of plan n steps)
+steps_fit plan n [] fits = tt
+steps_fit plan n (s ∷ steps) fits =
+    either_fit plan.settings (opening_by plan n s) (opening_of plan n steps) (step_fit plan n s fits) (steps_fit plan n steps fits)
+
+-- of each link that was opened
+pub settings_fit : OpensAlways → (plan : Plan) (steps : List Step) → FitsLevel plan.level plan.settings
+    → (n : ℕ) (l : Link) → link_at (world_run plan steps).0 n ≡ Some l → FitsSettings plan.settings l.opening
+settings_fit opens plan steps fits n l at =
+    subst (Fit plan.settings) (sym (opens plan steps n) ∙ ap (option_map (λ (x : Link). x.opening)) at) (steps_fit plan n steps fits)

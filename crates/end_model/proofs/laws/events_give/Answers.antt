@@ -1,5 +1,0 @@
-use Rattle.end_model.proofs.Giving.{events_give}
-use Rattle.end_model.proofs.laws.events_give.Goals as goal
-
-pub returns : goal.returns
-returns c = events_give

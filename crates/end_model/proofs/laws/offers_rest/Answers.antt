@@ -1,5 +1,0 @@
-use Rattle.end_model.proofs.Offering.{offers_rest}
-use Rattle.end_model.proofs.laws.offers_rest.Goals as goal
-
-pub returns : goal.returns
-returns c = offers_rest

@@ -1,5 +1,0 @@
-use Rattle.end_model.proofs.Resting.{released_rest}
-use Rattle.end_model.proofs.laws.released_rest.Goals as goal
-
-pub returns : goal.returns
-returns c = released_rest

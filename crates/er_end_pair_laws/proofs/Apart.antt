@@ -1,0 +1,79 @@
+-- On a line that keeps its order, where the keys agree: what a live end knows tells what the other gave and said, released or not.
+use Rattle.std.proofs.Common.{◌≡◌, ℕ, ◌≤◌, true, false, List, [], ◌∷◌, length, take, zero, suc, None, refl, ap, arith}
+use Rattle.safety_automaton.specs.Safety.{Safety, Phase}
+use Rattle.x224_class2.specs.Segments.{messages_in}
+use Rattle.x224_class2.specs.Tpdus.{Given, Cr, Cc, Dt, Ak, Dr, Dc}
+use Rattle.er_end_model.specs.Layers.{Core}
+use Rattle.er_end_pair_laws.specs.Links.{Link}
+use Rattle.er_end_pair_laws.specs.Phases.{IsEngines, IsCentres}
+use Rattle.er_end_pair_laws.specs.Laws.{after}
+use Rattle.er_end_pair_laws.specs.Ordered.{begins_with_cc, InStepWhileOrdered}
+use Rattle.er_end_pair_laws.proofs.Locals.{drs, Opens}
+use Rattle.er_end_pair_laws.proofs.Own.{heard}
+use Rattle.er_end_pair_laws.proofs.Below.{Below}
+use Rattle.er_end_pair_laws.proofs.Ordered.{after_holds}
+use Rattle.er_end_pair_laws.proofs.Together.{engines, centres, known_open, gave_known, none_of, came_some, e_said, r_said, messages_from, open_heard}
+
+-- of what a callee gave, the first that a live caller heard is a CC
+first_cc : (C S n : ℕ) (gave : List Given) → 1 ≤ length (take n gave) → Opens false C S gave → length (drs (take n gave)) ≡ 0 → begins_with_cc gave ≡ true
+first_cc C S zero gave some opens none = absurd (omega arith)
+first_cc C S (suc n) [] some opens none = absurd (omega arith)
+first_cc C S (suc n) (Cr credit size user ∷ gs) some opens none = absurd opens.0
+first_cc C S (suc n) (Cc credit size user ∷ gs) some opens none = refl
+first_cc C S (suc n) (Dt last m user ∷ gs) some opens none = absurd opens.0
+first_cc C S (suc n) (Ak credit m ∷ gs) some opens none = absurd opens.0
+first_cc C S (suc n) (Dr reason user ∷ gs) some opens none = absurd (omega (arith, none))
+first_cc C S (suc n) (Dc ∷ gs) some opens none = absurd opens.0
+
+some_given : (gave : List Given) → begins_with_cc gave ≡ true → 1 ≤ length gave
+some_given [] e = absurd cc
+some_given (g ∷ gs) e = omega arith
+
+pub in_step_while_ordered : Below → InStepWhileOrdered
+in_step_while_ordered below s steps fits agree kept =
+    let l : Link = after s steps in
+    let two = (after_holds below s steps fits kept).two in
+    let e : Core = l.e.core in
+    let r : Core = l.r.core in
+    let te = e.upper.transport in
+    let tr = r.upper.transport in
+    let pe : Phase = e.safe.safety.phase in
+    let pr : Phase = r.safe.safety.phase in
+    let lives_e = two.own_e.lives in
+    let lives_r = two.own_r.lives in
+    let of_e : e.released ≡ None → IsEngines s.engine s.rbc s.kmac s.ra s.rb pe = λ live.
+    let v = lives_e live in
+    engines s te.stage pe (messages_in te.segments) e.upper.sent (messages_in te.contents) e.upper.accepted v.trusting.joint (v.trusting.phase_is agree) in
+    let of_r : r.released ≡ None → IsCentres s.engine s.rbc s.kmac s.ra s.rb pr = λ live.
+    let v = lives_r live in
+    centres s tr.stage pr (messages_in tr.segments) r.upper.sent (messages_in tr.contents) r.upper.accepted v.trusting.joint (v.trusting.phase_is agree) in
+    record {
+      is_engine = λ live.
+          let v = lives_e live in
+          record { me = ap (λ (x : Safety). x.me) v.trusting.side_is; role = ap (λ (x : Safety). x.role) v.trusting.side_is; is = of_e live };
+      is_centre = λ live.
+          let v = lives_r live in
+          record { me = ap (λ (x : Safety). x.me) v.trusting.side_is; role = ap (λ (x : Safety). x.role) v.trusting.side_is; is = of_r live };
+      e_said = λ live said.
+          let v = lives_e live in
+          e_said s pe (messages_in te.segments) e.upper.sent (messages_in te.contents) e.upper.accepted (v.trusting.phase_is agree) (of_e live) said;
+      r_gave = λ live gave.
+          let v = lives_r live in
+          gave_known s tr.stage pr tr.due (heard r e) tr.gave r.line.phase v.alive.stages (some_given tr.gave gave) v.trusting.joint (of_r live);
+      r_said = λ live said.
+          let v = lives_r live in
+          r_said s pr (messages_in tr.segments) r.upper.sent (messages_in tr.contents) r.upper.accepted (v.trusting.phase_is agree) (of_r live) said;
+      au2 = λ live known.
+          let v = lives_e live in
+          let opened = known_open s te.stage pe v.trusting.joint (of_e live) known in
+          first_cc s.settings.credit s.settings.size (length e.line.taken) tr.gave (open_heard te.stage te.due (heard e r) te.gave e.line.phase opened v.alive.stages)
+          two.own_r.always.opens v.alive.no_dr_heard;
+      au3 = λ live joined none.
+          let v = lives_r live in
+          came_some s false pr (messages_in tr.segments) r.upper.sent (messages_in tr.contents) r.upper.accepted (v.trusting.phase_is agree) joined
+          (none_of (messages_in tr.contents) (messages_in te.segments) (messages_from s false true r e (heard e r) two.own_r two.own_e) none);
+      ar = λ live joined none.
+          let v = lives_e live in
+          came_some s true pe (messages_in te.segments) e.upper.sent (messages_in te.contents) e.upper.accepted (v.trusting.phase_is agree) joined
+          (none_of (messages_in te.contents) (messages_in tr.segments) (messages_from s true false e r (heard r e) two.own_e two.own_r) none);
+    }

@@ -1,0 +1,87 @@
+-- The law of recovery: at the tick each station sends again all that is unacknowledged, and neither end is released; once no frame waits behind it
+-- and all was taken, each end accepted all that the other sent.
+use Rattle.std.proofs.Common.{◌≡◌, max, Bool, true, false, not, ◌&&◌, ◌||◌, ℕ, List, [], ◌∷◌, ◌++◌, refl, sym, ◌∙◌, subst}
+use Rattle.er_base.specs.declared.side.Side.TheVariants.{E, R}
+use Rattle.hdlc_station_model.specs.Calls as station
+use Rattle.hdlc_pair_laws.specs.Mending.{Lossy, HalfTicked, Ticked}
+use Rattle.hdlc_pair_laws.specs.Repairs.{MendEnds}
+use Rattle.er_end_model.specs.Layers.{Core, model}
+use Rattle.er_end_model.specs.Steps.{new_event_at, step_tick}
+use Rattle.er_end_model.specs.Ends as event
+use Rattle.er_end_pair_laws.specs.Openings.{Opening, Agree}
+use Rattle.er_end_pair_laws.specs.Links.{Link, give, opened}
+use Rattle.er_end_pair_laws.specs.Steps.{LinkStep, Tick, expires_at, tick, run}
+use Rattle.er_end_pair_laws.specs.Laws.{after, IsEmpty}
+use Rattle.er_end_pair_laws.specs.Recovery.{ArePassesAndTakes, NoFrameWaits, GoesOnAt, GoOn, IsRecovered, Recovery}
+use Rattle.er_end_pair_laws.proofs.Happens.{ticked_keeps, e_begins, r_begins}
+use Rattle.er_end_pair_laws.proofs.Worlds.{none_on_line}
+use Rattle.er_end_pair_laws.proofs.Delivered.{quiet_at, has_all}
+use Rattle.er_end_pair_laws.proofs.Mended.{Repair, In, ticked_mends, ticked_lives}
+use Rattle.er_end_pair_laws.proofs.Mending.{Mends, e_mends, r_mends, r_between, other_mends}
+use Rattle.er_end_pair_laws.proofs.Lasting.{after_lasts, calm_mends, both_go, run_append}
+
+module _ (laws : Repair) (s : Opening) where
+  -- ---- the tick
+
+  e_ticks : (l : Link) → Mends Lossy s l → NoFrameWaits l → GoesOnAt l.moment l.e → Mends HalfTicked s (give E event.Tick l)
+  e_ticks l g empty may =
+      let h = g.holds in
+      let x : Core = new_event_at model l.moment l.e.core in
+      let ne : h.fe ≡ [] = none_on_line l.e.core.line h.fe (sym empty.0 ∙ h.lined_e) in
+      let nr : h.fr ≡ [] = none_on_line l.r.core.line h.fr (sym empty.1 ∙ h.lined_r) in
+      let awake_e = (h.two.own_e.lives g.live_e).alive.awake in
+      let awake_r = (h.two.own_r.lives g.live_r).alive.awake in
+      let w : In HalfTicked s true h.fe (station.ticks x.moment x.line) h.fr l.r.core.line =
+      laws.keep.calling_ticked false h.k s.settings.window h.fe x.moment l.e.core.line h.fr l.r.core.line ne nr h.two.lines g.between awake_e awake_r may.0 in
+      let awake = laws.keep.lives HalfTicked false true s.settings.window h.fe (station.ticks x.moment x.line) h.fr l.r.core.line (λ e. absurd cc) w in
+      let live = ticked_lives x g.live_e (laws.keep.ticked_untold x.moment x.line refl awake) may.1 in
+      e_mends laws s Lossy HalfTicked l g (step_tick model l.moment l.e.core) (ticked_keeps laws.below s true h.k h.fe x h.fr l.r.core refl (e_begins s h.k h.fe l.e.core h.fr l.r.core l.moment h.two))
+      (ticked_mends laws HalfTicked s true tt h.fe h.fr l.r.core.line x live w)
+
+  r_ticks : (l : Link) → Mends HalfTicked s l → GoesOnAt l.moment l.r → Mends Ticked s (give R event.Tick l)
+  r_ticks l g may =
+      let h = g.holds in
+      let x : Core = new_event_at model l.moment l.r.core in
+      let w : In Ticked s false h.fr (station.ticks x.moment x.line) h.fe l.e.core.line =
+      laws.keep.called_ticked false h.k s.settings.window h.fr x.moment l.r.core.line h.fe l.e.core.line
+      (laws.below.keep.swapped false h.k h.fe l.e.core.line h.fr l.r.core.line h.two.lines) (r_between laws s HalfTicked l g) may.0 in
+      let awake = laws.keep.lives Ticked false false s.settings.window h.fr (station.ticks x.moment x.line) h.fe l.e.core.line (λ e. absurd cc) w in
+      let live = ticked_lives x g.live_r (laws.keep.ticked_untold x.moment x.line refl awake) may.1 in
+      r_mends laws s HalfTicked Ticked l g (step_tick model l.moment l.r.core) (ticked_keeps laws.below s false h.k h.fr x h.fe l.e.core refl (r_begins laws.below s h.k h.fe l.e.core h.fr l.r.core l.moment h.two))
+      (ticked_mends laws Ticked s false tt h.fr h.fe l.e.core.line x live w)
+
+  both_tick : (l : Link) (now : ℕ) → Mends Lossy s l → NoFrameWaits l → GoOn now l → Mends Ticked s (tick now l)
+  both_tick l now g empty may =
+      let to : ℕ = max l.moment now in
+      let flag : Bool = l.loss_free && not (expires_at to l.e || expires_at to l.r) in
+      let first : Link = record l { moment = to; loss_free = flag } in
+      r_ticks (give E event.Tick first) (e_ticks first (other_mends laws s Lossy l to l.passes l.order_kept flag g) empty may.0) may.1
+
+  -- ---- no frame waits any more, and all was taken
+
+  recovered_at : MendEnds → Agree s → (l : Link) → Mends Ticked s l → IsEmpty l → IsRecovered l
+  recovered_at ends agree l g empty =
+      let h = g.holds in
+      let ne : h.fe ≡ [] = none_on_line l.e.core.line h.fe (sym empty.0 ∙ h.lined_e) in
+      let nr : h.fr ≡ [] = none_on_line l.r.core.line h.fr (sym empty.1 ∙ h.lined_r) in
+      let some = (laws.below.bounded s.settings s.allowed).window.0 in
+      let m = ends false h.k s.settings.window h.fe l.e.core.line h.fr l.r.core.line some ne nr h.two.lines g.between in
+      record {
+        live = (g.live_e, g.live_r);
+        all = has_all laws.below s agree l g.live_e g.live_r (quiet_at s l h g.live_e g.live_r empty m.x_up m.at_y m.at_x);
+      }
+
+  behind : MendEnds → Agree s → (l : Link) → Mends Lossy s l → NoFrameWaits l → (now : ℕ) → GoOn now l → (second : List LinkStep) → ArePassesAndTakes second
+      → IsEmpty (run s.finder l (Tick now ∷ second)) → IsRecovered (run s.finder l (Tick now ∷ second))
+  behind ends agree l g empty now may second are end =
+      let t : Mends Ticked s (tick now l) = both_tick l now g empty may in
+      recovered_at ends agree (run s.finder l (Tick now ∷ second))
+      (calm_mends laws s agree Ticked (record { hears = tt; speaks = λ c. tt }) second (tick now l) are t) end
+
+pub recovery : Repair → MendEnds → Recovery
+recovery laws ends s steps fits agree kept live first passes empty now may second more end =
+    let l : Link = after s (steps ++ first) in
+    let split : l ≡ run s.finder (after s steps) first = run_append s steps first (opened s) in
+    let g : Mends Lossy s (run s.finder (after s steps) first) = calm_mends laws s agree Lossy both_go first (after s steps) passes (after_lasts laws s agree steps fits kept live) in
+    let join : after s (steps ++ first ++ Tick now ∷ second) ≡ run s.finder l (Tick now ∷ second) = run_append s (steps ++ first) (Tick now ∷ second) (opened s) in
+    subst IsRecovered (sym join) (behind laws s ends agree l (subst (Mends Lossy s) (sym split) g) empty now may second more (subst IsEmpty join end))

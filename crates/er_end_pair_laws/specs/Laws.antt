@@ -1,0 +1,86 @@
+-- What holds of two ends over two lines, over every list of steps, at modulo 8 and at modulo 128. A list of steps stands for each moment of
+-- a longer run. An opening has its settings, numbers and random numbers in their ranges; the user octets of the steps are octets.
+use Rattle.std.specs.Prelude.{◌≡◌, ℕ, ◌≤◌, true, List, [], ◌∷◌, length}
+use Rattle.er_settings.specs.Values.{Settings}
+use Rattle.hdlc_station_model.specs.Events.{news}
+use Rattle.hdlc_station_model.specs.Lines.{IsPrefix}
+use Rattle.er_end_model.specs.Steps.{is_connected}
+use Rattle.er_end_model.specs.Bounds.{end_bound}
+use Rattle.er_end_pair_laws.specs.Openings.{Opening, Agree}
+use Rattle.er_end_pair_laws.specs.Reasons.{IsLosingLineRelease}
+use Rattle.er_end_pair_laws.specs.Links.{Link, opened}
+use Rattle.er_end_pair_laws.specs.Phases.{AreInStep}
+use Rattle.er_end_pair_laws.specs.Steps.{LinkStep, AllFit, run, drained}
+
+-- the link behind a list of steps
+abbrev pub after : Opening → List LinkStep → Link
+after s steps = run s.finder (opened s) steps
+
+-- ---- an order-keeping line: it may lose and repeat
+
+-- what an end accepted is a prefix of what the other sent, whatever the keys
+abbrev pub Prefix : Type 0
+Prefix =
+    (s : Opening) (steps : List LinkStep) → AllFit steps → (after s steps).order_kept ≡ true
+    → IsPrefix (after s steps).r.core.upper.accepted (after s steps).e.core.upper.sent
+    × IsPrefix (after s steps).e.core.upper.accepted (after s steps).r.core.upper.sent
+
+-- where the keys agree, each release is one of those that such a line allows
+abbrev pub LosingLineReasons : Type 0
+LosingLineReasons =
+    (s : Opening) (steps : List LinkStep) → AllFit steps → Agree s → (after s steps).order_kept ≡ true
+    → IsLosingLineRelease (after s steps).e.core.released × IsLosingLineRelease (after s steps).r.core.released
+
+-- the first frame that waits is one frame at the other end, and nothing besides
+abbrev pub IsOneFrame : (stream : List ℕ) → (line : List (List ℕ)) → Type 0
+IsOneFrame stream line = (octets : List ℕ) (rest : List (List ℕ)) → line ≡ octets ∷ rest → length (news stream octets) ≡ 1
+
+abbrev pub OneFrame : Type 0
+OneFrame =
+    (s : Opening) (steps : List LinkStep) → AllFit steps → (after s steps).order_kept ≡ true
+    → IsOneFrame (after s steps).r.stream (after s steps).from_e × IsOneFrame (after s steps).e.stream (after s steps).from_r
+
+-- ---- a loss-free line, where the keys agree
+
+-- the two safety sides are in step
+abbrev pub InStep : Type 0
+InStep =
+    (s : Opening) (steps : List LinkStep) → AllFit steps → Agree s → (after s steps).loss_free ≡ true
+    → AreInStep s.engine s.rbc s.kmac s.ra s.rb (after s steps).e.core.safe.safety (after s steps).r.core.safe.safety
+
+-- no frame waits, and every accepted message was taken
+abbrev pub IsEmpty : Link → Type 0
+IsEmpty l =
+    (l.from_e ≡ []) × (l.from_r ≡ []) × (l.e.core.upper.used ≡ length l.e.core.upper.accepted)
+    × (l.r.core.upper.used ≡ length l.r.core.upper.accepted)
+
+-- both ends are connected, and each accepted all that the other sent, in order
+pub record HasAll (l : Link) : Type 0 where
+  pub e_connected : is_connected l.e.core.safe.safety.phase ≡ true
+  pub r_connected : is_connected l.r.core.safe.safety.phase ≡ true
+  pub at_r : l.r.core.upper.accepted ≡ l.e.core.upper.sent
+  pub at_e : l.e.core.upper.accepted ≡ l.r.core.upper.sent
+
+abbrev pub Delivery : Type 0
+Delivery =
+    (s : Opening) (steps : List LinkStep) → AllFit steps → Agree s → (after s steps).loss_free ≡ true → IsEmpty (after s steps) → HasAll (after s steps)
+
+-- the greatest number of deliveries
+abbrev pub bound : Settings → Link → ℕ
+bound settings l = end_bound settings l.e.core.upper.sent l.r.core.upper.sent
+
+abbrev pub DeliveryBound : Type 0
+DeliveryBound =
+    (s : Opening) (steps : List LinkStep) → AllFit steps → Agree s → (after s steps).loss_free ≡ true → (after s steps).passes ≤ bound s.settings (after s steps)
+
+-- never more than 254 frames wait in one direction: at modulo 128 at most 127 I frames, and an RR for each of the other direction
+abbrev pub FewWait : Type 0
+FewWait =
+    (s : Opening) (steps : List LinkStep) → AllFit steps → Agree s → (after s steps).loss_free ≡ true
+    → (length (after s steps).from_e ≤ 254) × (length (after s steps).from_r ≤ 254)
+
+-- a drain of as many passes leaves no frame waiting
+abbrev pub DrainEmpties : Type 0
+DrainEmpties =
+    (s : Opening) (steps : List LinkStep) (most : ℕ) → AllFit steps → Agree s → (after s steps).loss_free ≡ true → bound s.settings (after s steps) ≤ most
+    → ((drained s.finder most (after s steps)).from_e ≡ []) × ((drained s.finder most (after s steps)).from_r ≡ [])

@@ -1,0 +1,3 @@
+pub mod LineEndings
+pub mod LineMeanings
+pub mod Recordings

@@ -1,0 +1,243 @@
+-- What a run of `serve` or `call` means by its status, from how it ended.
+use Rattle.std.proofs.Common.{◌≡◌, ◌≢◌, ◌⊎◌, inl, inr, ℕ, ◌≤◌, List, [], ◌∷◌, Option, Some, None, Result, Ok, Err, refl, sym, subst, arith}
+use Rattle.safety_automaton.specs.Keys.{Entry, key_at}
+use Rattle.key_store.specs.declared.key_file_fault.KeyFileFault.{KeyFileFault}
+use Rattle.key_store.specs.declared.key_file_fault.KeyFileFault.TheVariants as keys
+use Rattle.key_store.specs.KeyFiles.{keys_of}
+use Rattle.link_trait.specs.Outside.{Grew, GrewPart, Rose, HasFile, Kept}
+use Rattle.link_trait.specs.Growth.{grew_nothing}
+use Rattle.er_statuses.specs.Answers.{keys_answer}
+use Rattle.er_statuses.specs.KeyLines.{keys_line}
+use Rattle.er_statuses.specs.LastLines.{memory_line}
+use Rattle.er_serving.specs.LineCommands.{LineCommand, Serve, Call, key_file_of, AsksClock}
+use Rattle.er_serving.specs.Outsides.{Outside, traffic_of, IsLeftAlone, IsSteady}
+use Rattle.er_serving.specs.LineRuns.{Given, Looped, FailsWith, LacksKey, HasLineStatus, IsStatusOfLoop, IsStatusBehindKeyFile, RunsOut, BeforeLoop, Spent, with_sink, wires_line}
+use Rattle.er_serving.specs.LineWriting.{HasLooped, WiresFailed, KeyLacks, FileEnded, LineEnded, NotFetched, WasRead, LineMeans}
+use Rattle.er_serving.specs.LineStatuses.{LineBroke, IsLineRun}
+use Rattle.er_statuses.specs.Writing.{Exhausts}
+use Rattle.er_statuses.specs.declared.status.Status.{Status}
+
+-- ---- status 0
+
+-- the clock's answers of the loop stand behind that for the look-up
+looped_status : (command : LineCommand) (entries : List Entry) (g : Given) (before now : Outside) (status : ℕ)
+    → Looped command entries g (traffic_of before) (traffic_of now) → status ≡ 0 → IsStatusOfLoop command entries before now status
+looped_status (Serve keys address rbc turns) entries g before now status looped is = is
+looped_status (Call keys address engine rbc turns) entries g before now status looped is = record {
+  moment = looped.moment;
+  clock = looped.clock;
+  asked = looped.asked;
+  more = _;
+  later = looped.loop.has.done.clock;
+  is = rw looped.holds is;
+}
+
+means_looped : (command : LineCommand) (g : Given) (before now : Outside) (status : ℕ) (file : List ℕ) (entries : List Entry)
+    → HasFile now.files (key_file_of command) file → keys_of file ≡ Ok entries → status ≡ 0 → Looped command entries g (traffic_of before) (traffic_of now)
+    → LineMeans command g before now status
+means_looped command g before now status file entries stands spelled is looped = record {
+  known = inl is;
+  served = λ h. record { entries = entries; keys = record { file = file; stands = stands; spelled = spelled }; looped = looped };
+  fetch = λ h. absurd (omega arith);
+  keys = λ h. absurd (omega arith);
+  sink = λ h. absurd (omega arith);
+  wires = λ h. absurd (omega arith);
+  memory = λ h. absurd (omega arith);
+  idle = record { unfetched = λ h. absurd (omega arith); keyless = λ h. absurd (omega arith) };
+  complete = λ good fine well. inl (record { file = file; stands = stands; is = rw spelled (looped_status command entries g before now status looped is) });
+}
+
+-- ---- status 6
+
+means_wires : (command : LineCommand) (g : Given) (before now : Outside) (status : ℕ) (file : List ℕ) (entries : List Entry)
+    → HasFile now.files (key_file_of command) file → keys_of file ≡ Ok entries → status ≡ 6 → Rose before.turns_failed now.turns_failed
+    → FailsWith command entries g (traffic_of before) (traffic_of now) (λ held held_now. Grew held held_now wires_line)
+    → LineMeans command g before now status
+means_wires command g before now status file entries stands spelled is rose fails = record {
+  known = inr (inr (inr (inr (inl is))));
+  served = λ h. absurd (omega arith);
+  fetch = λ h. absurd (omega arith);
+  keys = λ h. absurd (omega arith);
+  sink = λ h. absurd (omega arith);
+  wires = λ h. record { rose = rose; entries = entries; keys = record { file = file; stands = stands; spelled = spelled }; failed = fails };
+  memory = λ h. absurd (omega arith);
+  idle = record { unfetched = λ h. absurd (omega arith); keyless = λ h. absurd (omega arith) };
+  complete = λ good fine well. absurd (well rose);
+}
+
+-- ---- status 4
+
+lacks_status : (command : LineCommand) (entries : List Entry) (before now : Outside) (status : ℕ) (Written : List ℕ → Type 0)
+    → LacksKey command entries (traffic_of before) (traffic_of now) Written → status ≡ 4 → IsStatusOfLoop command entries before now status
+lacks_status (Serve keys address rbc turns) entries before now status Written lacks is = absurd lacks
+lacks_status (Call keys address engine rbc turns) entries before now status Written lacks is = record {
+  moment = lacks.0.moment;
+  clock = now.clock;
+  asked = lacks.0.asked;
+  more = [];
+  later = grew_nothing now.clock;
+  is = rw lacks.0.none is;
+}
+
+means_lacking : (command : LineCommand) (g : Given) (before now : Outside) (status : ℕ) (file : List ℕ) (entries : List Entry)
+    → HasFile now.files (key_file_of command) file → keys_of file ≡ Ok entries → status ≡ 4 → IsLeftAlone (AsksClock command) (traffic_of before) (traffic_of now)
+    → LacksKey command entries (traffic_of before) (traffic_of now) (Grew before.held now.held)
+    → LineMeans command g before now status
+means_lacking command g before now status file entries stands spelled is alone lacks = record {
+  known = inr (inr (inl is));
+  served = λ h. absurd (omega arith);
+  fetch = λ h. absurd (omega arith);
+  keys = λ h asked. inr (record { asked_for = asked; entries = entries; keys = record { file = file; stands = stands; spelled = spelled }; lacks = lacks });
+  sink = λ h. absurd (omega arith);
+  wires = λ h. absurd (omega arith);
+  memory = λ h. absurd (omega arith);
+  idle = record { unfetched = λ h. absurd (omega arith); keyless = λ h. alone };
+  complete = λ good fine well. inl (record { file = file; stands = stands; is = rw spelled (lacks_status command entries before now status (Grew before.held now.held) lacks is) });
+}
+
+means_refused : (command : LineCommand) (g : Given) (before now : Outside) (status : ℕ) (file : List ℕ) (fault : KeyFileFault)
+    → HasFile now.files (key_file_of command) file → keys_of file ≡ Err fault → HasLineStatus command before now status → status ≡ 4 → IsLeftAlone (AsksClock command) (traffic_of before) (traffic_of now)
+    → Grew before.held now.held (keys_line fault)
+    → LineMeans command g before now status
+means_refused command g before now status file fault stands is has four alone printed = record {
+  known = inr (inr (inl four));
+  served = λ h. absurd (omega arith);
+  fetch = λ h. absurd (omega arith);
+  keys = λ h asked. inl (record { asked_for = asked; file = file; stands = stands; fault = fault; refused = is; printed = printed });
+  sink = λ h. absurd (omega arith);
+  wires = λ h. absurd (omega arith);
+  memory = λ h. absurd (omega arith);
+  idle = record { unfetched = λ h. absurd (omega arith); keyless = λ h. alone };
+  complete = λ good fine well. inl has;
+}
+
+-- ---- status 7
+
+means_forgot : (command : LineCommand) (g : Given) (before now : Outside) (status : ℕ) (held : Option (List ℕ)) (sunk : ℕ)
+    → status ≡ 7 → RunsOut command g now.files (traffic_of before) (with_sink (traffic_of now) held sunk) → Grew held now.held memory_line
+    → LineMeans command g before now status
+means_forgot command g before now status held sunk is out printed = record {
+  known = inr (inr (inr (inr (inr is))));
+  served = λ h. absurd (omega arith);
+  fetch = λ h. absurd (omega arith);
+  keys = λ h. absurd (omega arith);
+  sink = λ h. absurd (omega arith);
+  wires = λ h. absurd (omega arith);
+  memory = λ h. record { held = held; sunk = sunk; out = out; last = printed };
+  idle = record { unfetched = λ h. absurd (omega arith); keyless = λ h. absurd (omega arith) };
+  complete = λ good fine well. inr is;
+}
+
+-- ---- status 5
+
+pub means_line_sunk : (command : LineCommand) (g : Given) (before now : Outside) → LineBroke command g before now → LineMeans command g before now 5
+means_line_sunk command g before now failed = record {
+  known = inr (inr (inr (inl refl)));
+  served = λ h. absurd (omega arith);
+  fetch = λ h. absurd (omega arith);
+  keys = λ h. absurd (omega arith);
+  sink = λ h. failed;
+  wires = λ h. absurd (omega arith);
+  memory = λ h. absurd (omega arith);
+  idle = record { unfetched = λ h. absurd (omega arith); keyless = λ h. absurd (omega arith) };
+  complete = λ good fine well. absurd (fine failed.rose);
+}
+
+-- ---- by how it ended
+
+means_fault : (command : LineCommand) (g : Given) (before now : Outside) (status : ℕ) (file : List ℕ) (fault : KeyFileFault)
+    → HasFile now.files (key_file_of command) file → keys_of file ≡ Err fault → HasLineStatus command before now status
+    → status ≡ (keys_answer fault).status → IsLeftAlone (AsksClock command) (traffic_of before) (traffic_of now) → Grew before.held now.held (keys_answer fault).text
+    → LineMeans command g before now status
+means_fault command g before now status file keys.Document stands is has stated alone printed =
+    means_refused command g before now status file keys.Document stands is has stated alone printed
+means_fault command g before now status file (keys.Field k x) stands is has stated alone printed =
+    means_refused command g before now status file (keys.Field k x) stands is has stated alone printed
+means_fault command g before now status file (keys.Hex k) stands is has stated alone printed =
+    means_refused command g before now status file (keys.Hex k) stands is has stated alone printed
+means_fault command g before now status file (keys.Number k) stands is has stated alone printed =
+    means_refused command g before now status file (keys.Number k) stands is has stated alone printed
+means_fault command g before now status file (keys.Range k) stands is has stated alone printed =
+    means_refused command g before now status file (keys.Range k) stands is has stated alone printed
+means_fault command g before now status file (keys.Twice j k) stands is has stated alone printed =
+    means_refused command g before now status file (keys.Twice j k) stands is has stated alone printed
+means_fault command g before now status file (keys.Version n) stands is has stated alone printed =
+    means_refused command g before now status file (keys.Version n) stands is has stated alone printed
+means_fault command g before now status file (keys.NoMemory want) stands is has stated alone printed =
+    means_forgot command g before now status before.held before.sunk stated
+    (BeforeLoop (grew_nothing before.held)
+    (record { calls = alone.calls; failed = alone.failed; turns_failed = alone.turns_failed; listening = alone.listening; clock = alone.clock }))
+    printed
+
+means_file : (command : LineCommand) (g : Given) (before now : Outside) (status : ℕ) (file : List ℕ) (read : Result (List Entry) KeyFileFault)
+    → HasFile now.files (key_file_of command) file → keys_of file ≡ read → FileEnded command read g (traffic_of before) (traffic_of now) status
+    → LineMeans command g before now status
+means_file command g before now status file (Err fault) stands is ended =
+    means_fault command g before now status file fault stands is
+    (record { file = file; stands = stands; is = rw is ended.0 }) ended.0 ended.2 ended.1
+means_file command g before now status file (Ok entries) stands is (HasLooped zero_is looped) =
+    means_looped command g before now status file entries stands is zero_is looped
+means_file command g before now status file (Ok entries) stands is (WiresFailed six rose fails) =
+    means_wires command g before now status file entries stands is six rose fails
+means_file command g before now status file (Ok entries) stands is (KeyLacks four alone lacks) =
+    means_lacking command g before now status file entries stands is four alone lacks
+
+pub means_line_ended : (command : LineCommand) (g : Given) (before now : Outside) (status : ℕ) → LineEnded command g before now status → LineMeans command g before now status
+means_line_ended command g before now status (WasRead file stands ended) =
+    means_file command g before now status file (keys_of file) stands refl ended
+means_line_ended command g before now status (NotFetched is rose printed alone) = record {
+  known = inr (inl is);
+  served = λ h. absurd (omega arith);
+  fetch = λ h. record { rose = rose; printed = printed };
+  keys = λ h. absurd (omega arith);
+  sink = λ h. absurd (omega arith);
+  wires = λ h. absurd (omega arith);
+  memory = λ h. absurd (omega arith);
+  idle = record { unfetched = λ h. alone; keyless = λ h. absurd (omega arith) };
+  complete = λ good fine well. absurd (good rose);
+}
+
+-- ---- memory ran out
+
+pub means_line_spent : (command : LineCommand) (g : Given) (before now : Outside) (held : Option (List ℕ)) (sunk : ℕ) (s : Status)
+    → before.sunk ≤ sunk → RunsOut command g now.files (traffic_of before) (with_sink (traffic_of now) held sunk) → Exhausts held now.held sunk now.sunk s
+    → LineMeans command g before now s.0
+means_line_spent command g before now held sunk s later out (inl told) =
+    means_forgot command g before now s.0 held sunk told.0 out told.1
+means_line_spent command g before now held sunk s later out (inr failed) =
+    subst (λ (n : ℕ). LineMeans command g before now n) (sym failed.0)
+    (means_line_sunk command g before now (record {
+      rose = omega (arith, later, failed.2);
+      beginning = Spent (record { held = held; sunk = sunk; out = out; last = failed.1 });
+    }))
+
+-- ---- all of it
+
+pub line_run : (command : LineCommand) (g : Given) (before now : Outside) (status : ℕ) → LineMeans command g before now status
+    → (status ≢ 5 → status ≢ 7 → Grew before.asked now.asked (key_file_of command ∷ [])) → GrewPart before.asked now.asked (key_file_of command ∷ [])
+    → IsSteady before now → IsLineRun command g before now status
+line_run command g before now status m asked part steady = record {
+  known = m.known;
+  served = m.served;
+  unfetched = λ is. record { asked_for = asked (λ h. omega (arith)) (λ h. omega (arith)); rose = (m.fetch is).rose; printed = (m.fetch is).printed };
+  keyless = λ is. m.keys is (asked (λ h. omega (arith)) (λ h. omega (arith)));
+  sunk = m.sink;
+  wires = m.wires;
+  memory = m.memory;
+  idle = m.idle;
+  part = part;
+  asked = asked;
+  complete = m.complete;
+  steady = steady;
+}
+
+-- memory ran out, and the last line was written, or a beginning of it
+pub spent_run : (command : LineCommand) (g : Given) (before now : Outside) (held : Option (List ℕ)) (sunk : ℕ) (s : Status)
+    → before.sunk ≤ sunk → sunk ≤ now.sunk
+    → RunsOut command g now.files (traffic_of before) (with_sink (traffic_of now) held sunk) → Exhausts held now.held sunk now.sunk s
+    → GrewPart before.asked now.asked (key_file_of command ∷ []) → Kept before.files now.files → before.unfetched ≤ now.unfetched
+    → IsLineRun command g before now s.0
+spent_run command g before now held sunk s later more out told part kept count =
+    line_run command g before now s.0 (means_line_spent command g before now held sunk s later out told)
+    (λ five seven. elim told [ inl whole ↦ absurd (seven whole.0) | inr cut ↦ absurd (five cut.0) ])
+    part (record { files = kept; unfetched = count; sunk = omega (arith, later, more) })

@@ -1,0 +1,9 @@
+pub mod Outsides
+pub mod OutsideViews
+pub mod LineCommands
+pub mod LineCommandViews
+pub mod LineRuns
+pub mod LineStatuses
+pub mod LineWriting
+pub mod Moments
+pub mod Recordings

@@ -1,0 +1,108 @@
+-- The program's outside, as its clauses see it: a cabinet of files, a sink, wires and a clock (this profile).
+use Rattle.std.specs.Prelude.{◌≡◌, ◌≤◌, ◌⊎◌, ℕ, Bool, List, [], ◌∷◌, Option}
+use Rattle.link_trait.specs.declared.cabinet.Cabinet as cabinet
+use Rattle.link_trait.specs.declared.sink.Sink as sink
+use Rattle.link_trait.specs.declared.wires.Wires as wires
+use Rattle.link_trait.specs.declared.clock.Clock as clock
+use Rattle.link_trait.specs.Outside.{Grew, Kept}
+use Rattle.link_trait.specs.Wires.{Call as WiresCall}
+use Rattle.readiness_loop.specs.Claims as loop
+
+pub record Outside : Type 0 where
+  -- the cabinet: its files, name and octets, the names that it was asked for, and how often a fetch failed
+  pub files : Option (List (List ℕ × List ℕ))
+  pub asked : Option (List (List ℕ))
+  pub unfetched : ℕ
+  -- the sink: the octets that it holds, and how often a write failed
+  pub held : Option (List ℕ)
+  pub sunk : ℕ
+  -- the wires: the calls made on them, how often one failed, how often a listen, dial or turn did, and whether they listen
+  pub calls : Option (List WiresCall)
+  pub failed : ℕ
+  pub turns_failed : ℕ
+  pub listening : Bool
+  -- the clock: its answers
+  pub clock : Option (List ℕ)
+
+-- what these objects tell
+abbrev pub outside_of : {F K W C : Type 0} → cabinet.Ghosts F → sink.Ghosts K → wires.Ghosts W → clock.Ghosts C → F → K → W → C → Outside
+outside_of f k w c files octets connections moments = record {
+  files = (f.state files).files;
+  asked = (f.state files).asked;
+  unfetched = (f.state files).faults;
+  held = (k.state octets).held;
+  sunk = (k.state octets).faults;
+  calls = (w.state connections).calls;
+  failed = (w.state connections).faults;
+  turns_failed = (w.state connections).turn_faults;
+  listening = (w.state connections).listening;
+  clock = (c.state moments).answers;
+}
+
+-- all of it but the cabinet
+pub record Traffic : Type 0 where
+  pub held : Option (List ℕ)
+  pub sunk : ℕ
+  pub calls : Option (List WiresCall)
+  pub failed : ℕ
+  pub turns_failed : ℕ
+  pub listening : Bool
+  pub clock : Option (List ℕ)
+
+abbrev pub traffic_of : Outside → Traffic
+traffic_of o = record {
+  held = o.held;
+  sunk = o.sunk;
+  calls = o.calls;
+  failed = o.failed;
+  turns_failed = o.turns_failed;
+  listening = o.listening;
+  clock = o.clock;
+}
+
+-- the part of it of which the readiness loop's claims speak
+abbrev pub of_loop : Traffic → loop.Outside
+of_loop o = record {
+  seen = record { held = o.held; sunk = o.sunk; calls = o.calls; failed = o.failed };
+  listening = o.listening;
+  clock = o.clock;
+}
+
+-- an outside with this cabinet and sink, and the rest as it was
+abbrev pub beside : {F K : Type 0} → Traffic → cabinet.Ghosts F → sink.Ghosts K → F → K → Outside
+beside rest f k files octets = record {
+  files = (f.state files).files;
+  asked = (f.state files).asked;
+  unfetched = (f.state files).faults;
+  held = (k.state octets).held;
+  sunk = (k.state octets).faults;
+  calls = rest.calls;
+  failed = rest.failed;
+  turns_failed = rest.turns_failed;
+  listening = rest.listening;
+  clock = rest.clock;
+}
+
+-- ---- what a run leaves alone
+
+-- the clock wasn't asked
+abbrev pub IsUnasked : (before now : Option (List ℕ)) → Type 0
+IsUnasked before now = now ≡ before
+
+-- it was asked once at most
+abbrev pub IsAskedOnceAtMost : (before now : Option (List ℕ)) → Type 0
+IsAskedOnceAtMost before now = (now ≡ before) ⊎ ((moment : ℕ) × Grew before now (moment ∷ []))
+
+-- no call was made on the wires, and of the clock no more was asked than this
+pub record IsLeftAlone (IsAsked : (before now : Option (List ℕ)) → Type 0) (before now : Traffic) : Type 0 where
+  pub calls : now.calls ≡ before.calls
+  pub failed : now.failed ≡ before.failed
+  pub turns_failed : now.turns_failed ≡ before.turns_failed
+  pub listening : now.listening ≡ before.listening
+  pub clock : IsAsked before.clock now.clock
+
+-- the cabinet's files stay, and the counts of failed fetches and writes don't fall
+pub record IsSteady (before now : Outside) : Type 0 where
+  pub files : Kept before.files now.files
+  pub unfetched : before.unfetched ≤ now.unfetched
+  pub sunk : before.sunk ≤ now.sunk

@@ -1,0 +1,5 @@
+pub mod LastLines
+pub mod KeyLines
+pub mod Answers
+pub mod Writing
+pub mod Fetching

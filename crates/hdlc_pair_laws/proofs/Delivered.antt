@@ -1,0 +1,312 @@
+-- A loss-free line over a list of steps: the laws of delivery.
+use Rattle.std.proofs.Common.{if◌then◌else◌, ◌≡◌, ℕ, zero, suc, ◌+◌, ◌-◌, ◌*◌, ◌<◌, ◌≤◌, ◌⊎◌, inl, inr, max, Bool, true, false, not, ◌&&◌, ◌||◌, List, [], ◌∷◌, length, take, Option, Some, None, refl, sym, ◌∙◌, ap, subst, arith, lt-ltb, true≢false, take_all}
+use Rattle.std.specs.Prelude.{nat_lt, ◌==◌}
+use Rattle.std.proofs.lemmas.Bool.{cond_both}
+use Rattle.er_base.specs.declared.side.Side.{Side}
+use Rattle.er_base.specs.declared.side.Side.TheVariants.{E, R}
+use Rattle.hdlc_frames.specs.Framing.{Verdict}
+use Rattle.hdlc_station_model.specs.declared.phase.Phase.{Phase}
+use Rattle.hdlc_station_model.specs.declared.phase.Phase.TheVariants.{Up}
+use Rattle.hdlc_station_model.specs.Frames.{Frame, SetUp, Ua}
+use Rattle.hdlc_station_model.specs.Stations.{Station, is_up, is_down}
+use Rattle.hdlc_station_model.specs.Sending.{can_send}
+use Rattle.hdlc_station_model.specs.Calls.{finishes}
+use Rattle.hdlc_station_model.specs.Selective.{receives_as}
+use Rattle.hdlc_station_model.specs.Events.{news, quits, is_late}
+use Rattle.hdlc_station_model.specs.Lines.{altered, next_of}
+use Rattle.hdlc_pair_laws.specs.Links.{Came, Link, station_of, line_of, with_line, did, hears_each, opened}
+use Rattle.hdlc_pair_laws.specs.Steps.{LinkStep, Send, Pass, Lose, Repeat, Alter, Put, UserRelease, Drain, Tick, refusal_at, send_unless, pass, lose, repeat, alter, release, tick_at, tick, is_overfull, Draining, pass_next, drained, step, happens, run}
+use Rattle.hdlc_pair_laws.specs.Laws.{Opening, after, IsEmpty, bound, Delivery, DeliveryBound}
+use Rattle.hdlc_pair_laws.specs.Invariant.{Pair, infos, numbers}
+use Rattle.hdlc_pair_laws.specs.Flowing.{Rests, Shape}
+use Rattle.hdlc_pair_laws.proofs.Ways.{way_bounds}
+use Rattle.hdlc_pair_laws.proofs.Lines.{none_on_line}
+use Rattle.hdlc_pair_laws.proofs.Opened.{span_of, opened_stands}
+use Rattle.hdlc_pair_laws.proofs.Runs.{Frames, refused_long}
+use Rattle.hdlc_pair_laws.proofs.Delivers.{Flows, Passed, e_sends, r_sends, e_ticks, r_ticks, e_pass, r_pass}
+
+-- the parts of a link that the shape doesn't speak of
+same_flows : (l : Link) (came : List Came) → Flows l → Flows (record l { came = came })
+same_flows l came g = record { k = g.k; fe = g.fe; fr = g.fr; stands = g.stands; n = g.n; passes = g.passes; shape = g.shape }
+
+-- ---- a pass
+
+e_line : Frames → (l : Link) (line : List (List ℕ)) → l.from_e ≡ line → Flows l → Flows (pass E line l)
+e_line laws l [] e g = same_flows l _ g
+e_line laws l (octets ∷ rest) e g = (e_pass laws l g octets rest e).flows
+
+r_line : Frames → (l : Link) (line : List (List ℕ)) → l.from_r ≡ line → Flows l → Flows (pass R line l)
+r_line laws l [] e g = same_flows l _ g
+r_line laws l (octets ∷ rest) e g = (r_pass laws l g octets rest e).flows
+
+pass_flows : Frames → (side : Side) (l : Link) → Flows l → Flows (pass side (line_of l side) l)
+pass_flows laws E l g = e_line laws l l.from_e refl g
+pass_flows laws R l g = r_line laws l l.from_r refl g
+
+-- ---- a drain
+
+-- behind a drain that began at l with n deliveries: nothing waits, or too many frames, or each pass was a delivery
+pub record Emptied (l : Link) (n most : ℕ) (d : Draining) : Type 0 where
+  pub flows : Flows d.link
+  pub handed_e : d.link.e.handed ≡ l.e.handed
+  pub handed_r : d.link.r.handed ≡ l.r.handed
+  pub ends : IsEmpty d.link ⊎ (is_overfull d.link ≡ true) ⊎ (flows.n ≡ n + most)
+
+pub none_next : (most : ℕ) (d : Draining) → next_of d.link.from_e d.link.from_r ≡ None → drained most d ≡ d
+none_next zero d h = refl
+none_next (suc most) d h = ap (λ (o : Option Side). drained most (pass_next o (is_overfull d.link) d)) h ∙ none_next most d h
+
+full_stays : (side : Option Side) (d : Draining) → pass_next side true d ≡ d
+full_stays None d = refl
+full_stays (Some side) d = refl
+
+pub full_next : (most : ℕ) (d : Draining) → is_overfull d.link ≡ true → drained most d ≡ d
+full_next zero d h = refl
+full_next (suc most) d h =
+    ap (drained most) (ap (λ (b : Bool). pass_next (next_of d.link.from_e d.link.from_r) b d) h ∙ full_stays (next_of d.link.from_e d.link.from_r) d) ∙ full_next most d h
+
+-- which end is next, as the lines are
+pub next_is : (from_e from_r : List (List ℕ)) → next_of from_e from_r ≡ None → (from_e ≡ []) × (from_r ≡ [])
+next_is (f ∷ fs) from_r h = absurd cc
+next_is [] (f ∷ fs) h = absurd cc
+next_is [] [] h = (refl, refl)
+
+-- the pass of the end that is next is a delivery
+e_delivers : Frames → (l : Link) (line : List (List ℕ)) (from_r : List (List ℕ)) → l.from_e ≡ line → next_of line from_r ≡ Some E → (g : Flows l) → Passed l g.n (pass E line l)
+e_delivers laws l (f ∷ fs) from_r e h g = e_pass laws l g f fs e
+e_delivers laws l [] (f ∷ fs) e h g = absurd cc
+e_delivers laws l [] [] e h g = absurd cc
+
+r_delivers : Frames → (l : Link) (from_e line : List (List ℕ)) → l.from_r ≡ line → next_of from_e line ≡ Some R → (g : Flows l) → Passed l g.n (pass R line l)
+r_delivers laws l (f ∷ fs) line e h g = absurd cc
+r_delivers laws l [] (f ∷ fs) e h g = r_pass laws l g f fs e
+r_delivers laws l [] [] e h g = absurd cc
+
+pub delivers : Frames → (side : Side) (l : Link) → next_of l.from_e l.from_r ≡ Some side → (g : Flows l) → Passed l g.n (pass side (line_of l side) l)
+delivers laws E l h g = e_delivers laws l l.from_e l.from_r refl h g
+delivers laws R l h g = r_delivers laws l l.from_e l.from_r refl h g
+
+more_passes : (l l' : Link) (n most : ℕ) (d : Draining) → l'.e.handed ≡ l.e.handed → l'.r.handed ≡ l.r.handed → Emptied l' (n + 1) most d → Emptied l n (suc most) d
+more_passes l l' n most d e r h =
+    record {
+      flows = h.flows;
+      handed_e = h.handed_e ∙ e;
+      handed_r = h.handed_r ∙ r;
+      ends = elim h.ends [ inl none ↦ inl none | inr (inl full) ↦ inr (inl full) | inr (inr more) ↦ inr (inr (omega arith)) ];
+    }
+
+-- one round: what the rest of the drain does is an argument
+abbrev Rest : ℕ → Type 0
+Rest most = (d : Draining) (g : Flows d.link) → Emptied d.link g.n most (drained most d)
+
+one_round : Frames → (most : ℕ) → Rest most → (d : Draining) (g : Flows d.link) (o : Option Side) (b : Bool)
+    → next_of d.link.from_e d.link.from_r ≡ o → is_overfull d.link ≡ b → Emptied d.link g.n (suc most) (drained most (pass_next o b d))
+one_round laws most rest d g None b next full =
+    subst (λ (t : Draining). Emptied d.link g.n (suc most) t) (sym (none_next most d next))
+    (record { flows = g; handed_e = refl; handed_r = refl; ends = inl (next_is d.link.from_e d.link.from_r next) })
+one_round laws most rest d g (Some side) true next full =
+    subst (λ (t : Draining). Emptied d.link g.n (suc most) t) (sym (full_next most d full))
+    (record { flows = g; handed_e = refl; handed_r = refl; ends = inr (inl full) })
+one_round laws most rest d g (Some side) false next full =
+    let p = delivers laws side d.link next g in
+    let r = rest (pass_next (Some side) false d) p.flows in
+    let l' : Link = pass side (line_of d.link side) d.link in
+    more_passes d.link l' g.n most (drained most (pass_next (Some side) false d)) p.handed_e p.handed_r
+    (subst (λ (n : ℕ). Emptied l' n most (drained most (pass_next (Some side) false d))) p.count r)
+
+pub drained_empties : Frames → (most : ℕ) (d : Draining) (g : Flows d.link) → Emptied d.link g.n most (drained most d)
+drained_empties laws zero d g = record { flows = g; handed_e = refl; handed_r = refl; ends = inr (inr (omega arith)) }
+drained_empties laws (suc most) d g = one_round laws most (drained_empties laws most) d g (next_of d.link.from_e d.link.from_r) (is_overfull d.link) refl refl
+
+-- ---- a line is loss-free before a step where it is so behind it
+
+heard_free : (side : Side) (vs : List Verdict) (l : Link) → (hears_each side vs l).loss_free ≡ l.loss_free
+heard_free side [] l = refl
+heard_free E (v ∷ vs) l = heard_free E vs (did E (finishes (receives_as l.selective l.moment v l.e)) l)
+heard_free R (v ∷ vs) l = heard_free R vs (did R (finishes (receives_as l.selective l.moment v l.r)) l)
+
+pub passed_free : (side : Side) (line : List (List ℕ)) (l : Link) → (pass side line l).loss_free ≡ l.loss_free
+passed_free E [] l = refl
+passed_free R [] l = refl
+passed_free E (octets ∷ rest) l = heard_free R (news l.read_r octets) _
+passed_free R (octets ∷ rest) l = heard_free E (news l.read_e octets) _
+
+next_free : (side : Option Side) (overfull : Bool) (d : Draining) → (pass_next side overfull d).link.loss_free ≡ d.link.loss_free
+next_free None overfull d = refl
+next_free (Some side) true d = refl
+next_free (Some side) false d = passed_free side (line_of d.link side) d.link
+
+pub drained_free : (most : ℕ) (d : Draining) → (drained most d).link.loss_free ≡ d.link.loss_free
+drained_free zero d = refl
+drained_free (suc most) d =
+    drained_free most (pass_next (next_of d.link.from_e d.link.from_r) (is_overfull d.link) d) ∙ next_free (next_of d.link.from_e d.link.from_r) (is_overfull d.link) d
+
+pub sent_free : (side : Side) (p : List ℕ) (l : Link) (o : Option Came) → (send_unless o side p l).loss_free ≡ l.loss_free
+sent_free E p l None = refl
+sent_free R p l None = refl
+sent_free E p l (Some refused) = refl
+sent_free R p l (Some refused) = refl
+
+-- ---- the steps
+
+abbrev pub Clean : Link → Type 0
+Clean l = l.loss_free ≡ true → Flows l
+
+sent_flows : (side : Side) (l : Link) (p : List ℕ) (o : Option Came) → (o ≡ None → length p ≤ 1026) → Flows l → Flows (send_unless o side p l)
+sent_flows side l p (Some refused) short g = same_flows l _ g
+sent_flows E l p None short g = e_sends l p (short refl) g
+sent_flows R l p None short g = r_sends l p (short refl) g
+
+lost_clean : (side : Side) (line : List (List ℕ)) (l : Link) → Clean l → Clean (lose side line l)
+lost_clean side [] l h = λ e. same_flows l _ (h e)
+lost_clean E (octets ∷ rest) l h = λ e. absurd cc
+lost_clean R (octets ∷ rest) l h = λ e. absurd cc
+
+repeated_clean : (side : Side) (line : List (List ℕ)) (l : Link) → Clean l → Clean (repeat side line l)
+repeated_clean side [] l h = λ e. same_flows l _ (h e)
+repeated_clean E (octets ∷ rest) l h = λ e. absurd cc
+repeated_clean R (octets ∷ rest) l h = λ e. absurd cc
+
+changed_clean : (side : Side) (frames : List (List ℕ)) (l : Link) → Clean (with_line side frames (record l { order_kept = false; loss_free = false }))
+changed_clean E frames l = λ e. absurd cc
+changed_clean R frames l = λ e. absurd cc
+
+altered_clean : (side : Side) (place mask : ℕ) (line : List (List ℕ)) (l : Link) → Clean l → Clean (alter side place mask line l)
+altered_clean side place mask [] l h = λ e. same_flows l _ (h e)
+altered_clean side place mask (octets ∷ rest) l h =
+    cond_both (nat_lt place (length octets))
+    (if mask == 0 then l else with_line side (altered octets place mask ∷ rest) (record l { order_kept = false; loss_free = false })) _ Clean
+    (λ in_frame. cond_both (mask == 0) l (with_line side (altered octets place mask ∷ rest) (record l { order_kept = false; loss_free = false })) Clean
+    (λ none. h) (λ some. changed_clean side (altered octets place mask ∷ rest) l))
+    (λ short e. same_flows l _ (h e))
+
+released_clean : (side : Side) (sub : ℕ) (l : Link) → Clean (release side sub l)
+released_clean E sub l =
+    cond_both (is_down l.e.phase) (record l { loss_free = false }) (did E (quits sub l.e) (record l { loss_free = false })) Clean (λ d e. absurd cc) (λ d e. absurd cc)
+released_clean R sub l =
+    cond_both (is_down l.r.phase) (record l { loss_free = false }) (did R (quits sub l.r) (record l { loss_free = false })) Clean (λ d e. absurd cc) (λ d e. absurd cc)
+
+pub both_false : (a b c : Bool) → (a && not (b || c)) ≡ true → (a ≡ true) × (b ≡ false) × (c ≡ false)
+both_false true false false h = (refl, refl, refl)
+both_false true false true h = absurd cc
+both_false true true c h = absurd cc
+both_false false b c h = absurd cc
+
+ticked_clean : (now : ℕ) (l : Link) → Clean l → Clean (tick now l)
+ticked_clean now l h e =
+    let f = both_false l.loss_free (is_late now l.e) (is_late now l.r) e in
+    let g = h f.0 in
+    let first : Link = record l { moment = max l.moment now; loss_free = l.loss_free && not (is_late now l.e || is_late now l.r) } in
+    let g' : Flows first = record { k = g.k; fe = g.fe; fr = g.fr; stands = g.stands; n = g.n; passes = g.passes; shape = g.shape } in
+    r_ticks (tick_at E now first) now f.2 (e_ticks first now f.1 g')
+
+step_clean : Frames → (s : LinkStep) (l : Link) → Clean l → Clean (step s l)
+step_clean laws (Send side p) l h = λ e.
+    sent_flows side l p (refusal_at side (station_of l side) p (station_of l side).released) (refused_long side (station_of l side) p (station_of l side).released)
+    (h (sym (sent_free side p l (refusal_at side (station_of l side) p (station_of l side).released)) ∙ e))
+step_clean laws (Pass side) l h = λ e. pass_flows laws side l (h (sym (passed_free side (line_of l side) l) ∙ e))
+step_clean laws (Lose side) l h = lost_clean side (line_of l side) l h
+step_clean laws (Repeat side) l h = repeated_clean side (line_of l side) l h
+step_clean laws (Alter side place mask) l h = altered_clean side place mask (line_of l side) l h
+step_clean laws (Put side octets) l h = changed_clean side (octets ∷ line_of l side) l
+step_clean laws (UserRelease side sub) l h = released_clean side sub l
+step_clean laws (Drain most) l h = λ e.
+    same_flows (drained most (record { link = l; passes = 0 })).link _
+    (drained_empties laws most (record { link = l; passes = 0 }) (h (sym (drained_free most (record { link = l; passes = 0 })) ∙ e))).flows
+step_clean laws (Tick moment) l h = ticked_clean moment l h
+
+happens_clean : Frames → (s : LinkStep) (l : Link) → Clean l → Clean (happens s l)
+happens_clean laws s l h = step_clean laws s (record l { came = [] }) (λ e. same_flows l [] (h e))
+
+run_clean : Frames → (steps : List LinkStep) (l : Link) → Clean l → Clean (run l steps)
+run_clean laws [] l h = h
+run_clean laws (s ∷ rest) l h = run_clean laws rest (happens s l) (happens_clean laws s l h)
+
+pub opened_flows : (s : Opening) → Flows (opened s.selective s.extended s.window s.n2 s.t1 s.moment)
+opened_flows s =
+    record {
+      k = span_of s.selective s.extended s.window;
+      fe = SetUp ∷ [];
+      fr = [];
+      stands = opened_stands s;
+      n = 0;
+      passes = omega arith;
+      shape = inl (refl, refl, refl, refl, (refl, refl, refl, refl, refl, refl, s.some, refl), (refl, refl, refl, refl, refl, refl, s.some, refl), refl);
+    }
+
+-- before the first step there was no delivery
+pub opened_none : (s : Opening) → (opened_flows s).n ≡ 0
+unfolding opened_flows
+opened_none s = refl
+
+pub after_flows : Frames → (s : Opening) (steps : List LinkStep) → (after s steps).loss_free ≡ true → Flows (after s steps)
+after_flows laws s steps = run_clean laws steps (opened s.selective s.extended s.window s.n2 s.t1 s.moment) (λ e. opened_flows s)
+
+-- ---- the bound
+
+pub bound_at : (selective : Bool) (k n : ℕ) (lx : List Frame) (x : Station) (ly : List Frame) (y : Station) → Pair selective k lx x ly y → Shape n lx x ly y
+    → n + (length lx + length ly) ≤ 2 + 2 * (length x.handed + length y.handed)
+bound_at selective k n lx x ly y p shape =
+    let bx = way_bounds k x.handed x.acked x.sent y.taken (infos lx) (numbers ly) p.0.0 in
+    let by = way_bounds k y.handed y.acked y.sent x.taken (infos ly) (numbers lx) p.1.0 in
+    let gx = p.0.0.given in
+    let gy = p.1.0.given in
+    elim shape [
+      | inl a ↦ let ex : length lx ≡ 1 = ap length a.2 in let ey : length ly ≡ 0 = ap length a.3 in omega (arith, a.6)
+      | inr (inl a) ↦ let ex : length lx ≡ 0 = ap length a.2 in let ey : length ly ≡ 1 = ap length a.3 in omega (arith, a.6)
+      | inr (inr a) ↦ omega (arith, a.0.4)
+    ]
+
+pub bound_flows : (l : Link) (g : Flows l) → g.n + (length g.fe + length g.fr) ≤ bound l
+bound_flows l g = bound_at l.selective g.k g.n g.fe l.e g.fr l.r g.stands.pair g.shape
+
+pub delivery_bound : Frames → DeliveryBound
+delivery_bound laws s steps e = let g = after_flows laws s steps e in omega (arith, g.passes, bound_flows (after s steps) g)
+
+-- ---- an empty line
+
+-- a station that is up, has nothing unacknowledged and may begin has sent all
+pub all_sent : (x : Station) (c : Bool) → x.phase ≡ Up → x.busy ≡ false → x.sent ≡ x.acked → 1 ≤ x.window → (x.calling || nat_lt 0 (length x.taken)) ≡ true → Rests x → x.sent ≡ length x.handed
+all_sent x c up ready same some may (inr all) = all
+all_sent x c up ready same some may (inl cannot) =
+    let room : nat_lt (x.sent - x.acked) x.window ≡ true = lt-ltb (x.sent - x.acked) x.window (omega arith) in
+    let can : can_send x ≡ true =
+    ap (λ (p : Phase). is_up p && not x.busy && nat_lt (x.sent - x.acked) x.window && (x.calling || nat_lt 0 (length x.taken))) up
+    ∙ ap (λ (b : Bool). not b && nat_lt (x.sent - x.acked) x.window && (x.calling || nat_lt 0 (length x.taken))) ready
+    ∙ ap (λ (b : Bool). b && (x.calling || nat_lt 0 (length x.taken))) room ∙ may in
+    absurd (true≢false (sym can ∙ cannot))
+
+pub whole : (taken handed : List (List ℕ)) (s : ℕ) → taken ≡ take (length taken) handed → length taken ≡ s → s ≡ length handed → taken ≡ handed
+whole taken handed s prefix same all = prefix ∙ take_all (length taken) handed (omega arith)
+
+-- no frame waits
+pub emptied_at : (selective : Bool) (k n : ℕ) (x : Station) (y : Station) → Pair selective k [] x [] y → Shape n [] x [] y
+    → (x.phase ≡ Up) × (y.phase ≡ Up) × (y.taken ≡ x.handed) × (1 ≤ length x.handed → x.taken ≡ y.handed)
+emptied_at selective k n x y p (inl a) = absurd (let e : [] ≡ SetUp ∷ [] = a.2 in let u : ⊥ = cc in u)
+emptied_at selective k n x y p (inr (inl a)) = absurd (let e : [] ≡ Ua true ∷ [] = a.3 in let u : ⊥ = cc in u)
+emptied_at selective k n x y p (inr (inr a)) =
+    let t = a.0 in
+    let sent_x : x.sent ≡ x.acked = sym t.0.2 ∙ sym (t.0.3 a.2.0) in
+    let sent_y : y.sent ≡ y.acked = sym t.1.2 ∙ sym (t.1.3 a.1.0) in
+    let all_x : x.sent ≡ length x.handed = all_sent x true t.0.0 t.0.1 sent_x t.0.5 (ap (λ (c : Bool). c || nat_lt 0 (length x.taken)) t.0.4) a.1.1 in
+    let took_x : y.taken ≡ x.handed = whole y.taken x.handed x.sent p.0.0.prefix t.0.2 all_x in (
+      t.0.0,
+      t.1.0,
+      took_x,
+      λ some.
+          let took : 0 < length y.taken = omega (arith, t.0.2) in
+          let may : (y.calling || nat_lt 0 (length y.taken)) ≡ true =
+          ap (λ (c : Bool). c || nat_lt 0 (length y.taken)) t.1.4 ∙ lt-ltb 0 (length y.taken) took in
+          let all_y : y.sent ≡ length y.handed = all_sent y false t.1.0 t.1.1 sent_y t.1.5 may a.2.1 in
+          whole x.taken y.handed y.sent p.1.0.prefix t.1.2 all_y,
+    )
+
+pub delivery : Frames → Delivery
+delivery laws s steps free empty =
+    let l : Link = after s steps in
+    let g = after_flows laws s steps free in
+    let ne : g.fe ≡ [] = none_on_line l.e g.fe (sym empty.0 ∙ g.stands.lined_x) in
+    let nr : g.fr ≡ [] = none_on_line l.r g.fr (sym empty.1 ∙ g.stands.lined_y) in
+    emptied_at l.selective g.k g.n l.e l.r
+    (subst (λ (t : List Frame). Pair l.selective g.k t l.e [] l.r) ne (subst (λ (t : List Frame). Pair l.selective g.k g.fe l.e t l.r) nr g.stands.pair))
+    (subst (λ (t : List Frame). Shape g.n t l.e [] l.r) ne (subst (λ (t : List Frame). Shape g.n g.fe l.e t l.r) nr g.shape))

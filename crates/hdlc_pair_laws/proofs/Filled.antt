@@ -1,0 +1,301 @@
+-- The law of gaps: a line that lost nothing loses one frame before others. REJ or SREJ asks for it, and once no frame waits, all was taken.
+use Rattle.std.proofs.Common.{◌≡◌, ℕ, ◌+◌, ◌<◌, ◌≤◌, inl, inr, Bool, true, false, List, [], ◌∷◌, ◌++◌, length, refl, sym, ◌∙◌, ap, subst, arith, length-append, true≢false}
+use Rattle.er_base.specs.declared.side.Side.{Side}
+use Rattle.er_base.specs.declared.side.Side.TheVariants.{E, R}
+use Rattle.hdlc_frames.specs.Laws.{ControlReadsBack}
+use Rattle.hdlc_station_model.specs.Frames.{Frame, Info, Rr, Rej, Srej, SetUp, Disc, Dm, Ua}
+use Rattle.hdlc_station_model.specs.Stations.{Station}
+use Rattle.hdlc_pair_laws.specs.Links.{Link, line_of, opened}
+use Rattle.hdlc_pair_laws.specs.Steps.{Lose, lose, happens, run}
+use Rattle.hdlc_pair_laws.specs.Laws.{after, IsEmpty}
+use Rattle.hdlc_pair_laws.specs.Invariant.{infos, numbers}
+use Rattle.hdlc_pair_laws.specs.Flowing.{Consecutive, Ends, AllData, Still, Shape}
+use Rattle.hdlc_pair_laws.specs.Filling.{TwoWait, GapsAreFilled}
+use Rattle.hdlc_pair_laws.specs.Recovery.{IsRecovered}
+use Rattle.hdlc_pair_laws.specs.Mending.{Own, AllExchange, Comes, Mends, leads}
+use Rattle.hdlc_pair_laws.proofs.Lines.{turned, first_of_line, lost, none_on_line}
+use Rattle.hdlc_pair_laws.proofs.Runs.{Frames}
+use Rattle.hdlc_pair_laws.proofs.Flows.{still_swap}
+use Rattle.hdlc_pair_laws.proofs.Mending.{mends_swap}
+use Rattle.hdlc_pair_laws.proofs.Sounds.{Claim, Sounds, own_gone, same, ToR, ToE, passes_keep}
+use Rattle.hdlc_pair_laws.proofs.SoundRuns.{run_append}
+use Rattle.hdlc_pair_laws.proofs.Ticks.{leads_all, comes_all}
+use Rattle.hdlc_pair_laws.proofs.Recovered.{mended}
+use Rattle.hdlc_pair_laws.proofs.Filling.{HasRej, Gap, Filled, consecutive_lacks}
+use Rattle.hdlc_pair_laws.proofs.FillCalls.{sender_step, receiver_step}
+use Rattle.hdlc_pair_laws.proofs.Asking.{HasSrej, HeldGap, HeldFilled}
+use Rattle.hdlc_pair_laws.proofs.AskCalls.{held_sender_step, held_receiver_step}
+use Rattle.hdlc_pair_laws.proofs.Calm.{Calm, IsCalm, after_calm}
+
+-- ---- the frame is lost
+
+consecutive_le : (low high : ℕ) (fs : List (ℕ × List ℕ)) → Consecutive low fs high → low ≤ high
+consecutive_le low high [] h = omega (arith, h)
+consecutive_le low high (f ∷ fs) h = let g = consecutive_le (low + 1) high fs h.1 in omega (arith, g)
+
+all_come : (next sent : ℕ) (held fs : List (ℕ × List ℕ)) → Consecutive next fs sent → Comes true next held fs sent
+all_come next sent held fs h = let g = consecutive_le next sent fs h in comes_all true next next sent held fs (omega arith) g h
+
+in_order : (low high : ℕ) (fs : List (ℕ × List ℕ)) → Consecutive low fs high → leads low fs ≡ high
+in_order low high fs h = let g = consecutive_le low high fs h in leads_all low low high fs (omega arith) g h
+
+data_exchange : (l : List Frame) → AllData l → AllExchange l
+data_exchange [] h = tt
+data_exchange (Info ns nr p ∷ fs) h = (tt, data_exchange fs h.1)
+data_exchange (Rr nr ∷ fs) h = (tt, data_exchange fs h.1)
+data_exchange (Rej nr ∷ fs) h = absurd h.0
+data_exchange (Srej nr ∷ fs) h = absurd h.0
+data_exchange (SetUp ∷ fs) h = absurd h.0
+data_exchange (Disc ∷ fs) h = absurd h.0
+data_exchange (Dm ∷ fs) h = absurd h.0
+data_exchange (Ua final ∷ fs) h = absurd h.0
+
+-- where an I frame waits, the last N(R) doesn't hang on what was acknowledged
+ends_any : (a b high : ℕ) (l : List Frame) → AllData l → (infos l ≡ [] → ⊥) → Ends a (numbers l) high → Ends b (numbers l) high
+ends_any a b high [] d some h = absurd (some refl)
+ends_any a b high (Info ns nr p ∷ fs) d some h = h
+ends_any a b high (Rr nr ∷ fs) d some h = h
+ends_any a b high (Rej nr ∷ fs) d some h = absurd d.0
+ends_any a b high (Srej nr ∷ fs) d some h = absurd d.0
+ends_any a b high (SetUp ∷ fs) d some h = absurd d.0
+ends_any a b high (Disc ∷ fs) d some h = absurd d.0
+ends_any a b high (Dm ∷ fs) d some h = absurd d.0
+ends_any a b high (Ua final ∷ fs) d some h = absurd d.0
+
+some_wait : (low high : ℕ) (fs : List (ℕ × List ℕ)) → low < high → Consecutive low fs high → fs ≡ [] → ⊥
+some_wait low high fs below h none = let e : low ≡ high = subst (λ (t : List (ℕ × List ℕ)). Consecutive low t high) none h in let u : ⊥ = omega (arith, e, below) in u
+
+lost_filled : (c : Bool) (n : ℕ) (f : Frame) (fs : List Frame) (x : Station) (ly : List Frame) (y : Station) → Still c n (f ∷ fs) x ly y → y.gap ≡ false → length y.taken + 2 ≤ x.sent
+    → Filled fs x ly y
+lost_filled c n (Info m r q) fs x ly y h gap two =
+    let v : ℕ = length y.taken in
+    let len : length (y.taken ++ q ∷ []) ≡ v + 1 = length-append y.taken (q ∷ []) in
+    let some : infos fs ≡ [] → ⊥ = some_wait (v + 1) x.sent (infos fs) (omega (arith, two)) h.0.2.1 in
+    inr (record {
+      before = y.taken ++ q ∷ [];
+      least = x.sent;
+      mends = (
+        (
+          (ap (λ (j : ℕ). leads j (infos fs)) len ∙ in_order (v + 1) x.sent (infos fs) h.0.2.1, λ owes. absurd (true≢false owes)),
+          in_order (length x.taken) y.sent (infos ly) h.1.2,
+          data_exchange fs h.2.1,
+          data_exchange ly h.3,
+          h.0.0,
+          h.1.0,
+        ),
+        λ owes none. ends_any r y.acked (length x.taken) fs h.2.1 some (h.1.3 owes),
+      );
+      out = (omega (arith, two), omega arith, consecutive_lacks v (v + 1) x.sent (infos fs) (omega arith) h.0.2.1, λ owes none. h.0.3 owes);
+      notes = inl (gap, omega (arith, len, two));
+    })
+lost_filled c n (Rr r) fs x ly y h gap two =
+    let some : infos fs ≡ [] → ⊥ = some_wait (length y.taken) x.sent (infos fs) (omega (arith, two)) h.0.2 in
+    inl (
+      (
+        (in_order (length y.taken) x.sent (infos fs) h.0.2, λ owes none. h.0.3 owes),
+        in_order (length x.taken) y.sent (infos ly) h.1.2,
+        data_exchange fs h.2.1,
+        data_exchange ly h.3,
+        h.0.0,
+        h.1.0,
+      ),
+      λ owes none. ends_any r y.acked (length x.taken) fs h.2.1 some (h.1.3 owes),
+    )
+lost_filled c n (Rej r) fs x ly y h gap two = absurd h.2.0
+lost_filled c n (Srej r) fs x ly y h gap two = absurd h.2.0
+lost_filled c n SetUp fs x ly y h gap two = absurd h.2.0
+lost_filled c n Disc fs x ly y h gap two = absurd h.2.0
+lost_filled c n Dm fs x ly y h gap two = absurd h.2.0
+lost_filled c n (Ua final) fs x ly y h gap two = absurd h.2.0
+
+lost_held : (c : Bool) (n : ℕ) (f : Frame) (fs : List Frame) (x : Station) (ly : List Frame) (y : Station) → Still c n (f ∷ fs) x ly y → y.asked ≡ [] → length y.taken + 2 ≤ x.sent
+    → HeldFilled fs x ly y
+lost_held c n (Info m r q) fs x ly y h asked two =
+    let v : ℕ = length y.taken in
+    let run : Consecutive v ((v, q) ∷ infos fs) x.sent = (refl, h.0.2.1) in
+    inr (record {
+      nr = r;
+      payload = q;
+      least = x.sent;
+      mends = (
+        (
+          (all_come v x.sent y.held ((v, q) ∷ infos fs) run, λ owes none. h.0.3 owes),
+          all_come (length x.taken) y.sent x.held (infos ly) h.1.2,
+          (tt, data_exchange fs h.2.1),
+          data_exchange ly h.3,
+          h.0.0,
+          h.1.0,
+        ),
+        λ owes none. h.1.3 owes,
+      );
+      out = (omega (arith, two), omega arith, consecutive_lacks v (v + 1) x.sent (infos fs) (omega arith) h.0.2.1, λ owes. absurd (true≢false owes));
+      asks = inl (h.1.6, asked, omega (arith, two));
+    })
+lost_held c n (Rr r) fs x ly y h asked two =
+    let some : infos fs ≡ [] → ⊥ = some_wait (length y.taken) x.sent (infos fs) (omega (arith, two)) h.0.2 in
+    inl (
+      (
+        (all_come (length y.taken) x.sent y.held (infos fs) h.0.2, λ owes none. h.0.3 owes),
+        all_come (length x.taken) y.sent x.held (infos ly) h.1.2,
+        data_exchange fs h.2.1,
+        data_exchange ly h.3,
+        h.0.0,
+        h.1.0,
+      ),
+      λ owes none. ends_any r y.acked (length x.taken) fs h.2.1 some (h.1.3 owes),
+    )
+lost_held c n (Rej r) fs x ly y h asked two = absurd h.2.0
+lost_held c n (Srej r) fs x ly y h asked two = absurd h.2.0
+lost_held c n SetUp fs x ly y h asked two = absurd h.2.0
+lost_held c n Disc fs x ly y h asked two = absurd h.2.0
+lost_held c n Dm fs x ly y h asked two = absurd h.2.0
+lost_held c n (Ua final) fs x ly y h asked two = absurd h.2.0
+
+-- of either kind
+abbrev FilledAs : (selective : Bool) → List Frame → Station → List Frame → Station → Type 0
+FilledAs true lx x ly y = HeldFilled lx x ly y
+FilledAs false lx x ly y = Filled lx x ly y
+
+lost_as : (selective c : Bool) (n : ℕ) (f : Frame) (fs : List Frame) (x : Station) (ly : List Frame) (y : Station) → Still c n (f ∷ fs) x ly y → IsCalm y → length y.taken + 2 ≤ x.sent
+    → FilledAs selective fs x ly y
+lost_as true c n f fs x ly y h calm two = lost_held c n f fs x ly y h calm.1 two
+lost_as false c n f fs x ly y h calm two = lost_filled c n f fs x ly y h calm.0 two
+
+-- both are up
+calling_still : (n : ℕ) (lx : List Frame) (x : Station) (ly : List Frame) (y : Station) → Shape n lx x ly y → 2 ≤ x.sent → Still true n lx x ly y
+calling_still n lx x ly y (inl a) two = absurd (let e = a.4.0 in let u : ⊥ = omega (arith, e, two) in u)
+calling_still n lx x ly y (inr (inl a)) two = absurd (let e = a.4.0 in let u : ⊥ = omega (arith, e, two) in u)
+calling_still n lx x ly y (inr (inr a)) two = a.0
+
+called_still : (n : ℕ) (lx : List Frame) (x : Station) (ly : List Frame) (y : Station) → Shape n lx x ly y → 2 ≤ y.sent → Still false n ly y lx x
+called_still n lx x ly y (inl a) two = absurd (let e = a.5.0 in let u : ⊥ = omega (arith, e, two) in u)
+called_still n lx x ly y (inr (inl a)) two = absurd (let e = a.5.0 in let u : ⊥ = omega (arith, e, two) in u)
+called_still n lx x ly y (inr (inr a)) two = still_swap n lx x ly y a.0
+
+-- a frame waits
+no_line : (c : Bool) (n : ℕ) (lx : List Frame) (x : Station) (ly : List Frame) (y : Station) → lx ≡ [] → Still c n lx x ly y → length y.taken + 2 ≤ x.sent → ⊥
+no_line c n lx x ly y none h two =
+    some_wait (length y.taken) x.sent (infos lx) (omega (arith, two)) h.0.2 (ap infos none)
+
+-- ---- the claim: the end E lost a frame, or the end R
+
+abbrev Fills : Side → Claim
+Fills E selective fe e fr r = FilledAs selective fe e fr r
+Fills R selective fe e fr r = FilledAs selective fr r fe e
+
+to_r : ControlReadsBack → (wd : ℕ) (side : Side) → ToR wd (Fills side)
+to_r law wd E true k now fr r f fs e wide quiet b own_r own_e rests_r rests_e h = held_receiver_step law k now fr r f fs e quiet b (wide refl ∙ sym own_r.1) own_r.5 h
+to_r law wd R true k now fr r f fs e wide quiet b own_r own_e rests_r rests_e h = held_sender_step law k now fr r f fs e quiet b (wide refl ∙ sym own_r.1) own_r.5 h
+to_r law wd E false k now fr r f fs e wide quiet b own_r own_e rests_r rests_e h = receiver_step law k now fr r f fs e quiet b own_r.5 h
+to_r law wd R false k now fr r f fs e wide quiet b own_r own_e rests_r rests_e h = sender_step law k now fr r f fs e quiet b own_r.5 h
+
+to_e : ControlReadsBack → (wd : ℕ) (side : Side) → ToE wd (Fills side)
+to_e law wd E true k now fe e f fs r wide quiet b own_e own_r rests_e rests_r h = held_sender_step law k now fe e f fs r quiet b (wide refl ∙ sym own_e.1) own_e.5 h
+to_e law wd R true k now fe e f fs r wide quiet b own_e own_r rests_e rests_r h = held_receiver_step law k now fe e f fs r quiet b (wide refl ∙ sym own_e.1) own_e.5 h
+to_e law wd E false k now fe e f fs r wide quiet b own_e own_r rests_e rests_r h = sender_step law k now fe e f fs r quiet b own_e.5 h
+to_e law wd R false k now fe e f fs r wide quiet b own_e own_r rests_e rests_r h = receiver_step law k now fe e f fs r quiet b own_e.5 h
+
+lost_fills : (wd : ℕ) (side : Side) (l : Link) → TwoWait side l → (line : List (List ℕ)) → line_of l side ≡ line → Sounds wd Calm l → Sounds wd (Fills side) (lose side line l)
+lost_fills wd E l two [] e h =
+    let q = h.claim in
+    absurd (no_line true q.0 h.fe l.e h.fr l.r (none_on_line l.e h.fe (sym e ∙ h.stands.lined_x)) (calling_still q.0 h.fe l.e h.fr l.r q.1.0 (omega (arith, two))) two)
+lost_fills wd R l two [] e h =
+    let q = h.claim in
+    absurd (no_line false q.0 h.fr l.r h.fe l.e (none_on_line l.r h.fr (sym e ∙ h.stands.lined_y)) (called_still q.0 h.fe l.e h.fr l.r q.1.0 (omega (arith, two))) two)
+lost_fills wd E l two (octets ∷ rest) e h =
+    let q = h.claim in
+    let f = first_of_line l.e octets rest h.fe (sym e ∙ h.stands.lined_x) in
+    let t = turned l.selective h.k h.fe l.e h.fr l.r l.from_e l.from_r l.read_e l.read_r h.stands in
+    record {
+      k = h.k;
+      fe = f.frames;
+      fr = h.fr;
+      stands = turned l.selective h.k h.fr l.r f.frames l.e l.from_r rest l.read_r l.read_e (lost l.selective h.k h.fr l.r h.fe l.e l.from_r l.from_e l.read_r l.read_e octets rest t f);
+      own_e = own_gone true wd f.frame f.frames l.e (subst (λ q. Own true wd q l.e) f.all h.own_e);
+      own_r = h.own_r;
+      rests_e = h.rests_e;
+      rests_r = h.rests_r;
+      first = h.first;
+      wide = h.wide;
+      begun = h.begun;
+      claim = lost_as l.selective true q.0 f.frame f.frames l.e h.fr l.r
+          (subst (λ (s : List Frame). Still true q.0 s l.e h.fr l.r) f.all (calling_still q.0 h.fe l.e h.fr l.r q.1.0 (omega (arith, two)))) q.1.2 two;
+    }
+lost_fills wd R l two (octets ∷ rest) e h =
+    let q = h.claim in
+    let f = first_of_line l.r octets rest h.fr (sym e ∙ h.stands.lined_y) in
+    record {
+      k = h.k;
+      fe = h.fe;
+      fr = f.frames;
+      stands = lost l.selective h.k h.fe l.e h.fr l.r l.from_e l.from_r l.read_e l.read_r octets rest h.stands f;
+      own_e = h.own_e;
+      own_r = own_gone false wd f.frame f.frames l.r (subst (λ q. Own false wd q l.r) f.all h.own_r);
+      rests_e = h.rests_e;
+      rests_r = h.rests_r;
+      first = h.first;
+      wide = h.wide;
+      begun = h.begun;
+      claim = lost_as l.selective false q.0 f.frame f.frames l.r h.fe l.e
+          (subst (λ (s : List Frame). Still false q.0 s l.r h.fe l.e) f.all (called_still q.0 h.fe l.e h.fr l.r q.1.0 (omega (arith, two)))) q.1.1 two;
+    }
+
+-- ---- no frame waits any more
+
+gap_waits : (lx : List Frame) (x : Station) (ly : List Frame) (y : Station) → lx ≡ [] → ly ≡ [] → Gap lx x ly y → ⊥
+gap_waits lx x ly y ex ey g = elim g.notes [
+  | inl n ↦
+      let e : length g.before ≡ x.sent = subst (λ (t : List Frame). leads (length g.before) (infos t) ≡ x.sent) ex g.mends.0.0.0 in
+      let below = n.1 in
+      let least = g.out.1 in
+      let u : ⊥ = omega (arith, e, below, least) in u
+  | inr has ↦ subst HasRej ey has
+]
+
+held_gap_waits : (lx : List Frame) (x : Station) (ly : List Frame) (y : Station) → lx ≡ [] → ly ≡ [] → HeldGap lx x ly y → ⊥
+held_gap_waits lx x ly y ex ey g = elim g.asks [
+  | inl n ↦
+      let v : ℕ = length y.taken in
+      let c : Comes true v [] ((v, g.payload) ∷ []) x.sent =
+      subst (λ (held : List (ℕ × List ℕ)). Comes true v held ((v, g.payload) ∷ []) x.sent) n.0 (subst (λ (t : List Frame). Comes true v y.held ((v, g.payload) ∷ infos t) x.sent) ex g.mends.0.0.0) in
+      let below = n.2 in
+      let least = g.out.1 in
+      elim (c (v + 1) (omega arith) (omega (arith, below, least))) [
+        | inl is ↦ absurd (true≢false (sym is))
+        | inr (inl same) ↦ (let u : ⊥ = omega (arith, same) in u)
+        | inr (inr w) ↦ absurd w
+      ]
+  | inr has ↦ subst (HasSrej (length y.taken)) ey has
+]
+
+filled_mends : (selective : Bool) (lx : List Frame) (x : Station) (ly : List Frame) (y : Station) → lx ≡ [] → ly ≡ [] → FilledAs selective lx x ly y → Mends selective lx x ly y
+filled_mends true lx x ly y ex ey (inl m) = m
+filled_mends true lx x ly y ex ey (inr g) = absurd (held_gap_waits lx x ly y ex ey g)
+filled_mends false lx x ly y ex ey (inl m) = m
+filled_mends false lx x ly y ex ey (inr g) = absurd (gap_waits lx x ly y ex ey g)
+
+side_mends : (side : Side) (selective : Bool) (fe : List Frame) (e : Station) (fr : List Frame) (r : Station) → fe ≡ [] → fr ≡ [] → Fills side selective fe e fr r → Mends selective fe e fr r
+side_mends E selective fe e fr r ee er h = filled_mends selective fe e fr r ee er h
+side_mends R selective fe e fr r ee er h = mends_swap selective fr r fe e (filled_mends selective fr r fe e er ee h)
+
+emptied : (wd : ℕ) (side : Side) (l : Link) → 1 ≤ wd → Sounds wd (Fills side) l → IsEmpty l → IsRecovered l
+emptied wd side l some g empty =
+    let ee = none_on_line l.e g.fe (sym empty.0 ∙ g.stands.lined_x) in
+    let er = none_on_line l.r g.fr (sym empty.1 ∙ g.stands.lined_y) in
+    let m = mended l.selective g.k wd g.fe l.e g.fr l.r some ee er g.stands.pair g.own_e g.own_r g.rests_e g.rests_r (inr (inr (side_mends side l.selective g.fe l.e g.fr l.r ee er g.claim))) in
+    record { e_up = m.x_up; r_up = m.y_up; at_r = m.at_y; at_e = m.at_x }
+
+pub gaps_are_filled : Frames → GapsAreFilled
+gaps_are_filled laws s steps free side two passes p end =
+    let l : Link = after s steps in
+    let o : Link = opened s.selective s.extended s.window s.n2 s.t1 s.moment in
+    let split : run o (steps ++ Lose side ∷ passes) ≡ run l (Lose side ∷ passes) = run_append steps (Lose side ∷ passes) o in
+    let h = after_calm laws s steps free in
+    let clear : Link = record l { came = [] } in
+    let g = lost_fills s.window side clear (two_same side l two) (line_of clear side) refl (same s.window Calm l h l.moment l.passes l.order_kept l.loss_free []) in
+    let r = (passes_keep s.window (Fills side) laws (to_r laws.back s.window side) (to_e laws.back s.window side) passes (happens (Lose side) l) p g).0 in
+    subst IsRecovered (sym split) (emptied s.window side (run l (Lose side ∷ passes)) s.some r (subst IsEmpty split end))
+  where
+    two_same : (side : Side) (l : Link) → TwoWait side l → TwoWait side (record l { came = [] })
+    two_same E l h = h
+    two_same R l h = h

@@ -1,0 +1,271 @@
+-- Each step of an order-keeping line keeps what holds of each station alone; while frames are given alone, no live end is released.
+use Rattle.std.proofs.Common.{if◌then◌else◌, ◌≡◌, ℕ, zero, suc, ◌≤◌, inl, max, Bool, true, false, not, ◌&&◌, ◌||◌, List, [], ◌∷◌, ◌++◌, length, Option, Some, None, refl, sym, ◌∙◌, ap, subst, true≢false}
+use Rattle.std.specs.Prelude.{nat_lt, ◌==◌}
+use Rattle.std.proofs.lemmas.Bool.{cond_both}
+use Rattle.er_base.specs.declared.side.Side.{Side}
+use Rattle.er_base.specs.declared.side.Side.TheVariants.{E, R}
+use Rattle.hdlc_station_model.specs.declared.phase.Phase.{Phase}
+use Rattle.hdlc_station_model.specs.declared.phase.Phase.TheVariants.{Idle, Setting, Up, Down}
+use Rattle.hdlc_station_model.specs.Frames.{SetUp}
+use Rattle.hdlc_station_model.specs.Stations.{Station, is_up, is_down, settled}
+use Rattle.hdlc_station_model.specs.Calls.{hands, finishes, ticks, closes_at}
+use Rattle.hdlc_station_model.specs.Events.{quits, is_late}
+use Rattle.hdlc_station_model.specs.Lines.{altered, next_of}
+use Rattle.hdlc_pair_laws.specs.Links.{Came, Link, station_of, line_of, with_line, did, opened}
+use Rattle.hdlc_pair_laws.specs.Steps.{LinkStep, Send, Pass, Lose, Repeat, Alter, Put, UserRelease, Drain, Tick, refusal_at, send_unless, lose, repeat, alter, release, tick_at, tick, is_overfull, Draining, pass_next, drained, step, happens, run}
+use Rattle.hdlc_pair_laws.specs.Laws.{Opening, after}
+use Rattle.hdlc_pair_laws.specs.Timers.{TimedAt, TimersRun}
+use Rattle.hdlc_pair_laws.specs.Recovery.{ArePasses, AreLive, PassesRelease}
+use Rattle.hdlc_pair_laws.specs.Mending.{Own, Timed}
+use Rattle.hdlc_pair_laws.proofs.Events.{finishes_keeps, hands_keeps, ticks_keeps, quits_keeps}
+use Rattle.hdlc_pair_laws.proofs.Lines.{turned, first_of_line, lost, repeated}
+use Rattle.hdlc_pair_laws.proofs.Opened.{span_of, opened_stands}
+use Rattle.hdlc_pair_laws.proofs.Runs.{Frames, refused_long, passed_kept, drained_kept, sent_kept, lost_kept, repeated_kept, released_kept}
+use Rattle.hdlc_pair_laws.proofs.Telling.{phases_stay, ticks_tell}
+use Rattle.hdlc_pair_laws.proofs.SoundCalls.{hands_leaves, ticks_leaves, quits_leaves}
+use Rattle.hdlc_pair_laws.proofs.Sounds.{Claim, Sounds, own_gone, own_twice, e_does, r_does, e_ready, r_ready, e_own, r_own, same, ToR, ToE, passed, passes_keep}
+
+-- nothing is claimed besides
+abbrev pub NoClaim : Claim
+NoClaim selective fe e fr r = Unit {0}
+
+abbrev pub Sound : (window : ℕ) → Link → Type 0
+Sound window l = Sounds window NoClaim l
+
+module _ (wd : ℕ) where
+  same_sound : (l : Link) (came : List Came) → Sound wd l → Sound wd (record l { came = came })
+  same_sound l came h = same wd NoClaim l h l.moment l.passes l.order_kept l.loss_free came
+
+  -- ---- sends
+
+  sent_sound : (side : Side) (l : Link) (p : List ℕ) (o : Option Came) → (o ≡ None → length p ≤ 1026) → Sound wd l → Sound wd (send_unless o side p l)
+  sent_sound E l p (Some refused) short h = same_sound l _ h
+  sent_sound R l p (Some refused) short h = same_sound l _ h
+  sent_sound E l p None short h =
+      e_does wd NoClaim NoClaim l h (finishes (hands l.moment p l.e))
+      (finishes_keeps l.selective h.k h.fe (hands l.moment p l.e) h.fr l.r (hands_keeps l.selective h.k h.fe l.moment l.e h.fr l.r p (short refl) (e_ready wd NoClaim l h)))
+      (hands_leaves true wd h.fe l.moment p l.e h.stands.pair.0.0.given (e_own wd NoClaim l h))
+      (λ idle. ap is_up (phases_stay.finishes (hands l.moment p l.e) ∙ phases_stay.hands l.moment p l.e) ∙ h.first idle) tt
+  sent_sound R l p None short h =
+      r_does wd NoClaim NoClaim l h (finishes (hands l.moment p l.r))
+      (finishes_keeps l.selective h.k h.fr (hands l.moment p l.r) h.fe l.e (hands_keeps l.selective h.k h.fr l.moment l.r h.fe l.e p (short refl) (r_ready wd NoClaim l h)))
+      (hands_leaves false wd h.fr l.moment p l.r h.stands.pair.1.0.given (r_own wd NoClaim l h)) tt
+
+  -- ---- a frame is passed
+
+  to_r : ToR wd NoClaim
+  to_r selective k now fr r f fs e wide quiet b or oe rr re c = tt
+
+  to_e : ToE wd NoClaim
+  to_e selective k now fe e f fs r wide quiet b oe or re rr c = tt
+
+  pub passes_sound : Frames → (passes : List LinkStep) (l : Link) → ArePasses passes → Sound wd l → Sound wd (run l passes) × (AreLive l → AreLive (run l passes))
+  passes_sound laws passes l p h = passes_keep wd NoClaim laws to_r to_e passes l p h
+
+  -- ---- a frame is lost or repeated
+
+  lost_sound : (side : Side) (l : Link) (line : List (List ℕ)) → line_of l side ≡ line → Sound wd l → Sound wd (lose side line l)
+  lost_sound side l [] e h = same_sound l _ h
+  lost_sound E l (octets ∷ rest) e h =
+      let f = first_of_line l.e octets rest h.fe (sym e ∙ h.stands.lined_x) in
+      let t = turned l.selective h.k h.fe l.e h.fr l.r l.from_e l.from_r l.read_e l.read_r h.stands in
+      record {
+        k = h.k;
+        fe = f.frames;
+        fr = h.fr;
+        stands = turned l.selective h.k h.fr l.r f.frames l.e l.from_r rest l.read_r l.read_e (lost l.selective h.k h.fr l.r h.fe l.e l.from_r l.from_e l.read_r l.read_e octets rest t f);
+        own_e = own_gone true wd f.frame f.frames l.e (subst (λ q. Own true wd q l.e) f.all h.own_e);
+        own_r = h.own_r;
+        rests_e = h.rests_e;
+        rests_r = h.rests_r;
+        first = h.first;
+        wide = h.wide;
+        begun = h.begun;
+        claim = tt;
+      }
+  lost_sound R l (octets ∷ rest) e h =
+      let f = first_of_line l.r octets rest h.fr (sym e ∙ h.stands.lined_y) in
+      record {
+        k = h.k;
+        fe = h.fe;
+        fr = f.frames;
+        stands = lost l.selective h.k h.fe l.e h.fr l.r l.from_e l.from_r l.read_e l.read_r octets rest h.stands f;
+        own_e = h.own_e;
+        own_r = own_gone false wd f.frame f.frames l.r (subst (λ q. Own false wd q l.r) f.all h.own_r);
+        rests_e = h.rests_e;
+        rests_r = h.rests_r;
+        first = h.first;
+        wide = h.wide;
+        begun = h.begun;
+        claim = tt;
+      }
+
+  repeated_sound : (side : Side) (l : Link) (line : List (List ℕ)) → line_of l side ≡ line → Sound wd l → Sound wd (repeat side line l)
+  repeated_sound side l [] e h = same_sound l _ h
+  repeated_sound E l (octets ∷ rest) e h =
+      let f = first_of_line l.e octets rest h.fe (sym e ∙ h.stands.lined_x) in
+      let t = turned l.selective h.k h.fe l.e h.fr l.r l.from_e l.from_r l.read_e l.read_r h.stands in
+      record {
+        k = h.k;
+        fe = f.frame ∷ f.frame ∷ f.frames;
+        fr = h.fr;
+        stands = turned l.selective h.k h.fr l.r (f.frame ∷ f.frame ∷ f.frames) l.e l.from_r (octets ∷ octets ∷ rest) l.read_r l.read_e
+            (repeated l.selective h.k h.fr l.r h.fe l.e l.from_r l.from_e l.read_r l.read_e octets rest t f);
+        own_e = own_twice true wd f.frame f.frames l.e (subst (λ q. Own true wd q l.e) f.all h.own_e);
+        own_r = h.own_r;
+        rests_e = h.rests_e;
+        rests_r = h.rests_r;
+        first = h.first;
+        wide = h.wide;
+        begun = h.begun;
+        claim = tt;
+      }
+  repeated_sound R l (octets ∷ rest) e h =
+      let f = first_of_line l.r octets rest h.fr (sym e ∙ h.stands.lined_y) in
+      record {
+        k = h.k;
+        fe = h.fe;
+        fr = f.frame ∷ f.frame ∷ f.frames;
+        stands = repeated l.selective h.k h.fe l.e h.fr l.r l.from_e l.from_r l.read_e l.read_r octets rest h.stands f;
+        own_e = h.own_e;
+        own_r = own_twice false wd f.frame f.frames l.r (subst (λ q. Own false wd q l.r) f.all h.own_r);
+        rests_e = h.rests_e;
+        rests_r = h.rests_r;
+        first = h.first;
+        wide = h.wide;
+        begun = h.begun;
+        claim = tt;
+      }
+
+  -- ---- a release, a tick
+
+  quits_down : (sub : ℕ) (x : Station) → is_down x.phase ≡ false → is_up (quits sub x).phase ≡ false
+  quits_down sub x live =
+      cond_both (is_down x.phase) x (record (closes_at x.phase x) { phase = Down; timer = None }) (λ t. is_up t.phase ≡ false) (λ down. absurd (true≢false (sym down ∙ live))) (λ e. refl)
+
+  released_sound : (side : Side) (sub : ℕ) (l : Link) → Sound wd l → Sound wd (release side sub l)
+  released_sound E sub l h =
+      let first : Link = record l { loss_free = false } in
+      let g : Sound wd first = same wd NoClaim l h l.moment l.passes l.order_kept false l.came in
+      cond_both (is_down l.e.phase) first (did E (quits sub l.e) first) (Sound wd) (λ down. g)
+      (λ live. e_does wd NoClaim NoClaim first g (quits sub l.e) (quits_keeps l.selective g.k g.fe l.e g.fr l.r sub (e_ready wd NoClaim first g))
+      (quits_leaves true wd g.fe sub l.e live (e_own wd NoClaim first g)) (λ idle. quits_down sub l.e live) tt)
+  released_sound R sub l h =
+      let first : Link = record l { loss_free = false } in
+      let g : Sound wd first = same wd NoClaim l h l.moment l.passes l.order_kept false l.came in
+      cond_both (is_down l.r.phase) first (did R (quits sub l.r) first) (Sound wd) (λ down. g)
+      (λ live. r_does wd NoClaim NoClaim first g (quits sub l.r) (quits_keeps l.selective g.k g.fr l.r g.fe l.e sub (r_ready wd NoClaim first g))
+      (quits_leaves false wd g.fr sub l.r live (r_own wd NoClaim first g)) tt)
+
+  ticked_sound : (now : ℕ) (l : Link) → Sound wd l → Sound wd (tick now l)
+  ticked_sound now l h =
+      let first : Link = record l { moment = max l.moment now; loss_free = l.loss_free && not (is_late now l.e || is_late now l.r) } in
+      let g : Sound wd first = same wd NoClaim l h _ l.passes l.order_kept _ l.came in
+      let e = e_does wd NoClaim NoClaim first g (finishes (ticks now l.e))
+      (finishes_keeps l.selective g.k g.fe (ticks now l.e) g.fr l.r (ticks_keeps l.selective g.k g.fe now l.e g.fr l.r (e_ready wd NoClaim first g)))
+      (ticks_leaves true wd g.fe now l.e g.stands.pair.0.0.given (e_own wd NoClaim first g))
+      (λ idle. ap is_up (phases_stay.finishes (ticks now l.e)) ∙ ticks_tell.asleep now l.e (g.first idle)) tt in
+      r_does wd NoClaim NoClaim (tick_at E now first) e (finishes (ticks now l.r))
+      (finishes_keeps l.selective e.k e.fr (ticks now l.r) e.fe (settled (finishes (ticks now l.e))) (ticks_keeps l.selective e.k e.fr now l.r e.fe (settled (finishes (ticks now l.e))) (r_ready wd NoClaim (tick_at E now first) e)))
+      (ticks_leaves false wd e.fr now l.r e.stands.pair.1.0.given (r_own wd NoClaim (tick_at E now first) e)) tt
+
+  -- ---- a drain
+
+  next_sound : Frames → (side : Option Side) (overfull : Bool) (d : Draining) → Sound wd d.link → Sound wd (pass_next side overfull d).link
+  next_sound laws None overfull d h = h
+  next_sound laws (Some side) true d h = h
+  next_sound laws (Some side) false d h = (passed wd NoClaim laws to_r to_e side d.link h).0
+
+  drained_sound : Frames → (most : ℕ) (d : Draining) → Sound wd d.link → Sound wd (drained most d).link
+  drained_sound laws zero d h = h
+  drained_sound laws (suc most) d h =
+      drained_sound laws most (pass_next (next_of d.link.from_e d.link.from_r) (is_overfull d.link) d)
+      (next_sound laws (next_of d.link.from_e d.link.from_r) (is_overfull d.link) d h)
+
+  -- ---- the steps
+
+  -- as long as no frame was altered or put in
+  abbrev Kept : Link → Type 0
+  Kept l = l.order_kept ≡ true → Sound wd l
+
+  changed_sound : (side : Side) (frames : List (List ℕ)) (l : Link) → Kept (with_line side frames (record l { order_kept = false; loss_free = false }))
+  changed_sound E frames l = λ e. absurd cc
+  changed_sound R frames l = λ e. absurd cc
+
+  altered_sound : (side : Side) (place mask : ℕ) (line : List (List ℕ)) (l : Link) → Kept l → Kept (alter side place mask line l)
+  altered_sound side place mask [] l h = λ e. same_sound l _ (h e)
+  altered_sound side place mask (octets ∷ rest) l h =
+      cond_both (nat_lt place (length octets))
+      (if mask == 0 then l else with_line side (altered octets place mask ∷ rest) (record l { order_kept = false; loss_free = false })) _ Kept
+      (λ in_frame. cond_both (mask == 0) l (with_line side (altered octets place mask ∷ rest) (record l { order_kept = false; loss_free = false })) Kept
+      (λ none. h) (λ some. changed_sound side (altered octets place mask ∷ rest) l))
+      (λ short e. same_sound l _ (h e))
+
+  step_sound : Frames → (s : LinkStep) (l : Link) → Kept l → Kept (step s l)
+  step_sound laws (Send side p) l h e =
+      sent_sound side l p (refusal_at side (station_of l side) p (station_of l side).released) (refused_long side (station_of l side) p (station_of l side).released)
+      (h (sym (sent_kept side p l (refusal_at side (station_of l side) p (station_of l side).released)) ∙ e))
+  step_sound laws (Pass side) l h e = (passed wd NoClaim laws to_r to_e side l (h (sym (passed_kept side (line_of l side) l) ∙ e))).0
+  step_sound laws (Lose side) l h e = lost_sound side l (line_of l side) refl (h (sym (lost_kept side (line_of l side) l) ∙ e))
+  step_sound laws (Repeat side) l h e = repeated_sound side l (line_of l side) refl (h (sym (repeated_kept side (line_of l side) l) ∙ e))
+  step_sound laws (Alter side place mask) l h e = altered_sound side place mask (line_of l side) l h e
+  step_sound laws (Put side octets) l h e = changed_sound side (octets ∷ line_of l side) l e
+  step_sound laws (UserRelease side sub) l h e = released_sound side sub l (h (sym (released_kept side sub l) ∙ e))
+  step_sound laws (Drain most) l h e =
+      same_sound (drained most (record { link = l; passes = 0 })).link _
+      (drained_sound laws most (record { link = l; passes = 0 }) (h (sym (drained_kept most (record { link = l; passes = 0 })) ∙ e)))
+  step_sound laws (Tick moment) l h e = ticked_sound moment l (h e)
+
+  run_sound : Frames → (steps : List LinkStep) (l : Link) → Kept l → Kept (run l steps)
+  run_sound laws [] l h = h
+  run_sound laws (s ∷ rest) l h = run_sound laws rest (happens s l) (step_sound laws s (record l { came = [] }) (λ e. same_sound l [] (h e)))
+
+-- ---- a link that was just opened
+
+pub wide_at : (selective extended : Bool) (window : ℕ) → selective ≡ true → span_of selective extended window ≡ window
+wide_at true extended window e = refl
+wide_at false extended window e = absurd cc
+
+opened_sound : (s : Opening) → Sound s.window (opened s.selective s.extended s.window s.n2 s.t1 s.moment)
+opened_sound s = record {
+  k = span_of s.selective s.extended s.window;
+  fe = SetUp ∷ [];
+  fr = [];
+  stands = opened_stands s;
+  own_e = (refl, refl, refl, λ called none. refl, λ none. absurd cc, refl, λ live. (tt, tt), λ idle. absurd cc);
+  own_r = (refl, refl, refl, λ called none. refl, (refl, refl), refl, λ live. tt, λ idle. (refl, refl));
+  rests_e = (inl refl, λ live. refl);
+  rests_r = (inl refl, λ live. refl);
+  first = λ idle. refl;
+  wide = wide_at s.selective s.extended s.window;
+  begun = λ idle. absurd cc;
+  claim = tt;
+}
+
+pub after_sound : Frames → (s : Opening) (steps : List LinkStep) → (after s steps).order_kept ≡ true → Sound s.window (after s steps)
+after_sound laws s steps = run_sound s.window laws steps (opened s.selective s.extended s.window s.n2 s.t1 s.moment) (λ e. opened_sound s)
+
+-- ---- passes release no live end
+
+pub run_append : (a b : List LinkStep) (l : Link) → run l (a ++ b) ≡ run (run l a) b
+run_append [] b l = refl
+run_append (s ∷ a) b l = run_append a b (happens s l)
+
+pub passes_release : Frames → PassesRelease
+passes_release laws s steps kept live passes p =
+    subst AreLive (sym (run_append steps passes (opened s.selective s.extended s.window s.n2 s.t1 s.moment)))
+    ((passes_sound s.window laws passes (after s steps) p (after_sound laws s steps kept)).1 live)
+
+-- ---- T1
+
+timed_at : (p : Phase) (x : Station) → Timed p x.timer x.expiries x.acked x.sent → TimedAt p x
+timed_at Idle x h = h
+timed_at Setting x h = h
+timed_at Up x h = (h.0, h.1)
+timed_at Down x h = h
+
+pub timers_run : Frames → TimersRun
+timers_run laws s steps kept =
+    let h = after_sound laws s steps kept in
+    let l : Link = after s steps in
+    (timed_at l.e.phase l.e h.own_e.4, timed_at l.r.phase l.r h.own_r.4)

@@ -1,0 +1,23 @@
+-- A gap is filled while frames are given, without T1 (ISO/IEC 13239, asynchronous balanced mode with REJ or SREJ): the frame behind a lost one
+-- tells the peer, which asks for it at once.
+use Rattle.std.specs.Prelude.{◌≡◌, ◌+◌, ◌≤◌, true, List, ◌∷◌, ◌++◌, length}
+use Rattle.er_base.specs.declared.side.Side.{Side}
+use Rattle.er_base.specs.Sides.{other}
+use Rattle.hdlc_pair_laws.specs.Links.{Link, station_of}
+use Rattle.hdlc_pair_laws.specs.Steps.{LinkStep, Lose}
+use Rattle.hdlc_pair_laws.specs.Laws.{Opening, after, IsEmpty}
+use Rattle.hdlc_pair_laws.specs.Recovery.{ArePasses, IsRecovered}
+
+-- at least two I frames of this end weren't taken yet: on a loss-free line they wait
+abbrev pub TwoWait : Side → Link → Type 0
+TwoWait side l = length (station_of l (other side)).taken + 2 ≤ (station_of l side).sent
+
+-- on a line that was loss-free so far the first frame that waits from an end is lost, whichever frame it is, while two I frames or more wait from
+-- it. Then what waits is given, and no moment comes at which T1 could be found expired. Once no frame waits, each end took all that the other was
+-- handed
+abbrev pub GapsAreFilled : Type 0
+GapsAreFilled =
+    (s : Opening) (steps : List LinkStep) → (after s steps).loss_free ≡ true
+    → (side : Side) → TwoWait side (after s steps)
+    → (passes : List LinkStep) → ArePasses passes → IsEmpty (after s (steps ++ Lose side ∷ passes))
+    → IsRecovered (after s (steps ++ Lose side ∷ passes))

@@ -1,0 +1,112 @@
+-- What holds of two stations over two lines, with go-back or with selective reject, over every list of steps, at modulo 8 and at modulo 128. A list of steps stands for each
+-- moment of a longer run.
+use Rattle.std.specs.Prelude.{◌≡◌, ℕ, ◌+◌, ◌*◌, ◌<◌, ◌≤◌, Bool, true, false, List, [], ◌∷◌, length, Option, Some, None}
+use Rattle.er_base.specs.declared.release.Release.{Release}
+use Rattle.hdlc_station_model.specs.declared.phase.Phase.TheVariants.{Up}
+use Rattle.hdlc_station_model.specs.Frames.{modulo}
+use Rattle.hdlc_station_model.specs.Lines.{IsPrefix, IsLosingLineReason, station_bound}
+use Rattle.hdlc_pair_laws.specs.Links.{Link, line_of, opened}
+use Rattle.hdlc_pair_laws.specs.Steps.{LinkStep, Send, Pass, Lose, Repeat, Alter, Put, UserRelease, Drain, Tick, drained, happens, run}
+
+-- the greatest window of a kind: one below the modulo, and with selective reject half of it, so that an old frame that comes again is never
+-- taken for a new one (ISO/IEC 13239)
+abbrev pub IsNarrow : (selective extended : Bool) → (window : ℕ) → Type 0
+IsNarrow true extended window = 2 * window ≤ modulo extended
+IsNarrow false extended window = window < modulo extended
+
+-- how a link is opened: the kind and the settings of both stations, and the moment
+pub record Opening : Type 0 where
+  pub selective : Bool
+  pub extended : Bool
+  pub window : ℕ
+  pub n2 : ℕ
+  pub t1 : ℕ
+  pub moment : ℕ
+  pub some : 1 ≤ window
+  pub narrow : IsNarrow selective extended window
+
+-- the link behind a list of steps
+abbrev pub after : Opening → List LinkStep → Link
+after s steps = run (opened s.selective s.extended s.window s.n2 s.t1 s.moment) steps
+
+-- ---- an order-keeping line: it may lose and repeat
+
+-- what an end took is a prefix of what was handed down at the other
+abbrev pub Prefix : Type 0
+Prefix =
+    (s : Opening) (steps : List LinkStep) → (after s steps).order_kept ≡ true
+    → IsPrefix (after s steps).r.taken (after s steps).e.handed × IsPrefix (after s steps).e.taken (after s steps).r.handed
+
+-- where an end was released, it was for such a reason
+abbrev pub IsLosingLineRelease : Option Release → Type 0
+IsLosingLineRelease None = Unit {0}
+IsLosingLineRelease (Some release) = IsLosingLineReason release
+
+abbrev pub LosingLineReasons : Type 0
+LosingLineReasons =
+    (s : Opening) (steps : List LinkStep) → (after s steps).order_kept ≡ true
+    → IsLosingLineRelease (after s steps).e.released × IsLosingLineRelease (after s steps).r.released
+
+-- ---- deliveries
+
+-- a pass gives a frame, where one waits
+abbrev pub passed_of : List (List ℕ) → ℕ
+passed_of [] = 0
+passed_of (frame ∷ frames) = 1
+
+-- the frames that a step gives
+abbrev pub deliveries_of : LinkStep → Link → ℕ
+deliveries_of (Send side payload) l = 0
+deliveries_of (Pass side) l = passed_of (line_of l side)
+deliveries_of (Lose side) l = 0
+deliveries_of (Repeat side) l = 0
+deliveries_of (Alter side place mask) l = 0
+deliveries_of (Put side octets) l = 0
+deliveries_of (UserRelease side sub) l = 0
+deliveries_of (Drain most) l = (drained most (record { link = l; passes = 0 })).passes
+deliveries_of (Tick moment) l = 0
+
+-- and all steps of a list: a number that has no greatest value
+abbrev pub deliveries : Link → List LinkStep → ℕ
+deliveries l [] = 0
+deliveries l (s ∷ rest) = deliveries_of s (record l { came = [] }) + deliveries (happens s l) rest
+
+-- ---- a loss-free line
+
+abbrev pub IsEmpty : Link → Type 0
+IsEmpty l = (l.from_e ≡ []) × (l.from_r ≡ [])
+
+-- the greatest number of deliveries
+abbrev pub bound : Link → ℕ
+bound l = station_bound (length l.e.handed) (length l.r.handed)
+
+-- once it is empty, both stations are up, the called one took all payloads, and the calling one did where it handed down any itself
+abbrev pub Delivery : Type 0
+Delivery =
+    (s : Opening) (steps : List LinkStep) → (after s steps).loss_free ≡ true → IsEmpty (after s steps)
+    → (after s steps).e.phase ≡ Up
+    × (after s steps).r.phase ≡ Up
+    × (after s steps).r.taken ≡ (after s steps).e.handed
+    × (1 ≤ length (after s steps).e.handed → (after s steps).e.taken ≡ (after s steps).r.handed)
+
+abbrev pub DeliveryBound : Type 0
+DeliveryBound =
+    (s : Opening) (steps : List LinkStep) → (after s steps).loss_free ≡ true → (after s steps).passes ≤ bound (after s steps)
+
+-- the same of the deliveries
+abbrev pub DeliveriesBound : Type 0
+DeliveriesBound =
+    (s : Opening) (steps : List LinkStep) → (after s steps).loss_free ≡ true
+    → deliveries (opened s.selective s.extended s.window s.n2 s.t1 s.moment) steps ≤ bound (after s steps)
+
+-- never more than 254 frames wait in one direction: at modulo 128 at most 127 I frames, and an RR for each of the other direction
+abbrev pub FewWait : Type 0
+FewWait =
+    (s : Opening) (steps : List LinkStep) → (after s steps).loss_free ≡ true
+    → (length (after s steps).from_e ≤ 254) × (length (after s steps).from_r ≤ 254)
+
+-- a drain of as many passes leaves no frame waiting
+abbrev pub DrainEmpties : Type 0
+DrainEmpties =
+    (s : Opening) (steps : List LinkStep) (most : ℕ) → (after s steps).loss_free ≡ true → bound (after s steps) ≤ most
+    → IsEmpty (drained most (record { link = after s steps; passes = 0 })).link

@@ -1,0 +1,133 @@
+-- Two stations of one kind, with go-back or with selective reject, over two lines (ISO/IEC 13239, asynchronous balanced mode): e is the
+-- calling station, r the called one. Each line is the list of the frames that wait on it, as octets. An end reads all octets that it is
+-- given as one stream (this profile).
+use Rattle.std.specs.Prelude.{ℕ, Bool, true, false, List, [], ◌∷◌, ◌++◌, map, Option, Some, None}
+use Rattle.er_base.specs.declared.side.Side.{Side}
+use Rattle.er_base.specs.declared.side.Side.TheVariants.{E, R}
+use Rattle.er_base.specs.declared.release.Release.{Release}
+use Rattle.hdlc_frames.specs.Framing.{Verdict}
+use Rattle.hdlc_station_model.specs.Stations.{Station, Deed, made, settled}
+use Rattle.hdlc_station_model.specs.Calls.{starts, finishes}
+use Rattle.hdlc_station_model.specs.Selective.{receives_as}
+use Rattle.hdlc_station_model.specs.Events.{said_octets, news}
+
+-- what comes of a step
+pub data Came : Type 0 where
+  -- the link came up at this end
+  CameUp : (side : Side) → Came
+  -- this end took a payload
+  Accepted : (side : Side) (payload : List ℕ) → Came
+  -- this end was released
+  WasReleased : (side : Side) (release : Release) → Came
+  -- this end sent a frame
+  Sent : (side : Side) (octets : List ℕ) → Came
+  -- a payload wasn't handed down: the end was released before, the length isn't from 1 to 1,026, so many payloads wait
+  RefusedReleased : (side : Side) (release : Release) → Came
+  RefusedLength RefusedFull : (side : Side) (found : ℕ) → Came
+  -- no frame of this end waits, or the first one has only so many octets: the step does nothing
+  NothingWaits : (side : Side) → Came
+  IsShort : (side : Side) (found : ℕ) → Came
+  -- a drain made so many passes
+  Drained : (passes : ℕ) → Came
+
+pub record Link : Type 0 where
+  -- whether both stations have selective reject
+  pub selective : Bool
+  pub e : Station
+  pub r : Station
+  -- the frames that e sent and that wait, the first to be passed first
+  pub from_e : List (List ℕ)
+  -- those of r
+  pub from_r : List (List ℕ)
+  -- all octets that e was given so far
+  pub read_e : List ℕ
+  -- those that r was given
+  pub read_r : List ℕ
+  pub moment : ℕ
+  -- the passes so far; the number stays at its greatest value
+  pub passes : ℕ
+  -- whether no frame that waited was altered, and none was put in
+  pub order_kept : Bool
+  -- whether besides none was lost or repeated, no user released, and no tick found an expired timer
+  pub loss_free : Bool
+  -- what came of the newest step
+  pub came : List Came
+
+abbrev pub station_of : Link → Side → Station
+station_of l E = l.e
+station_of l R = l.r
+
+abbrev pub line_of : Link → Side → List (List ℕ)
+line_of l E = l.from_e
+line_of l R = l.from_r
+
+abbrev pub with_line : Side → List (List ℕ) → Link → Link
+with_line E frames l = record l { from_e = frames }
+with_line R frames l = record l { from_r = frames }
+
+abbrev pub read_of : Link → Side → List ℕ
+read_of l E = l.read_e
+read_of l R = l.read_r
+
+abbrev pub tells : List Came → Link → Link
+tells came l = record l { came = l.came ++ came }
+
+-- ---- an event at an end
+
+abbrev pub if_up : Side → Bool → List Came
+if_up side true = CameUp side ∷ []
+if_up side false = []
+
+abbrev pub if_accepted : Side → Option (List ℕ) → List Came
+if_accepted side None = []
+if_accepted side (Some payload) = Accepted side payload ∷ []
+
+abbrev pub if_released : Side → Option Release → List Came
+if_released side None = []
+if_released side (Some release) = WasReleased side release ∷ []
+
+-- the payloads that a call took
+abbrev pub all_accepted : Side → Deed → List Came
+all_accepted side d = if_accepted side d.payload ++ map (Accepted side) d.more
+
+-- what a call told, then the frames that it sent
+abbrev pub came_of : Side → Station → List Came
+came_of side s =
+    ((if_up side s.deed.up ++ all_accepted side s.deed) ++ if_released side s.deed.released) ++ map (Sent side) (said_octets s)
+
+-- an end did this: its frames join those that wait
+abbrev pub did : Side → Station → Link → Link
+did E s l = record l { e = settled s; from_e = l.from_e ++ said_octets s; came = l.came ++ came_of E s }
+did R s l = record l { r = settled s; from_r = l.from_r ++ said_octets s; came = l.came ++ came_of R s }
+
+-- ---- octets come to an end
+
+-- each is one event, and the answer that is still owed follows it
+abbrev pub hears_each : Side → List Verdict → Link → Link
+hears_each side [] l = l
+hears_each side (verdict ∷ verdicts) l =
+    hears_each side verdicts (did side (finishes (receives_as l.selective l.moment verdict (station_of l side))) l)
+
+abbrev pub reads : Side → List ℕ → Link → Link
+reads E octets l = hears_each E (news l.read_e octets) (record l { read_e = l.read_e ++ octets })
+reads R octets l = hears_each R (news l.read_r octets) (record l { read_r = l.read_r ++ octets })
+
+-- ---- a link that is opened
+
+-- two stations of one kind with the same settings, of which the calling one starts at this moment
+abbrev pub opened : (selective extended : Bool) (window n2 t1 moment : ℕ) → Link
+opened selective extended window n2 t1 moment =
+    did E (finishes (starts moment (made true extended window n2 t1))) (record {
+      selective = selective;
+      e = made true extended window n2 t1;
+      r = made false extended window n2 t1;
+      from_e = [];
+      from_r = [];
+      read_e = [];
+      read_r = [];
+      moment = moment;
+      passes = 0;
+      order_kept = true;
+      loss_free = true;
+      came = [];
+    })

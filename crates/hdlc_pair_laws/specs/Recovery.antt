@@ -1,0 +1,80 @@
+-- What two stations recover from (ISO/IEC 13239, asynchronous balanced mode): a line that lost and repeated frames, and then for a while
+-- loses none, by T1 alone.
+use Rattle.std.specs.Prelude.{◌≡◌, ◌⊎◌, ℕ, ◌+◌, ◌*◌, ◌<◌, ◌≤◌, true, false, List, [], ◌∷◌, ◌++◌, length, None}
+use Rattle.hdlc_station_model.specs.declared.phase.Phase.TheVariants.{Up}
+use Rattle.hdlc_station_model.specs.Stations.{Station, is_down}
+use Rattle.hdlc_station_model.specs.Events.{is_late}
+use Rattle.hdlc_pair_laws.specs.Links.{Link}
+use Rattle.hdlc_pair_laws.specs.Steps.{LinkStep, Send, Pass, Lose, Repeat, Alter, Put, UserRelease, Drain, Tick, drained, is_overfull}
+use Rattle.hdlc_pair_laws.specs.Laws.{Opening, after, deliveries, IsEmpty}
+
+-- all that the line does is to give frames
+abbrev pub IsPass : LinkStep → Type 0
+IsPass (Send side payload) = ⊥
+IsPass (Pass side) = Unit {0}
+IsPass (Lose side) = ⊥
+IsPass (Repeat side) = ⊥
+IsPass (Alter side place mask) = ⊥
+IsPass (Put side octets) = ⊥
+IsPass (UserRelease side sub) = ⊥
+IsPass (Drain most) = ⊥
+IsPass (Tick moment) = ⊥
+
+abbrev pub ArePasses : List LinkStep → Type 0
+ArePasses [] = Unit {0}
+ArePasses (s ∷ steps) = IsPass s × ArePasses steps
+
+-- neither end was released
+abbrev pub AreLive : Link → Type 0
+AreLive l = (is_down l.e.phase ≡ false) × (is_down l.r.phase ≡ false)
+
+-- T1 doesn't run, or this moment finds it expired, and the station doesn't give up yet
+abbrev pub MayRepeat : (now : ℕ) → Station → Type 0
+MayRepeat now s = (s.timer ≡ None) ⊎ ((is_late now s ≡ true) × (s.expiries < s.n2))
+
+-- both stations are up, the called one took all payloads, and the calling one did where it handed down any itself, since the called station
+-- may not send before it took one
+pub record IsRecovered (l : Link) : Type 0 where
+  pub e_up : l.e.phase ≡ Up
+  pub r_up : l.r.phase ≡ Up
+  pub at_r : l.r.taken ≡ l.e.handed
+  pub at_e : 1 ≤ length l.e.handed → l.e.taken ≡ l.r.handed
+
+-- whatever the line lost and repeated, while no end was released: all that waits is given; then comes a moment that finds each T1 that runs
+-- expired; then all that waits is given. With that each end took all that the other was handed
+abbrev pub Recovery : Type 0
+Recovery =
+    (s : Opening) (steps : List LinkStep) → (after s steps).order_kept ≡ true → AreLive (after s steps)
+    → (first : List LinkStep) → ArePasses first → IsEmpty (after s (steps ++ first))
+    → (now : ℕ) → MayRepeat now (after s (steps ++ first)).e → MayRepeat now (after s (steps ++ first)).r
+    → (second : List LinkStep) → ArePasses second → IsEmpty (after s (steps ++ first ++ Tick now ∷ second))
+    → IsRecovered (after s (steps ++ first ++ Tick now ∷ second))
+
+-- while frames are given alone, no live end is released
+abbrev pub PassesRelease : Type 0
+PassesRelease =
+    (s : Opening) (steps : List LinkStep) → (after s steps).order_kept ≡ true → AreLive (after s steps)
+    → (passes : List LinkStep) → ArePasses passes → AreLive (after s (steps ++ passes))
+
+-- ---- how many passes it takes
+
+-- each waiting frame may be a REJ, at which a window of frames is sent again, each with its answer; each payload that is taken clears the gap
+-- mark, so that one more REJ may be said; and each payload is sent for the first time, and answered
+abbrev pub passes_bound : (window waiting handed : ℕ) → ℕ
+passes_bound window waiting handed = (1 + 2 * window) * (waiting + handed + 2) + 2 * handed
+
+abbrev pub bound_of : Opening → Link → ℕ
+bound_of s l = passes_bound s.window (length l.from_e + length l.from_r) (length l.e.handed + length l.r.handed)
+
+-- while frames are given alone, there are no more deliveries than this, from any moment on
+abbrev pub PassesBound : Type 0
+PassesBound =
+    (s : Opening) (steps : List LinkStep) → (after s steps).order_kept ≡ true → AreLive (after s steps)
+    → (passes : List LinkStep) → ArePasses passes → deliveries (after s steps) passes ≤ bound_of s (after s steps)
+
+-- so a drain of as many passes leaves no frame waiting; it stops before where too many wait in one direction
+abbrev pub DrainEmptiesLive : Type 0
+DrainEmptiesLive =
+    (s : Opening) (steps : List LinkStep) (most : ℕ) → (after s steps).order_kept ≡ true → AreLive (after s steps) → bound_of s (after s steps) ≤ most
+    → IsEmpty (drained most (record { link = after s steps; passes = 0 })).link
+    ⊎ (is_overfull (drained most (record { link = after s steps; passes = 0 })).link ≡ true)

@@ -1,0 +1,13 @@
+use Rattle.std.proofs.Common.{◌≤◌, ap, arith}
+use Rattle.hdlc_station_core.specs.Kept.{Kept}
+use Rattle.hdlc_station_core.specs.Saying.{few_frames, frames_within}
+use Rattle.hdlc_station_core.proofs.station.StationCore.bounds.Goals as goal
+
+pub returns-clause-frames : goal.returns-clause-frames
+returns-clause-frames c = few_frames c.args.self.now
+
+pub returns-clause-few : goal.returns-clause-few
+returns-clause-few c = λ reply.
+    let window = ap (λ (k : Kept). k.window) c.self.view_is in
+    let ahead = ap (λ (k : Kept). k.ahead) c.self.view_is in
+    frames_within c.args.self.now reply (omega (arith, c.self.invariant.some_window)) (omega (arith, c.self.invariant.near))

@@ -1,0 +1,12 @@
+use Rattle.std.proofs.Common.{sym, subst, ◌≡◌, ◌++◌}
+use Rattle.er_base.specs.Stored.{Stored}
+use Rattle.hdlc_station_model.specs.Stations.{no_deed}
+use Rattle.hdlc_station_model.specs.Receiving.{strays}
+use Rattle.hdlc_station_core.specs.Replies.{Hears}
+use Rattle.hdlc_station_core.specs.declared.deeds.Heard.{Heard}
+use Rattle.hdlc_station_core.specs.Saying.{silent}
+use Rattle.hdlc_station_core.proofs.station.StationCore.stray.Goals as goal
+
+pub returns-clause-hears : goal.returns-clause-hears
+returns-clause-hears c =
+    rw c.nothing.ensures (λ information out out' e s before h. silent _ before out out' _ _ (c.count_stray.ensures.follows out s before no_deed h) e)

@@ -1,0 +1,6 @@
+pub mod Rings
+pub mod Kept
+pub mod Told
+pub mod Replies
+pub mod Following
+pub mod Saying

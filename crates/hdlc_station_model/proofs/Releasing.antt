@@ -1,0 +1,316 @@
+-- A station releases where a cause is met.
+use Rattle.std.proofs.Common.{if◌then◌else◌, ◌≡◌, inl, inr, ℕ, zero, suc, ◌+◌, ◌-◌, ◌≤◌, Bool, true, false, ◌||◌, List, [], ◌∷◌, ◌++◌, length, Option, Some, None, refl, sym, ap, subst, ◌∙◌, arith, append-nil}
+use Rattle.std.specs.Prelude.{◌==◌}
+use Rattle.std.proofs.lemmas.Bool.{cond_both, lt-ltb, eqb-true}
+use Rattle.std.proofs.lemmas.Option.{none-some}
+use Rattle.er_base.specs.declared.cause.Cause.{Cause}
+use Rattle.er_base.specs.declared.cause.Cause.TheVariants as cause
+use Rattle.er_base.specs.Octets.{AreOctets}
+use Rattle.hdlc_frames.specs.declared.controls.Control.{Control}
+use Rattle.hdlc_frames.specs.declared.controls.Control.TheVariants.{Info, Rr, Rnr, Rej, Srej, Sabm, Sabme, Disc, Ua, Dm, Frmr}
+use Rattle.hdlc_frames.specs.ControlOctets.{control_of}
+use Rattle.hdlc_frames.specs.Framing.{Verdict, Frame}
+use Rattle.hdlc_frames.specs.Laws.{ControlIsTable}
+use Rattle.hdlc_station_model.specs.declared.phase.Phase.{Phase}
+use Rattle.hdlc_station_model.specs.declared.phase.Phase.TheVariants.{Idle, Setting, Up, Down}
+use Rattle.hdlc_station_model.specs.Frames.{SetUp, Disc as Disc_sent, Dm as Dm_sent, modulo}
+use Rattle.hdlc_station_model.specs.Stations.{Station, is_down, sees, puts}
+use Rattle.hdlc_station_model.specs.Sending.{can_send, waiting, sends_next, sends_up_to, sends_waiting, sends_again, starts_timer, releases, refuses_frame, gives_up, counts_expiry, expires_at, expires, expires_if_due}
+use Rattle.hdlc_station_model.specs.Receiving.{strays, is_error, is_some_octets, errs, named, acknowledging, takes, marks_busy, repeats_rejected, agrees, sets_up_again, row, hears, hears_control}
+use Rattle.hdlc_station_model.specs.Calls.{receives, ticks, closes_at, closes}
+use Rattle.hdlc_station_model.specs.Timing.{IsExpired}
+use Rattle.hdlc_station_model.specs.Causes.{Either, Comes, kind_of, IsSetUp, IsBare, nr_of, Names, IsBegun, TakesErrors, IsFrameError, HasUnknownControl, IsSelectiveReject, HasInformation, SetsUpCaller, SetsUpAgain, NamesNone, IsPeersEnd, Disconnects, IsDisconnected, RejectsFrame, FrameCause, IsError, IsByPeer, TimeCause, IsUnanswered, IsStuck, IsReleasedFor, IsOfOctets, CauseReleases}
+use Rattle.hdlc_station_model.specs.LastFrames.{answer_to, LastFrames}
+use Rattle.hdlc_station_model.proofs.Timing.{late_is}
+use Rattle.hdlc_station_model.proofs.Numbers.{none_named, is_known, may_bear, reads_none}
+
+-- ---- a station that is released sends nothing more
+
+stays : (n : ℕ) (x : Station) → can_send x ≡ false → sends_up_to n x ≡ x
+stays zero x cannot = refl
+stays (suc n) x cannot = ap (λ (b : Bool). if b then sends_up_to n (sends_next x) else x) cannot
+
+ends_as : (why : Cause) (y : Station) → sends_waiting (releases why y) ≡ releases why y
+ends_as why y = stays (waiting (releases why y)) (releases why y) refl
+
+released_by : (why : Cause) (y t : Station) → t ≡ releases why y → IsReleasedFor why t
+released_by why y t is = subst (IsReleasedFor why) (sym is) (record { down = refl; released = refl; deed = refl })
+
+-- what comes leads to a release
+heard_is : (now : ℕ) (v : Verdict) (s y : Station) (why : Cause) → is_down s.phase ≡ false → hears v (sees now s) ≡ releases why y
+    → receives now v s ≡ releases why y
+heard_is now v s y why live is =
+    ap (λ (b : Bool). if b then s else sends_waiting (hears v (sees now s))) live ∙ ap sends_waiting is ∙ ends_as why y
+
+begun_lives : (s : Station) → IsBegun s → is_down s.phase ≡ false
+begun_lives s (inl e) = ap is_down e
+begun_lives s (inr e) = ap is_down e
+
+errors_live : (s : Station) → TakesErrors s → is_down s.phase ≡ false
+errors_live s (inl begun) = begun_lives s begun
+errors_live s (inr idle) = ap is_down idle.0
+
+-- ---- errors
+
+errs_refuses : (now : ℕ) (s : Station) → TakesErrors s → errs s.phase (sees now s) ≡ refuses_frame (sees now s)
+errs_refuses now s (inl (inl e)) = ap (λ (p : Phase). errs p (sees now s)) e
+errs_refuses now s (inl (inr e)) = ap (λ (p : Phase). errs p (sees now s)) e
+errs_refuses now s (inr e) =
+    ap (λ (p : Phase). errs p (sees now s)) e.0 ∙ ap (λ (b : Bool). if b then refuses_frame (sees now s) else strays (sees now s)) e.1
+
+-- a frame that is read comes to its error or its row
+comes_to : ControlIsTable → (now : ℕ) (s : Station) (a : ℕ) (b : List ℕ) (c : Control) (i : List ℕ) → AreOctets b → Comes s a b c i
+    → hears (Frame a b) (sees now s) ≡ (if is_error s.calling c i then errs s.phase (sees now s) else row s.phase (sees now s) c i)
+comes_to law now s a b c i octets x =
+    let known = is_known (kind_of c) s.calling a x.addressed in
+    let reads : control_of (modulo s.extended) b ≡ Some (c, i) = (law (modulo s.extended) b octets c i).1 x.reads in
+    ap (λ (t : Bool). if t then hears_control a (control_of (modulo s.extended) b) (sees now s) else strays (sees now s)) known
+    ∙ ap (λ (o : Option (Control × List ℕ)). hears_control a o (sees now s)) reads
+    ∙ ap (λ (t : Bool). if t then (if is_error s.calling c i then errs s.phase (sees now s) else row s.phase (sees now s) c i) else strays (sees now s))
+    (may_bear s.calling a c x.addressed)
+
+-- one that is an error at any phase
+error_refuses : ControlIsTable → (now : ℕ) (s : Station) (a : ℕ) (b : List ℕ) (c : Control) (i : List ℕ) → AreOctets b → TakesErrors s → Comes s a b c i
+    → is_error s.calling c i ≡ true → hears (Frame a b) (sees now s) ≡ refuses_frame (sees now s)
+error_refuses law now s a b c i octets takes_them x is =
+    comes_to law now s a b c i octets x
+    ∙ ap (λ (t : Bool). if t then errs s.phase (sees now s) else row s.phase (sees now s) c i) is
+    ∙ errs_refuses now s takes_them
+
+-- one that is an error in Up: at that phase an error at any phase is one too
+up_refuses : ControlIsTable → (now : ℕ) (s : Station) (a : ℕ) (b : List ℕ) (c : Control) (i : List ℕ) → AreOctets b → s.phase ≡ Up → Comes s a b c i
+    → row Up (sees now s) c i ≡ refuses_frame (sees now s) → hears (Frame a b) (sees now s) ≡ refuses_frame (sees now s)
+up_refuses law now s a b c i octets up x is =
+    comes_to law now s a b c i octets x
+    ∙ ap (λ (p : Phase). if is_error s.calling c i then errs p (sees now s) else row p (sees now s) c i) up
+    ∙ cond_both (is_error s.calling c i) (refuses_frame (sees now s)) (row Up (sees now s) c i) (λ t. t ≡ refuses_frame (sees now s)) (λ e. refl) (λ e. is)
+
+some : (i : List ℕ) → 1 ≤ length i → is_some_octets i ≡ true
+some i one = lt-ltb 0 (length i) (omega arith)
+
+either_way : (x y : Bool) → y ≡ true → (x || y) ≡ true
+either_way true y e = refl
+either_way false y e = e
+
+bare_error : (calling : Bool) (c : Control) (i : List ℕ) → IsBare c → 1 ≤ length i → is_error calling c i ≡ true
+bare_error calling (Info ns nr) i bare one = absurd bare
+bare_error calling (Rr nr) i bare one = some i one
+bare_error calling (Rnr nr) i bare one = some i one
+bare_error calling (Rej nr) i bare one = some i one
+bare_error calling (Srej nr) i bare one = refl
+bare_error calling (Sabm poll) i bare one = either_way calling (is_some_octets i) (some i one)
+bare_error calling (Sabme poll) i bare one = either_way calling (is_some_octets i) (some i one)
+bare_error calling (Disc poll) i bare one = some i one
+bare_error calling Ua i bare one = some i one
+bare_error calling Dm i bare one = some i one
+bare_error calling Frmr i bare one = absurd bare
+
+set_up_error : (calling : Bool) (c : Control) (i : List ℕ) → IsSetUp c → calling ≡ true → is_error calling c i ≡ true
+set_up_error calling (Info ns nr) i set e = absurd set
+set_up_error calling (Rr nr) i set e = absurd set
+set_up_error calling (Rnr nr) i set e = absurd set
+set_up_error calling (Rej nr) i set e = absurd set
+set_up_error calling (Srej nr) i set e = absurd set
+set_up_error calling (Sabm poll) i set e = ap (λ (b : Bool). b || is_some_octets i) e
+set_up_error calling (Sabme poll) i set e = ap (λ (b : Bool). b || is_some_octets i) e
+set_up_error calling (Disc poll) i set e = absurd set
+set_up_error calling Ua i set e = absurd set
+set_up_error calling Dm i set e = absurd set
+set_up_error calling Frmr i set e = absurd set
+
+-- the set-up frame in Setting
+setting_row : (c : Control) (i : List ℕ) (x : Station) → IsSetUp c → row Setting x c i ≡ refuses_frame x
+setting_row (Info ns nr) i x set = absurd set
+setting_row (Rr nr) i x set = absurd set
+setting_row (Rnr nr) i x set = absurd set
+setting_row (Rej nr) i x set = absurd set
+setting_row (Srej nr) i x set = absurd set
+setting_row (Sabm poll) i x set = refl
+setting_row (Sabme poll) i x set = refl
+setting_row (Disc poll) i x set = absurd set
+setting_row Ua i x set = absurd set
+setting_row Dm i x set = absurd set
+setting_row Frmr i x set = absurd set
+
+setting_refuses : ControlIsTable → (now : ℕ) (s : Station) (a : ℕ) (b : List ℕ) (c : Control) (i : List ℕ) → AreOctets b → s.phase ≡ Setting
+    → Comes s a b c i → IsSetUp c → hears (Frame a b) (sees now s) ≡ refuses_frame (sees now s)
+setting_refuses law now s a b c i octets phase x set =
+    comes_to law now s a b c i octets x
+    ∙ ap (λ (p : Phase). if is_error s.calling c i then errs p (sees now s) else row p (sees now s) c i) phase
+    ∙ cond_both (is_error s.calling c i) (refuses_frame (sees now s)) (row Setting (sees now s) c i) (λ t. t ≡ refuses_frame (sees now s)) (λ e. refl)
+    (λ e. setting_row c i (sees now s) set)
+
+again : (poll : Bool) (x : Station) → 1 ≤ length x.taken → sets_up_again poll x ≡ refuses_frame x
+again poll x one =
+    cond_both (length x.taken == 0) (agrees poll (record x { gap = false })) (refuses_frame x) (λ t. t ≡ refuses_frame x)
+    (λ e. absurd (let none = eqb-true (length x.taken) 0 e in omega arith)) (λ e. refl)
+
+again_row : (c : Control) (i : List ℕ) (x : Station) → IsSetUp c → 1 ≤ length x.taken → row Up x c i ≡ refuses_frame x
+again_row (Info ns nr) i x set one = absurd set
+again_row (Rr nr) i x set one = absurd set
+again_row (Rnr nr) i x set one = absurd set
+again_row (Rej nr) i x set one = absurd set
+again_row (Srej nr) i x set one = absurd set
+again_row (Sabm poll) i x set one = again poll x one
+again_row (Sabme poll) i x set one = again poll x one
+again_row (Disc poll) i x set one = absurd set
+again_row Ua i x set one = absurd set
+again_row Dm i x set one = absurd set
+again_row Frmr i x set one = absurd set
+
+-- an N(R) that names no number
+unnamed : (x : Station) (m nr : ℕ) (rest : Station → Station) → Some m ≡ Some nr → (Names x nr → ⊥)
+    → acknowledging (named x.extended x.acked (x.sent - x.acked) m) rest x ≡ refuses_frame x
+unnamed x m nr rest same never =
+    let is : m ≡ nr = cc in
+    ap (λ (r : ℕ). acknowledging (named x.extended x.acked (x.sent - x.acked) r) rest x) is
+    ∙ ap (λ (o : Option ℕ). acknowledging o rest x) (none_named x nr never)
+
+unnamed_row : (c : Control) (i : List ℕ) (x : Station) (nr : ℕ) → nr_of c ≡ Some nr → (Names x nr → ⊥) → row Up x c i ≡ refuses_frame x
+unnamed_row (Info ns m) i x nr same never = unnamed x m nr (takes ns i) same never
+unnamed_row (Rr m) i x nr same never = unnamed x m nr (marks_busy false) same never
+unnamed_row (Rnr m) i x nr same never = unnamed x m nr (marks_busy true) same never
+unnamed_row (Rej m) i x nr same never = unnamed x m nr (λ t. repeats_rejected (marks_busy false t)) same never
+unnamed_row (Srej m) i x nr same never = refl
+unnamed_row (Sabm poll) i x nr same never = absurd (none-some nr same)
+unnamed_row (Sabme poll) i x nr same never = absurd (none-some nr same)
+unnamed_row (Disc poll) i x nr same never = absurd (none-some nr same)
+unnamed_row Ua i x nr same never = absurd (none-some nr same)
+unnamed_row Dm i x nr same never = absurd (none-some nr same)
+unnamed_row Frmr i x nr same never = absurd (none-some nr same)
+
+-- a number that a station with a moment names is one that it names
+seen_names : (now : ℕ) (s : Station) (nr : ℕ) → (Names s nr → ⊥) → Names (sees now s) nr → ⊥
+seen_names now s nr never x = never (record { number = x.number; within = x.within; shown = x.shown })
+
+refused : (now : ℕ) (s : Station) (a : ℕ) (b : List ℕ) → is_down s.phase ≡ false → hears (Frame a b) (sees now s) ≡ refuses_frame (sees now s)
+    → receives now (Frame a b) s ≡ refuses_frame (sees now s)
+refused now s a b live is = heard_is now (Frame a b) s (puts Dm_sent (sees now s)) cause.FrameError live is
+
+pub error_refused : ControlIsTable → (now : ℕ) (s : Station) (a : ℕ) (b : List ℕ) → AreOctets b → IsFrameError s a b
+    → receives now (Frame a b) s ≡ refuses_frame (sees now s)
+error_refused law now s a b octets (HasUnknownControl takes_them at never) =
+    refused now s a b (errors_live s takes_them)
+    (ap (λ (t : Bool). if t then hears_control a (control_of (modulo s.extended) b) (sees now s) else strays (sees now s)) (is_known Either s.calling a at)
+    ∙ ap (λ (o : Option (Control × List ℕ)). hears_control a o (sees now s)) (reads_none law (modulo s.extended) b octets never)
+    ∙ errs_refuses now s takes_them)
+error_refused law now s a b octets (IsSelectiveReject nr i takes_them x) =
+    refused now s a b (errors_live s takes_them) (error_refuses law now s a b (Srej nr) i octets takes_them x refl)
+error_refused law now s a b octets (HasInformation c i takes_them x bare one) =
+    refused now s a b (errors_live s takes_them) (error_refuses law now s a b c i octets takes_them x (bare_error s.calling c i bare one))
+error_refused law now s a b octets (SetsUpCaller c i takes_them x set (inl calling)) =
+    refused now s a b (errors_live s takes_them) (error_refuses law now s a b c i octets takes_them x (set_up_error s.calling c i set calling))
+error_refused law now s a b octets (SetsUpCaller c i takes_them x set (inr setting)) =
+    refused now s a b (errors_live s takes_them) (setting_refuses law now s a b c i octets setting x set)
+error_refused law now s a b octets (SetsUpAgain c i up x set one) =
+    refused now s a b (ap is_down up) (up_refuses law now s a b c i octets up x (again_row c i (sees now s) set one))
+error_refused law now s a b octets (NamesNone c i nr up x has never) =
+    refused now s a b (ap is_down up) (up_refuses law now s a b c i octets up x (unnamed_row c i (sees now s) nr has (seen_names now s nr never)))
+
+-- ---- the peer ends the link
+
+-- a frame that is no error comes to the same row in Setting and in Up
+ends : ControlIsTable → (now : ℕ) (s y : Station) (a : ℕ) (b : List ℕ) (c : Control) (i : List ℕ) → AreOctets b → IsBegun s → Comes s a b c i
+    → is_error s.calling c i ≡ false
+    → row Setting (sees now s) c i ≡ releases cause.PeerDisconnected y → row Up (sees now s) c i ≡ releases cause.PeerDisconnected y
+    → receives now (Frame a b) s ≡ releases cause.PeerDisconnected y
+ends law now s y a b c i octets begun x isnt setting up =
+    heard_is now (Frame a b) s y cause.PeerDisconnected (begun_lives s begun)
+    (comes_to law now s a b c i octets x
+    ∙ ap (λ (t : Bool). if t then errs s.phase (sees now s) else row s.phase (sees now s) c i) isnt
+    ∙ elim begun [
+      | inl e ↦ ap (λ (p : Phase). row p (sees now s) c i) e ∙ setting
+      | inr e ↦ ap (λ (p : Phase). row p (sees now s) c i) e ∙ up
+    ])
+
+-- the station before its release: it answered
+abbrev pub answered : {s : Station} {a : ℕ} {b : List ℕ} → IsPeersEnd s a b → Station → Station
+answered (Disconnects poll begun x) y = agrees poll y
+answered (IsDisconnected begun x) y = y
+answered (RejectsFrame i begun x) y = y
+
+pub end_released : ControlIsTable → (now : ℕ) (s : Station) (a : ℕ) (b : List ℕ) → AreOctets b → (end : IsPeersEnd s a b)
+    → receives now (Frame a b) s ≡ releases cause.PeerDisconnected (answered end (sees now s))
+end_released law now s a b octets (Disconnects poll begun x) = ends law now s (agrees poll (sees now s)) a b (Disc poll) [] octets begun x refl refl refl
+end_released law now s a b octets (IsDisconnected begun x) = ends law now s (sees now s) a b Dm [] octets begun x refl refl refl
+end_released law now s a b octets (RejectsFrame i begun x) = ends law now s (sees now s) a b Frmr i octets begun x refl refl refl
+
+error_releases : ControlIsTable → (now : ℕ) (s : Station) (a : ℕ) (b : List ℕ) → AreOctets b → IsFrameError s a b
+    → IsReleasedFor cause.FrameError (receives now (Frame a b) s)
+error_releases law now s a b octets error =
+    released_by cause.FrameError (puts Dm_sent (sees now s)) (receives now (Frame a b) s) (error_refused law now s a b octets error)
+
+end_releases : ControlIsTable → (now : ℕ) (s : Station) (a : ℕ) (b : List ℕ) → AreOctets b → IsPeersEnd s a b
+    → IsReleasedFor cause.PeerDisconnected (receives now (Frame a b) s)
+end_releases law now s a b octets end =
+    released_by cause.PeerDisconnected (answered end (sees now s)) (receives now (Frame a b) s) (end_released law now s a b octets end)
+
+frame_releases : ControlIsTable → (now : ℕ) (s : Station) (why : Cause) (v : Verdict) → IsOfOctets v → FrameCause s v why → IsReleasedFor why (receives now v s)
+frame_releases law now s why v octets (IsError a b frame error is) =
+    subst (λ (w : Cause). IsReleasedFor w (receives now v s)) (sym is)
+    (subst (λ (w : Verdict). IsReleasedFor cause.FrameError (receives now w s)) (sym frame) (error_releases law now s a b (subst IsOfOctets frame octets) error))
+frame_releases law now s why v octets (IsByPeer a b frame end is) =
+    subst (λ (w : Cause). IsReleasedFor w (receives now v s)) (sym is)
+    (subst (λ (w : Verdict). IsReleasedFor cause.PeerDisconnected (receives now w s)) (sym frame) (end_releases law now s a b (subst IsOfOctets frame octets) end))
+
+-- ---- time
+
+gives_up_at : (now : ℕ) (s : Station) (p : Phase) (why : Cause) → s.phase ≡ p → is_down p ≡ false → IsExpired now s
+    → expires_at p (sees now s) ≡ gives_up why (sees now s) → ticks now s ≡ gives_up why (sees now s)
+gives_up_at now s p why phase live expired is =
+    ap (λ (b : Bool). if b then s else sends_waiting (expires_if_due (sees now s))) (ap is_down phase ∙ live)
+    ∙ ap (λ (b : Bool). sends_waiting (if b then expires (sees now s) else sees now s)) (late_is now s expired)
+    ∙ ap (λ (q : Phase). sends_waiting (expires_at q (sees now s))) phase
+    ∙ ap sends_waiting is
+    ∙ ends_as why (puts Disc_sent (sees now s))
+
+pub time_gives_up : (now : ℕ) (s : Station) (why : Cause) → TimeCause now s why → ticks now s ≡ gives_up why (sees now s)
+time_gives_up now s why (IsUnanswered phase many is) =
+    subst (λ (w : Cause). ticks now s ≡ gives_up w (sees now s)) (sym is)
+    (gives_up_at now s Setting cause.SetUpUnanswered phase refl many.0
+    (ap (λ (b : Bool). if b then gives_up cause.SetUpUnanswered (sees now s) else starts_timer (puts SetUp (counts_expiry (sees now s)))) (lt-ltb s.n2 (s.expiries + 1) many.1)))
+time_gives_up now s why (IsStuck phase many is) =
+    subst (λ (w : Cause). ticks now s ≡ gives_up w (sees now s)) (sym is)
+    (gives_up_at now s Up cause.NoProgress phase refl many.0
+    (ap (λ (b : Bool). if b then gives_up cause.NoProgress (sees now s) else starts_timer (sends_again (counts_expiry (sees now s)))) (lt-ltb s.n2 (s.expiries + 1) many.1)))
+
+time_releases : (now : ℕ) (s : Station) (why : Cause) → TimeCause now s why → IsReleasedFor why (ticks now s)
+time_releases now s why met = released_by why (puts Disc_sent (sees now s)) (ticks now s) (time_gives_up now s why met)
+
+pub cause_releases : ControlIsTable → CauseReleases
+cause_releases law now s why = (frame_releases law now s why, time_releases now s why)
+
+-- ---- the last frames
+
+answer_said : (s : Station) (a : ℕ) (b : List ℕ) (end : IsPeersEnd s a b) (y : Station) → (answered end y).said ≡ y.said ++ answer_to end
+answer_said s a b (Disconnects poll begun x) y = refl
+answer_said s a b (IsDisconnected begun x) y = sym (append-nil y.said)
+answer_said s a b (RejectsFrame i begun x) y = sym (append-nil y.said)
+
+closes_begun : (s : Station) → IsBegun s → (closes s).said ≡ s.said ++ Disc_sent ∷ []
+closes_begun s begun =
+    ap (λ (b : Bool). (if b then s else record (closes_at s.phase s) { phase = Down; timer = None }).said) (begun_lives s begun)
+    ∙ elim begun [
+      | inl e ↦ ap (λ (p : Phase). (closes_at p s).said) e
+      | inr e ↦ ap (λ (p : Phase). (closes_at p s).said) e
+    ]
+
+closes_quietly : (p : Phase) (s : Station) → s.phase ≡ p → (IsBegun s → ⊥) → (closes_at p s).said ≡ s.said
+closes_quietly Idle s e never = refl
+closes_quietly Setting s e never = absurd (never (inl e))
+closes_quietly Up s e never = absurd (never (inr e))
+closes_quietly Down s e never = refl
+
+closes_unbegun : (s : Station) → (IsBegun s → ⊥) → (closes s).said ≡ s.said
+closes_unbegun s never =
+    cond_both (is_down s.phase) s (record (closes_at s.phase s) { phase = Down; timer = None }) (λ t. t.said ≡ s.said) (λ e. refl)
+    (λ e. closes_quietly s.phase s refl never)
+
+pub last_frames : ControlIsTable → LastFrames
+last_frames law now s = (
+  λ a b octets error. ap (λ (t : Station). t.said) (error_refused law now s a b octets error),
+  λ a b octets end. ap (λ (t : Station). t.said) (end_released law now s a b octets end) ∙ answer_said s a b end (sees now s),
+  λ why met. ap (λ (t : Station). t.said) (time_gives_up now s why met),
+  closes_begun s,
+  closes_unbegun s,
+)

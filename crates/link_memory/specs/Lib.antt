@@ -1,0 +1,4 @@
+pub mod OutsideMemory
+pub mod Clocks
+pub mod WiresMemory
+pub mod KeptCalls

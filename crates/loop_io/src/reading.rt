@@ -1,0 +1,80 @@
+//! A session is read from, and what follows that.
+
+ghost use Rattle.std.specs.Prelude.{◌≡◌, ◌≢◌, ◌≤◌, ℕ, length, take, true, false};
+ghost use Rattle.link_trait.specs.Wires.{reading_of};
+ghost use Rattle.loop_model.specs.Visits.{came};
+ghost use Rattle.loop_session.specs.Keeping.{kept_ends};
+ghost use Rattle.loop_session.specs.Parts.{rules, Chooses};
+ghost use Rattle.loop_io.specs.Visiting.{read_by, VisitsOn, Keep};
+
+use crate::writing::rest;
+use er_users::SafeUser;
+use link_trait::{Conn, ReadAnswer, Sink, Wires};
+use loop_session::{LoopFault, Scratch, Session, When};
+use safety_automaton::KeyFinder;
+
+// The most octets that one read asks for.
+const MOST_READ: usize = 4_096;
+
+// The first octets of a slice.
+fn front(octets: &[u8], count: usize) -> &[u8]
+    requires { count ≤ length octets.now }
+    ensures { result.now ≡ take count octets.now }
+{
+    &octets[..count]
+}
+
+// Whether a read gave nothing yet.
+fn gave_nothing(answer: ReadAnswer) -> bool
+    ensures yes { result ≡ true → answer ≡ ReadAnswer.NotNow }
+    ensures no { result ≡ false → answer ≢ ReadAnswer.NotNow }
+{
+    matches!(answer, ReadAnswer::NotNow)
+}
+
+// What comes of a read, by its answer: octets are given to the end, an end of the line and a fault are events.
+fn take_in<U: SafeUser, K: KeyFinder, S: Sink>(
+    session: &mut Session<U>,
+    answer: ReadAnswer,
+    octets: &[u8],
+    keys: &K,
+    when: &When,
+    scratch: &mut Scratch,
+    sink: &mut S,
+) -> Result<(), LoopFault>
+    requires octets { length octets.now ≤ 4096 }
+    requires fits { (n : ℕ) → answer ≡ ReadAnswer.Some n → (1 ≤ n) × (n ≤ length octets.now) }
+    ensures chooses { Chooses (S.state sink.old) (S.state sink.new) session.new
+        (came kept_ends (reading_of answer octets.now) (rules (K.entries keys.now) when.now.setup) when.now.moment session.old) result }
+    ensures number { session.new.number ≡ session.old.number }
+    ensures later { (S.state sink.old).faults ≤ (S.state sink.new).faults }
+{
+    match answer {
+        ReadAnswer::Some(count) => session.pour(front(octets, count), keys, when, scratch, sink),
+        ReadAnswer::End => session.ended(when, scratch, sink),
+        ReadAnswer::Failed => session.fault(when, scratch, sink),
+        ReadAnswer::NotNow => Ok(()),
+    }
+}
+
+/// One read, and what follows it. Whether the session stays.
+pub(crate) fn read<U: SafeUser, K: KeyFinder, W: Wires, S: Sink>(
+    session: &mut Session<U>,
+    keys: &K,
+    when: &When,
+    scratch: &mut Scratch,
+    wires: &mut W,
+    sink: &mut S,
+) -> Result<bool, LoopFault>
+    ensures does { VisitsOn S.Sink W.Wires sink.old sink.new wires.old wires.new session.new (read_by (K.entries keys.now) when.now session.old) result }
+    ensures number { session.new.number ≡ session.old.number }
+    ensures keep { Keep S.Sink W.Wires sink.old sink.new wires.old wires.new }
+{
+    let mut octets = [0; MOST_READ];
+    let answer = wires.read(Conn(session.number()), &mut octets);
+    take_in(session, answer, &octets, keys, when, scratch, sink)?;
+    if gave_nothing(answer) {
+        return Ok(true);
+    }
+    rest(session, when, scratch, wires, sink)
+}

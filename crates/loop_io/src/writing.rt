@@ -1,0 +1,108 @@
+//! The output of a session is written, and what follows that.
+
+ghost use Rattle.std.specs.Prelude.{◌≡◌, ◌||◌, ◌&&◌, ◌==◌, List, length};
+ghost use Rattle.safety_automaton.specs.Keys as keys;
+ghost use Rattle.loop_model.specs.Sessions.{is_released};
+ghost use Rattle.loop_session.specs.Keeping.{kept_ends};
+ghost use Rattle.loop_io.specs.Visiting.{writing_by, rest_by, DoesOn, VisitsOn, Stay, Keep};
+ghost use Rattle.loop_io.specs.Writing.{Wrote, Settles};
+
+use er_users::SafeUser;
+use link_trait::{Conn, Sink, Wires, WriteAnswer};
+use loop_session::{LoopFault, Scratch, Session, When};
+
+// How a writing went.
+enum Flow {
+    // Nothing waits any more.
+    Going,
+    // There is no room.
+    PutOff,
+    // A write failed.
+    Failing,
+}
+
+// The output is written until nothing waits, or there is no room, or a write fails.
+#[tactic(auto, using(crate::proofs::Writings::wrote_none, crate::proofs::Writings::wrote_more, crate::proofs::Writings::wrote_all))]
+fn write_all<U: SafeUser, W: Wires>(session: &mut Session<U>, wires: &mut W) -> Flow
+    ensures wrote { Wrote (W.state wires.old) (W.state wires.new) session.old session.new result }
+    ensures number { session.new.number ≡ session.old.number }
+    ensures stay { Stay W.Wires wires.old wires.new }
+{
+    while !session.output().is_empty() {
+        match wires.write(Conn(session.number()), session.output()) {
+            WriteAnswer::Some(count) => session.wrote(count),
+            WriteAnswer::NotNow => return Flow::PutOff,
+            WriteAnswer::Failed => return Flow::Failing,
+        }
+    }
+    Flow::Going
+}
+
+// The output is written, where the session didn't break off. A write that fails is the event `fault`, but for a session that is released.
+fn write_out<U: SafeUser, W: Wires, S: Sink>(
+    session: &mut Session<U>,
+    when: &When,
+    scratch: &mut Scratch,
+    wires: &mut W,
+    sink: &mut S,
+) -> Result<(), LoopFault>
+    ensures does { (entries : List keys.Entry) → DoesOn S.Sink W.Wires sink.old sink.new wires.old wires.new session.new (writing_by entries when.now session.old) result }
+    ensures number { session.new.number ≡ session.old.number }
+    ensures keep { Keep S.Sink W.Wires sink.old sink.new wires.old wires.new }
+{
+    if session.is_broken() {
+        return Ok(());
+    }
+    match write_all(session, wires) {
+        Flow::Going => Ok(()),
+        Flow::PutOff => Ok(()),
+        Flow::Failing => {
+            if session.is_released() {
+                session.break_off();
+                return Ok(());
+            }
+            session.fault(when, scratch, sink)
+        }
+    }
+}
+
+// Whether a session stays: it is closed as soon as it broke off, or once it is released and nothing waits.
+fn settle<U: SafeUser, W: Wires>(session: &Session<U>, wires: &mut W) -> bool
+    ensures settles { Settles (W.state wires.old) (W.state wires.new) session.now result }
+    ensures stay { Stay W.Wires wires.old wires.new }
+{
+    if is_done(session) {
+        wires.close(Conn(session.number()));
+        return false;
+    }
+    true
+}
+
+// Whether the connection of a session is to be closed at once.
+fn is_done<U: SafeUser>(session: &Session<U>) -> bool
+    ensures { result ≡ (session.now.broken || (is_released kept_ends session.now && (length session.now.output == 0))) }
+{
+    if session.is_broken() {
+        return true;
+    }
+    if !session.is_released() {
+        return false;
+    }
+    session.output().is_empty()
+}
+
+/// What follows the events of a happening: the output is written, and the session is closed where it is to be. Whether it stays.
+pub(crate) fn rest<U: SafeUser, W: Wires, S: Sink>(
+    session: &mut Session<U>,
+    when: &When,
+    scratch: &mut Scratch,
+    wires: &mut W,
+    sink: &mut S,
+) -> Result<bool, LoopFault>
+    ensures does { (entries : List keys.Entry) → VisitsOn S.Sink W.Wires sink.old sink.new wires.old wires.new session.new (rest_by entries when.now session.old) result }
+    ensures number { session.new.number ≡ session.old.number }
+    ensures keep { Keep S.Sink W.Wires sink.old sink.new wires.old wires.new }
+{
+    write_out(session, when, scratch, wires, sink)?;
+    Ok(settle(session, wires))
+}

@@ -1,7 +1,0 @@
--- The level stays.
-use Rattle.std.specs.Prelude.{◌≡◌}
-use Rattle.er_scenario.specs.declared.level.Level.TheVariants as level
-use Rattle.program_tests.proofs.worlds.printed.Given as goal
-
-abbrev pub invariant-loop-link : goal.invariant-loop-link
-invariant-loop-link l = l.world.plan.level ≡ level.Safe

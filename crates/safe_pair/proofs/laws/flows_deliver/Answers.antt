@@ -1,5 +1,0 @@
-use Rattle.safe_pair.proofs.SetUp.{flows_deliver}
-use Rattle.safe_pair.proofs.laws.flows_deliver.Goals as goal
-
-pub returns : goal.returns
-returns c = flows_deliver c.steps.ensures.each c.mac_below.ensures c.spelled_is_read.ensures

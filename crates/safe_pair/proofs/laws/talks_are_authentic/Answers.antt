@@ -1,5 +1,0 @@
-use Rattle.safe_pair.proofs.Talking.{talks_are_authentic}
-use Rattle.safe_pair.proofs.laws.talks_are_authentic.Goals as goal
-
-pub returns : goal.returns
-returns c = talks_are_authentic c.steps.ensures.only c.texts_tell.ensures

@@ -1,5 +1,0 @@
-use Rattle.station_model.proofs.Gives.{receives_give}
-use Rattle.station_model.proofs.laws.receives_give.Goals as goal
-
-pub returns : goal.returns
-returns c = receives_give

@@ -1,5 +1,0 @@
-use Rattle.station_model.proofs.Gives.{inert}
-use Rattle.station_model.proofs.laws.released_are_inert.Goals as goal
-
-pub returns : goal.returns
-returns c = inert

@@ -1,5 +1,0 @@
-use Rattle.station_model.proofs.Gives.{ticks_give}
-use Rattle.station_model.proofs.laws.ticks_give.Goals as goal
-
-pub returns : goal.returns
-returns c = ticks_give

@@ -1,5 +1,0 @@
-use Rattle.station_model.proofs.Timing.{timers_stop}
-use Rattle.station_model.proofs.laws.timers_stop.Goals as goal
-
-pub returns : goal.returns
-returns c = timers_stop

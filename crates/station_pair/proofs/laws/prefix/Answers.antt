@@ -1,5 +1,0 @@
-use Rattle.station_pair.proofs.Runs.{prefix}
-use Rattle.station_pair.proofs.laws.prefix.Goals as goal
-
-pub returns : goal.returns
-returns c = prefix (record { back = c.control_reads_back.ensures; parts = c.flag_parts.ensures; alone = c.frame_alone.ensures })

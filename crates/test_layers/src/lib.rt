@@ -1,0 +1,39 @@
+//! Tests of the layers by their public calls: vectors of other implementations, worked rows, calls that may want memory with their answers.
+//!
+//! They stand here, and not in the crates that they test, since a crate with tests is proved twice. The crate has no item but its tests.
+#![tactic(auto)]
+
+#[cfg(test)]
+mod base;
+#[cfg(test)]
+mod base_line;
+#[cfg(test)]
+mod block;
+#[cfg(test)]
+mod ends;
+#[cfg(test)]
+mod frames;
+#[cfg(test)]
+mod key_files;
+#[cfg(test)]
+mod outside_objects;
+#[cfg(test)]
+mod outside_wires;
+#[cfg(test)]
+mod queues;
+#[cfg(test)]
+mod safety;
+#[cfg(test)]
+mod sapdus;
+#[cfg(test)]
+mod scenarios;
+#[cfg(test)]
+mod selective_stations;
+#[cfg(test)]
+mod station_words;
+#[cfg(test)]
+mod stations;
+#[cfg(test)]
+mod tpdus;
+#[cfg(test)]
+mod traces;

@@ -1,6 +1,0 @@
--- The caller's deed says that the connection is made.
-use Rattle.std.proofs.Common.{rules}
-use Rattle.transport_rate.proofs.sides.Sides.new.Goals as goal
-
-pub invariant_of-result-clause-made : goal.invariant_of-result-clause-made
-invariant_of-result-clause-made c = λ e. search rules
