@@ -10,3 +10,5 @@ pub mod Begun
 pub mod SolidWords
 pub mod PrintedLines
 pub mod PrintedArguments
+pub mod HexDigits
+pub mod ShortDecimals

@@ -5,6 +5,7 @@ ghost use Rattle.std.specs.Str.{bytes_eq};
 ghost use Rattle.er_base.specs.Hexadecimal.{octets_spelled, hex_of, AppendsSpelled};
 ghost use Rattle.er_base.specs.declared.hexadecimal.HexFault.TheVariants as fault;
 
+use crate::digits::put_digits;
 use crate::no_memory::NoMemory;
 
 /// Why a word gave no octets.
@@ -103,7 +104,11 @@ pub fn hex_word(octets: &[u8], out: &mut Vec<u8>) -> Result<(), NoMemory>
         return Ok(());
     }
     let before = out.len();
-    put_zeros(octets.len() * 2, out)?;
-    hex::encode_to_slice(octets, &mut out[before..]).unwrap();
-    Ok(())
+    match put_digits(octets, out) {
+        Ok(()) => Ok(()),
+        Err(want) => {
+            out.truncate(before);
+            Err(want)
+        }
+    }
 }

@@ -9,6 +9,7 @@
 mod arguments;
 mod cause;
 mod cursor;
+mod digits;
 mod etcs_number;
 mod hexadecimal;
 pub mod laws;

@@ -20,11 +20,13 @@ pub enum PrintedWord<'a> {
 }
 
 // Appends a word.
+#[inline(always)]
 fn put_word(word: &PrintedWord<'_>, out: &mut Vec<u8>) -> Result<(), NoMemory>
     ensures ok { OnOk result (out.new.items ≡ out.old.items ++ word_printed word.now) }
     ensures err { OnErr result (out.new.items ≡ out.old.items) }
 {
     match word {
+        PrintedWord::Plain([octet]) => Ok(out.push(*octet)?),
         PrintedWord::Plain(word) => Ok(out.extend_from_slice(word)?),
         PrintedWord::Decimal(number) => decimal_word(*number, out),
         PrintedWord::Hexadecimal(octets) => hex_word(octets, out),

@@ -1,21 +1,54 @@
 //! What is heard between the flags of each connection's octets, counted for people.
 
+use crate::digits::read_octets;
 use er_base::NoMemory;
+use hdlc_fcs::{LONGEST, SHORTEST, is_intact};
 use hdlc_frames::{Deframer, Found};
+use memchr::{memchr, memchr2};
 use readiness_loop::MOST_LIVE;
 use std::alloc::Global;
 
 // The most octets of one line of a recording.
 const MOST_OCTETS: usize = 4_096;
 
-/// The deframers of the live connections, and how many frames and how many other things stood between flags.
+// The octet that bounds frames, and the one that says that the next is escaped (ISO/IEC 13239).
+const FLAG: u8 = 0x7e;
+
+const ESCAPE: u8 = 0x7d;
+
+// Where the octets that a connection got end.
+#[derive(Clone, Copy, PartialEq, Eq)]
+enum Stand {
+    // No flag came.
+    Unbegun,
+    // With a flag.
+    Flag,
+    // Within what no flag closed yet, which the deframer of the connection keeps.
+    Within,
+}
+
+// A live connection.
+#[derive(Clone, Copy)]
+struct Ear {
+    conn: u64,
+    stand: Stand,
+    // Which deframer it has, if it ever needed one.
+    deframer: Option<usize>,
+}
+
+/// The live connections, and how many frames and how many other things stood between flags.
+///
+/// Mostly a frame comes whole, with its flags, and is judged where it lies. A connection gets a deframer once a read cuts a frame.
 #[derive(Drop)]
 pub(crate) struct Ears {
-    // The live connections, and at the same place the deframer of each.
-    conns: Vec<u64>,
-    deframers: Vec<Deframer>,
+    ears: Vec<Ear>,
     // Where the newest octets were heard.
     newest: usize,
+    // The deframer of frames that come whole, and have escapes.
+    whole: Deframer,
+    // Those of connections, and which of them have no connection any more.
+    deframers: Vec<Deframer>,
+    spare: Vec<usize>,
     // Room for the octets of a line.
     octets: Vec<u8>,
     pub(crate) frames: u64,
@@ -26,9 +59,11 @@ impl Ears {
     /// No connection yet. Later calls take no memory.
     pub(crate) fn new(alloc: Global) -> Result<Ears, NoMemory> {
         Ok(Ears {
-            conns: Vec::with_capacity(alloc, MOST_LIVE)?,
-            deframers: Vec::with_capacity(alloc, MOST_LIVE)?,
+            ears: Vec::with_capacity(alloc, MOST_LIVE)?,
             newest: 0,
+            whole: Deframer::new(),
+            deframers: Vec::with_capacity(alloc, MOST_LIVE)?,
+            spare: Vec::with_capacity(alloc, MOST_LIVE)?,
             octets: vec![in alloc; 0; MOST_OCTETS]?,
             frames: 0,
             bad: 0,
@@ -37,69 +72,162 @@ impl Ears {
 
     /// A connection begins.
     pub(crate) fn open(&mut self, conn: u64) {
-        if self.conns.len() < MOST_LIVE && self.deframers.len() < MOST_LIVE {
+        if self.ears.len() < MOST_LIVE {
+            let ear = Ear {
+                conn,
+                stand: Stand::Unbegun,
+                deframer: None,
+            };
             // The room was reserved.
-            let _room = self.conns.push(conn);
-            let _room = self.deframers.push(Deframer::new());
+            let _room = self.ears.push(ear);
         }
     }
 
     /// A connection ended.
     pub(crate) fn close(&mut self, conn: u64) {
-        if let Some(place) = self.place_of(conn) {
-            if place < self.conns.len() && place < self.deframers.len() {
-                let _closed = self.conns.swap_remove(place);
-                let _closed = self.deframers.swap_remove(place);
+        let Some(place) = self.place_of(conn) else {
+            return;
+        };
+        if place < self.ears.len() {
+            let ear = self.ears.swap_remove(place);
+            if let (Some(deframer), true) = (ear.deframer, self.spare.len() < MOST_LIVE) {
+                // The room was reserved.
+                let _room = self.spare.push(deframer);
             }
         }
     }
 
-    /// A connection got these octets, in hexadecimal as the program itself prints them.
-    pub(crate) fn hear(&mut self, conn: u64, word: &[u8]) {
-        let Some(place) = self.place_of(conn) else {
-            return;
-        };
-        self.newest = place;
-        for (octet, digits) in self.octets.iter_mut().zip(word.chunks_exact(2)) {
-            *octet = octet_of(digits);
+    /// A connection got the octets of these digits, which go up to LF: how many octets they are.
+    pub(crate) fn hear(&mut self, conn: u64, digits: &[u8]) -> usize {
+        let count = read_octets(digits, self.octets.as_mut_slice());
+        if let Some(place) = self.place_of(conn) {
+            self.newest = place;
+            self.judge(place, count);
         }
-        let (Some(octets), Some(deframer)) = (
-            self.octets.get(..word.len() / 2),
-            self.deframers.get_mut(place),
-        ) else {
+        count
+    }
+
+    // So many octets came at the connection at this place.
+    fn judge(&mut self, place: usize, count: usize) {
+        let (Some(octets), Some(ear)) = (self.octets.get(..count), self.ears.get_mut(place)) else {
             return;
         };
-        let mut rest = octets;
-        // A call that finds something uses an octet at least.
-        for _ in 0..rest.len() {
-            let (used, found) = deframer.feed(rest);
-            match found {
-                Some(Found::Frame(_)) => self.frames = self.frames.saturating_add(1),
-                Some(_) => self.bad = self.bad.saturating_add(1),
-                None => break,
+        let octets = match ear.stand {
+            Stand::Unbegun => from_flag(octets),
+            Stand::Flag | Stand::Within => octets,
+        };
+        let Some(last) = octets.last() else {
+            return;
+        };
+        let closes = *last == FLAG;
+        let heard = if closes && ear.stand != Stand::Within {
+            in_whole(octets, &mut self.whole)
+        } else {
+            let own = own_deframer(&mut ear.deframer, &mut self.deframers, &mut self.spare);
+            let Some(deframer) = self.deframers.get_mut(own) else {
+                return;
+            };
+            if ear.stand != Stand::Within {
+                begin(deframer);
             }
-            rest = &rest[used..];
-        }
+            in_part(octets, deframer)
+        };
+        ear.stand = if closes { Stand::Flag } else { Stand::Within };
+        self.frames = self.frames.saturating_add(heard.frames);
+        self.bad = self.bad.saturating_add(heard.bad);
     }
 
     // Where a connection stands: mostly where octets were heard before.
     fn place_of(&self, conn: u64) -> Option<usize> {
-        if self.conns.get(self.newest) == Some(&conn) {
-            return Some(self.newest);
+        if let Some(ear) = self.ears.get(self.newest) {
+            if ear.conn == conn {
+                return Some(self.newest);
+            }
         }
-        self.conns.iter().position(|known| *known == conn)
+        self.ears.iter().position(|ear| ear.conn == conn)
     }
 }
 
-// The octet of two digits.
-fn octet_of(digits: &[u8]) -> u8 {
-    match digits {
-        [high, low] => value_of(*high) << 4 | value_of(*low),
-        _ => 0,
+// How many frames, and how many other things between flags.
+#[derive(Drop)]
+struct Heard {
+    frames: u64,
+    bad: u64,
+}
+
+// The octets from the first flag on.
+fn from_flag(octets: &[u8]) -> &[u8] {
+    match memchr(FLAG, octets) {
+        Some(flag) => octets.get(flag..).unwrap_or(&[]),
+        None => &[],
     }
 }
 
-// The value of a digit, `0` to `9` or `a` to `f`: the latter have bit 6, and from 1 on in their lower half.
-fn value_of(digit: u8) -> u8 {
-    (digit & 15).wrapping_add((digit >> 6).wrapping_mul(9))
+// What stands in octets behind a flag of which the last is one: mostly one frame without escapes.
+fn in_whole(octets: &[u8], deframer: &mut Deframer) -> Heard {
+    let rest = octets.strip_prefix(&[FLAG]).unwrap_or(octets);
+    match memchr2(FLAG, ESCAPE, rest) {
+        Some(end) if end > 0 && end.saturating_add(1) == rest.len() => {
+            let is_frame = is_frame(rest.get(..end).unwrap_or(&[]));
+            Heard {
+                frames: u64::from(is_frame),
+                bad: u64::from(!is_frame),
+            }
+        }
+        _ => {
+            begin(deframer);
+            in_part(octets, deframer)
+        }
+    }
+}
+
+// Whether content without escapes is that of a frame.
+fn is_frame(content: &[u8]) -> bool {
+    content.len() >= SHORTEST && content.len() <= LONGEST && is_intact(content)
+}
+
+// A deframer begins anew, behind a flag.
+fn begin(deframer: &mut Deframer) {
+    let _closed = deframer.feed(&[FLAG]);
+}
+
+// What stands between flags in the next octets.
+fn in_part(octets: &[u8], deframer: &mut Deframer) -> Heard {
+    let mut heard = Heard { frames: 0, bad: 0 };
+    let mut rest = octets;
+    // A call that finds something uses an octet at least.
+    for _ in 0..octets.len() {
+        let (used, found) = deframer.feed(rest);
+        match found {
+            Some(Found::Frame(_)) => heard.frames = heard.frames.saturating_add(1),
+            Some(_) => heard.bad = heard.bad.saturating_add(1),
+            None => break,
+        }
+        rest = &rest[used..];
+    }
+    heard
+}
+
+// The deframer of a connection: its own, one that no connection has any more, or one more.
+fn own_deframer(
+    own: &mut Option<usize>,
+    deframers: &mut Vec<Deframer>,
+    spare: &mut Vec<usize>,
+) -> usize {
+    if let Some(own) = *own {
+        return own;
+    }
+    let next = match spare.pop() {
+        Some(spare) => spare,
+        None => {
+            let next = deframers.len();
+            if next < MOST_LIVE {
+                // The room was reserved.
+                let _room = deframers.push(Deframer::new());
+            }
+            next
+        }
+    };
+    *own = Some(next);
+    next
 }

@@ -2,6 +2,7 @@
 #![tactic(auto)]
 
 mod counting_sink;
+mod digits;
 mod ears;
 mod objects;
 mod streams;
@@ -23,11 +24,15 @@ use er_users::{Echo, SafeUser};
 use mio_wires::MioWires;
 use rand::make_rng;
 use rand_chacha::ChaCha20Rng;
+use std::alloc::Global;
 use std::process::ExitCode;
 use std::{env, io};
 
 // The connections that `serve` serves in its life, one user each.
 const MOST_SERVED: usize = 65_536;
+
+// A page less than the largest block from whose end glibc learns.
+const LARGEST_BLOCK: usize = 33_550_336;
 
 // How long the end of `serve` or `call` waits for peers to close, in milliseconds.
 const MOST_LINGER: u64 = 2_000;
@@ -75,6 +80,15 @@ fn on_line<K: Sink>(
     Some(status)
 }
 
+// Has the C library keep the memory of connections that closed for those that come. glibc gives back to the system what is free at the end of
+// its heap, above 128 KiB at first, and takes it from there again, a page fault for each page. Once a block that it had from the system by
+// itself is let go, it keeps twice as much as that had. The block is never written to, so it costs no memory; without it all works as well.
+fn keep_memory(alloc: Global) {
+    if let Ok(block) = Vec::<u8>::with_capacity(alloc, LARGEST_BLOCK) {
+        drop(block);
+    }
+}
+
 // `serve`: the users of a radio block centre say every message back. (Users are made where they are handed to the run: a function that gave them
 // to its caller could promise nothing of them.)
 fn serve<K: Sink>(
@@ -83,6 +97,7 @@ fn serve<K: Sink>(
     sink: &mut K,
 ) -> Result<Option<Status>, NoMemory> {
     let alloc = rt.alloc();
+    keep_memory(alloc);
     let mut users: Vec<Box<dyn SafeUser>> = Vec::with_capacity(alloc, MOST_SERVED)?;
     for _ in 0..MOST_SERVED {
         let user: Box<dyn SafeUser> = Box::new(alloc, Echo::new())?;

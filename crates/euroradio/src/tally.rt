@@ -2,11 +2,14 @@
 
 use crate::ears::Ears;
 use er_base::{NoMemory, decimal, next_word};
-use memchr::{memchr, memchr_iter};
+use memchr::memchr;
 use std::alloc::Global;
 
 // The most releases of different reasons that are counted apart.
 const MOST_REASONS: usize = 64;
+
+// The most outcomes of one event.
+const MOST_OUTCOMES: usize = 4;
 
 /// A release, with its reason and sub-reason, by the own side or by the peer.
 #[derive(Clone, Copy, PartialEq, Eq)]
@@ -41,6 +44,8 @@ pub(crate) struct Tally {
     pub(crate) newest: Option<Release>,
     /// What was heard between flags.
     pub(crate) ears: Ears,
+    // How many digits the newest moment has.
+    digits: usize,
 }
 
 impl Tally {
@@ -56,35 +61,38 @@ impl Tally {
             releases: Vec::with_capacity(alloc, MOST_REASONS)?,
             newest: None,
             ears: Ears::new(alloc)?,
+            digits: 0,
         })
     }
 
-    /// Counts what the lines of a piece tell. A piece is whole lines, as the program prints them: with one space between words.
+    /// Counts what a piece tells: the line of an event, and behind it those of its outcomes, as the program prints them.
     pub(crate) fn hear(&mut self, piece: &[u8]) {
-        let mut from = 0_usize;
-        for end in memchr_iter(b'\n', piece) {
-            self.line(piece.get(from..end).unwrap_or(&[]));
-            from = end.saturating_add(1);
+        if let [b'>', b' ', words @ ..] = piece {
+            let words = self.behind_moment(words);
+            let (conn, digits) = number(words);
+            let lines = self.event(conn, behind(words, digits));
+            self.outcomes(conn, digits, lines);
         }
     }
 
-    fn line(&mut self, line: &[u8]) {
-        match line.split_at_checked(2) {
-            Some((b"> ", words)) => self.event(words),
-            Some((b"< ", words)) => self.outcome(words),
-            _ => {}
+    // What stands behind the moment and its space. Moments don't fall, so they don't get shorter: a space where one stood behind an earlier
+    // moment is the first.
+    fn behind_moment<'a>(&mut self, words: &'a [u8]) -> &'a [u8] {
+        if words.get(self.digits) != Some(&b' ') {
+            self.digits = memchr(b' ', words).unwrap_or(0);
         }
+        behind(words, self.digits)
     }
 
-    // An event: its moment, its connection and what it is.
-    fn event(&mut self, words: &[u8]) {
-        let (conn, rest) = number(behind_word(words));
+    // The words of an event behind its connection, and the lines of its outcomes: these lines.
+    fn event<'a>(&mut self, conn: u64, words: &'a [u8]) -> &'a [u8] {
         // Most are of this kind.
-        if let Some((b"octets ", digits)) = rest.split_at_checked(7) {
-            self.ears.hear(conn, digits);
-            return;
+        if let [b'o', b'c', b't', b'e', b't', b's', b' ', digits @ ..] = words {
+            let octets = self.ears.hear(conn, digits);
+            return behind(digits, octets.saturating_mul(2));
         }
-        match next_word(rest) {
+        let (line, lines) = first_line(words);
+        match next_word(line) {
             Some((b"call" | b"answer", _)) => {
                 self.connections = self.connections.saturating_add(1);
                 self.ears.open(conn);
@@ -95,16 +103,30 @@ impl Tally {
             Some((b"send", _)) => self.said = self.said.saturating_add(1),
             _ => {}
         }
+        lines
     }
 
-    // An outcome: its connection and what it is.
-    fn outcome(&mut self, words: &[u8]) {
-        let (conn, rest) = number(words);
-        // Most are of this kind.
-        if let Some((b"octets ", _)) = rest.split_at_checked(7) {
-            return;
+    // The lines of outcomes at a connection, whose number has so many digits.
+    fn outcomes(&mut self, conn: u64, digits: usize, lines: &[u8]) {
+        let mut rest = lines;
+        for _ in 0..MOST_OUTCOMES {
+            let [b'<', b' ', words @ ..] = rest else {
+                return;
+            };
+            let words = behind(words, digits);
+            // The octets that go to the line are the last outcome.
+            if let [b'o', b'c', ..] = words {
+                return;
+            }
+            let (line, lines) = first_line(words);
+            self.outcome(conn, line);
+            rest = lines;
         }
-        match next_word(rest) {
+    }
+
+    // An outcome, behind its connection.
+    fn outcome(&mut self, conn: u64, words: &[u8]) {
+        match next_word(words) {
             Some((b"connected", _)) => self.connected = self.connected.saturating_add(1),
             Some((b"accepted", _)) => self.accepted = self.accepted.saturating_add(1),
             Some((b"refused", _)) => self.refused = self.refused.saturating_add(1),
@@ -146,22 +168,27 @@ impl Tally {
     }
 }
 
-// What stands behind the first word and its space.
-fn behind_word(words: &[u8]) -> &[u8] {
-    match memchr(b' ', words) {
-        Some(place) => words.get(place.saturating_add(1)..).unwrap_or(&[]),
-        None => &[],
+// What stands behind so many octets and one more.
+fn behind(words: &[u8], count: usize) -> &[u8] {
+    words.get(count.saturating_add(1)..).unwrap_or(&[])
+}
+
+// The first line, and the others.
+fn first_line(lines: &[u8]) -> (&[u8], &[u8]) {
+    match memchr(b'\n', lines) {
+        Some(end) => (lines.get(..end).unwrap_or(&[]), behind(lines, end)),
+        None => (lines, &[]),
     }
 }
 
-// The number that is the first word, and what stands behind that word and its space.
-fn number(words: &[u8]) -> (u64, &[u8]) {
+// The number that is the first word, and how many digits it has.
+fn number(words: &[u8]) -> (u64, usize) {
     let mut number = 0_u64;
     for (place, octet) in words.iter().enumerate() {
         if *octet == b' ' {
-            return (number, words.get(place.saturating_add(1)..).unwrap_or(&[]));
+            return (number, place);
         }
         number = number.wrapping_mul(10).wrapping_add(u64::from(*octet & 15));
     }
-    (number, &[])
+    (number, words.len())
 }
