@@ -18,6 +18,9 @@ KEYS = f'version = 1\n\n[[key]]\nengine = 5\nrbc = 9\nkmac = "{KMAC}"\n'
 REPORTS = [f"position-report-{n:08}" for n in (1, 2, 3)]
 passed = failed = 0
 
+# A script that was begun in the background of a shell inherits that interrupts are ignored, and so would its servers.
+signal.signal(signal.SIGINT, signal.default_int_handler)
+
 
 def check(holds, what):
     global passed, failed
