@@ -1,22 +1,18 @@
 -- The calls of a station of either kind, by those of its kind.
-use Rattle.std.proofs.Common.{◌≡◌, ℕ, ◌*◌, ◌≤◌, Bool, true, false, List, [], ◌∷◌, ◌++◌, map, Option, refl, sym, ap, ◌∙◌, append_assoc, arith}
+use Rattle.std.proofs.Common.{◌≡◌, ℕ, Bool, true, false, List, [], ◌∷◌, ◌++◌, map, refl, sym, ap, ◌∙◌, append_assoc}
 use Rattle.er_base.specs.Stored.{Stored}
-use Rattle.er_base.specs.declared.release.Release.{Release}
 use Rattle.hdlc_station_model.specs.Stations.{Station, Deed, no_deed}
-use Rattle.hdlc_station_model.specs.Selective.{receives_as}
-use Rattle.hdlc_station_model.specs.Calls.{receives}
-use Rattle.hdlc_station_model.specs.Selective.{selective_receives}
+use Rattle.hdlc_station_model.specs.Selective.{receives_as, selective_receives}
+use Rattle.hdlc_station_model.specs.Calls.{receives, finishes}
 use Rattle.hdlc_frames.specs.Framing.{Verdict}
-use Rattle.hdlc_balanced.specs.Kept.{Kept, kept_of, texts, Stands, Follows, Tells, Shown, Within}
+use Rattle.hdlc_balanced.specs.Kept.{Kept, kept_of, texts, Stands, Follows, Tells, Shown}
 use Rattle.hdlc_selective.specs.Kept.{SelectiveKept, SelectiveStands, SelectiveFollows, SelectiveTells}
-use Rattle.hdlc_selective.specs.declared.deeds.SelectiveDeed.{SelectiveDeed}
-use Rattle.hdlc_selective.specs.Places.{lent}
-use Rattle.hdlc_selective.specs.Told.{first_of, rest_of, deed_of}
+use Rattle.hdlc_selective.specs.Told.{first_of, rest_of}
 use Rattle.drill_ends.specs.declared.told.Told.{Told}
 use Rattle.drill_ends.specs.declared.told.Told.TheVariants as told
 use Rattle.drill_ends.specs.declared.either_station.EitherStation.TheVariants as either
-use Rattle.drill_ends.specs.EitherStations.{ShownOf, StandsInCall, Does, Says, Wrote}
-use Rattle.drill_ends.specs.StationEnds.{told_up, told_arrived, told_payloads, told_released, told_deed, Heard, BackHeard, SelectiveHeard}
+use Rattle.drill_ends.specs.EitherStations.{ShownOf, StandsInCall, Does, Says}
+use Rattle.drill_ends.specs.StationEnds.{told_up, told_arrived, told_payloads, told_released, told_deed}
 
 -- ---- within a call
 
@@ -94,30 +90,27 @@ pub shown_selective : (k : SelectiveKept) (P : Station → Type 0) → Shown k.c
 shown_selective k P f true s h = f s h.core
 shown_selective k P f false s h = absurd h
 
--- ---- a frame that comes
+-- ---- a frame that comes, and the answer that is owed
 
-module _ (now : ℕ) (verdict : Verdict) (out out' : Stored) (before after : List Told) (released : Option Release) where
-  pub heard_back : (old new : Kept)
-      → ((s : Station) (text : List ℕ) → Stands old text out no_deed s → BackHeard new text out' before after released (receives now verdict s))
-      → (selective : Bool) (s : Station) (text : List ℕ) → StandsInCall (either.GoBack old) selective text out no_deed s
-      → Heard (either.GoBack new) selective text out' before after released (receives_as selective now verdict s)
-  heard_back old new f true s text h = absurd h.keeps
-  heard_back old new f false s text h =
-      let g = f s text (to_back text out no_deed s old h) in
-      record { stands = from_back text out' (receives now verdict s).deed (receives now verdict s) new g.stands; tells = g.tells }
+module _ (moment : ℕ) (verdict : Verdict) where
+  pub heard_back : (old mid new : Kept) (room came out : Stored) (d : Deed) → Tells old room mid came d (receives moment verdict) → Follows mid came new out finishes
+      → (selective : Bool) (s : Station) → StandsInCall (either.GoBack old) selective [] room no_deed s
+      → StandsInCall (either.GoBack new) selective [] out d (finishes (receives_as selective moment verdict s))
+  heard_back old mid new room came out d tells follows true s h = absurd h.keeps
+  heard_back old mid new room came out d tells follows false s h =
+      let t : Station = receives moment verdict s in
+      does_back mid new came out finishes follows false t [] d (says_back old mid room came d (receives moment verdict) tells false s [] h)
 
-  pub heard_selective : (old new : SelectiveKept)
-      → ((s : Station) (text : List ℕ) → SelectiveStands old.core old.places text out no_deed s
-      → SelectiveHeard new text out' before after released (selective_receives now verdict s))
-      → (selective : Bool) (s : Station) (text : List ℕ) → StandsInCall (either.Selective old) selective text out no_deed s
-      → Heard (either.Selective new) selective text out' before after released (receives_as selective now verdict s)
-  heard_selective old new f true s text h =
-      let g = f s text (to_selective text out no_deed s old h) in
-      record { stands = from_selective text out' (selective_receives now verdict s).deed (selective_receives now verdict s) new g.stands; tells = g.tells }
-  heard_selective old new f false s text h = absurd h.keeps
+  pub heard_selective : (old mid new : SelectiveKept) (room came out : Stored) (d : Deed) → SelectiveTells old room mid came d (selective_receives moment verdict)
+      → SelectiveFollows mid came new out finishes → (selective : Bool) (s : Station) → StandsInCall (either.Selective old) selective [] room no_deed s
+      → StandsInCall (either.Selective new) selective [] out d (finishes (receives_as selective moment verdict s))
+  heard_selective old mid new room came out d tells follows true s h =
+      let t : Station = selective_receives moment verdict s in
+      does_selective mid new came out finishes follows true t [] d (says_selective old mid room came d (selective_receives moment verdict) tells true s [] h)
+  heard_selective old mid new room came out d tells follows false s h = absurd h.keeps
 
 -- a deed that was told part by part
-deed_grew : (d : Deed) (run before up payloads all : List Told) → up ≡ before ++ told_up d.up → payloads ≡ up ++ run → run ≡ told_payloads d
+pub deed_grew : (d : Deed) (run before up payloads all : List Told) → up ≡ before ++ told_up d.up → payloads ≡ up ++ run → run ≡ told_payloads d
     → all ≡ payloads ++ told_released d.released → all ≡ before ++ told_deed d
 deed_grew d run before up payloads all up_is payloads_is run_is all_is =
     all_is ∙ ap (λ (xs : List Told). xs ++ told_released d.released)
@@ -125,40 +118,6 @@ deed_grew d run before up payloads all up_is payloads_is run_is all_is =
     ∙ append_assoc before (told_up d.up ++ told_payloads d) (told_released d.released)
 
 -- what is told of the payloads that the places lend
-run_told : (payloads : List (List ℕ)) → told_arrived (first_of payloads) ++ map told.Arrived (rest_of payloads) ≡ map told.Arrived payloads
+pub run_told : (payloads : List (List ℕ)) → told_arrived (first_of payloads) ++ map told.Arrived (rest_of payloads) ≡ map told.Arrived payloads
 run_told [] = refl
 run_told (payload ∷ payloads) = refl
-
--- a station with selective reject was given a frame, and what it brought was told part by part
-pub selective_brought : (new : SelectiveKept) (text : List ℕ) (out : Stored) (deed : SelectiveDeed) (before up payloads all : List Told) (t : Station)
-    → SelectiveStands new.core new.places text out (deed_of new.places deed) t
-    → up ≡ before ++ told_up deed.up → payloads ≡ up ++ map told.Arrived (lent deed.taken new.places) → all ≡ payloads ++ told_released deed.released
-    → SelectiveHeard new text out before all deed.released t
-selective_brought new text out deed before up payloads all t h up_is payloads_is all_is =
-    let d : Deed = deed_of new.places deed in
-    let same : d ≡ t.deed = sym h.stands.deed in
-    record {
-      stands = record {
-        stands = record { is = h.stands.is; order = h.stands.order; given = h.stands.given; deed = refl; text = h.stands.text };
-        behind = h.behind;
-        no_gap = h.no_gap;
-      };
-      tells = record {
-        grew = deed_grew d (map told.Arrived (lent deed.taken new.places)) before up payloads all up_is payloads_is (sym (run_told (lent deed.taken new.places))) all_is
-            ∙ ap (λ (e : Deed). before ++ told_deed e) same;
-        released = ap (λ (e : Deed). e.released) same;
-      };
-    }
-
--- ---- how much was written
-
-pub wrote_back : (old new : Kept) (out out' : Stored) (n : ℕ) → Within old out new out' n → Wrote (either.GoBack old) out (either.GoBack new) out' n
-wrote_back old new out out' n w = record { through = w.window; capacity = w.capacity; items = w.items }
-
-pub wrote_selective : (old new : SelectiveKept) (out out' : Stored) (n m : ℕ) → n ≤ m → Within old.core out new.core out' n
-    → Wrote (either.Selective old) out (either.Selective new) out' m
-wrote_selective old new out out' n m less w = record {
-  through = ap (λ (window : ℕ). 2 * window) w.window;
-  capacity = w.capacity;
-  items = omega (arith, less, w.items);
-}

@@ -7,12 +7,10 @@ use Rattle.er_base.specs.Stored.{Stored}
 use Rattle.er_base.specs.declared.release.Release.{Release}
 use Rattle.er_base.specs.declared.cause.Cause.TheVariants.{User}
 use Rattle.er_base.specs.Causes.{release_of}
-use Rattle.hdlc_frames.specs.Framing.{Verdict}
 use Rattle.hdlc_station_model.specs.Frames.{Frame, sent_octets}
 use Rattle.hdlc_station_model.specs.Stations.{Station, Deed, no_deed, settled}
 use Rattle.hdlc_station_model.specs.Sending.{waiting}
 use Rattle.hdlc_station_model.specs.Calls.{closes, hands, finishes}
-use Rattle.hdlc_station_model.specs.Selective.{receives_as}
 use Rattle.hdlc_station_model.specs.Events.{said_octets, quits}
 use Rattle.hdlc_balanced.specs.Kept.{texts}
 use Rattle.er_end_model.specs.Outcomes.{RefusedFull}
@@ -26,7 +24,7 @@ use Rattle.drill_ends.specs.declared.either_station.EitherStation.{EitherStation
 use Rattle.drill_ends.specs.declared.either_station.EitherStation.TheVariants as either
 use Rattle.drill_ends.specs.EitherStations.{Keeps, StandsInCall}
 use Rattle.drill_ends.specs.KeptStations.{StandsQuiet}
-use Rattle.drill_ends.specs.StationEnds.{told_up, told_arrived, told_payloads, told_released, told_deed, told_frames, TellsFrames, Heard, CallDid}
+use Rattle.drill_ends.specs.StationEnds.{told_up, told_arrived, told_payloads, told_released, told_deed, told_frames, TellsFrames, CallDid}
 
 -- ---- what is told one behind another
 
@@ -113,18 +111,10 @@ module _ (selective : Bool) where
       → StandsInCall k selective [] room d (call a s) → StandsInCall k selective [] room d (call b s)
   stands_at call k room d s a b same h = subst (λ (n : ℕ). StandsInCall k selective [] room d (call n s)) same h
 
-  pub heard_at : (verdict : Verdict) (k : EitherStation) (room : Stored) (before now : List Told) (released : Option Release) (s : Station) (a b : ℕ) → a ≡ b
-      → Heard k selective [] room before now released (receives_as selective a verdict s) → Heard k selective [] room before now released (receives_as selective b verdict s)
-  heard_at verdict k room before now released s a b same h =
-      subst (λ (n : ℕ). Heard k selective [] room before now released (receives_as selective n verdict s)) same h
-
-  -- what is kept of a side of a model, as the code has it inside
-  pub keeps_inside : (inside k : EitherStation) (s : Station) → inside ≡ k → StandsQuiet k selective s → Keeps inside selective s
-  keeps_inside inside k s is h = subst (λ (x : EitherStation). Keeps x selective s) (sym is) h.keeps
-
-  pub begins_inside : (inside k : EitherStation) (s : Station) (room : Stored) → inside ≡ k → StandsQuiet k selective s → room.items ≡ []
-      → StandsInCall inside selective [] room no_deed s
-  begins_inside inside k s room is h empty = subst (λ (x : EitherStation). StandsInCall x selective [] room no_deed s) (sym is) (call_begins k s room h empty)
+  -- between two calls, by the kind of the station
+  pub begins_as : (k of_kind : EitherStation) (s : Station) (room : Stored) → k ≡ of_kind → StandsQuiet k selective s → room.items ≡ []
+      → StandsInCall of_kind selective [] room no_deed s
+  begins_as k of_kind s room is h empty = subst (λ (x : EitherStation). StandsInCall x selective [] room no_deed s) is (call_begins k s room h empty)
 
 -- nothing was told
 pub nothing_told : (before : List Told) → before ≡ before ++ told_deed no_deed

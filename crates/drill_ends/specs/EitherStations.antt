@@ -1,11 +1,23 @@
 -- Contract: how a clause speaks of a station of the code of either kind, with go-back or with selective reject.
-use Rattle.std.specs.Prelude.{◌≡◌, ℕ, ◌+◌, ◌*◌, ◌≤◌, Bool, true, false, List, ◌++◌, length}
+use Rattle.std.specs.Prelude.{◌≡◌, ◌==◌, ℕ, ◌*◌, ◌≤◌, Bool, true, false, List, ◌++◌, length}
 use Rattle.er_base.specs.Stored.{Stored}
-use Rattle.hdlc_station_model.specs.Stations.{Station, Deed, no_deed}
+use Rattle.er_settings.specs.Values.{Settings}
+use Rattle.hdlc_station_model.specs.Stations.{Station, Deed, made, no_deed}
 use Rattle.hdlc_balanced.specs.Kept.{kept_of, texts}
 use Rattle.hdlc_selective.specs.Kept.{SelectiveKept, IsBehind}
 use Rattle.drill_ends.specs.declared.either_station.EitherStation.{EitherStation}
 use Rattle.drill_ends.specs.declared.either_station.EitherStation.TheVariants as either
+
+-- ---- what is made
+
+-- how both stations of a link are made
+pub record StationsPlan : Type 0 where
+  pub selective : Bool
+  pub settings : Settings
+
+-- the calling station of a link with these settings, or the called one
+abbrev pub made_by : (calling : Bool) → Settings → Station
+made_by calling settings = made calling (settings.modulo == 128) settings.window settings.n2 settings.t1
 
 -- ---- what is kept
 
@@ -48,7 +60,7 @@ Says old out new out' told step =
     (selective : Bool) (s : Station) (before : List ℕ) → StandsInCall old selective before out no_deed s
     → StandsInCall new selective before out' told (step s)
 
--- ---- how much is written
+-- ---- how much may be written
 
 -- the most frames of an event that the window lets through: with selective reject each frame of it may be asked for, and as many sent
 abbrev pub let_by : (selective : Bool) (window : ℕ) → ℕ
@@ -58,9 +70,3 @@ let_by false window = window
 abbrev pub let_through : EitherStation → ℕ
 let_through (either.GoBack k) = let_by false k.window
 let_through (either.Selective k) = let_by true k.core.window
-
--- at most n frames were written
-pub record Wrote (old : EitherStation) (out : Stored) (new : EitherStation) (out' : Stored) (n : ℕ) : Type 0 where
-  pub through : let_through new ≡ let_through old
-  pub capacity : out'.capacity ≡ out.capacity
-  pub items : length out'.items ≤ length out.items + n * 2064

@@ -7,11 +7,8 @@ use Rattle.hdlc_station_model.specs.Events.{news}
 use Rattle.drill_model.specs.Outcomes.{Outcome}
 use Rattle.drill_model.specs.Ends.{End, OfStation}
 use Rattle.drill_model.specs.StationEnds.{station_and_told, frames_heard}
-use Rattle.er_base.specs.Stored.{Stored}
-use Rattle.hdlc_balanced.specs.Kept.{Kept, texts, Stands}
-use Rattle.hdlc_selective.specs.Kept.{SelectiveKept, SelectiveStands}
+use Rattle.hdlc_balanced.specs.Kept.{texts}
 use Rattle.drill_ends.specs.declared.either_station.EitherStation.{EitherStation}
-use Rattle.drill_ends.specs.EitherStations.{StandsInCall}
 use Rattle.drill_ends.specs.declared.told.Told.{Told}
 use Rattle.drill_ends.specs.declared.told.Told.TheVariants as told
 use Rattle.drill_ends.specs.Tellings.{AreTold}
@@ -51,24 +48,6 @@ pub record TellingFrames (calling extended : Bool) (frames : List Frame) (rest :
   pub left : List Frame
   pub is : rest ≡ texts calling extended left
   pub leads : now ++ told_frames calling extended left ≡ before ++ told_frames calling extended frames
-
--- a frame that came was heard, and what it brought was told
-pub record TellsDeed (d : Deed) (before now : List Told) (why : Option Release) : Type 0 where
-  pub grew : now ≡ before ++ told_deed d
-  pub released : why ≡ d.released
-
-pub record Heard (new : EitherStation) (selective : Bool) (text : List ℕ) (out : Stored) (before now : List Told) (why : Option Release) (t : Station) : Type 0 where
-  pub stands : StandsInCall new selective text out t.deed t
-  pub tells : TellsDeed t.deed before now why
-
--- the same of each kind of station by itself
-pub record BackHeard (new : Kept) (text : List ℕ) (out : Stored) (before now : List Told) (why : Option Release) (t : Station) : Type 0 where
-  pub stands : Stands new text out t.deed t
-  pub tells : TellsDeed t.deed before now why
-
-pub record SelectiveHeard (new : SelectiveKept) (text : List ℕ) (out : Stored) (before now : List Told) (why : Option Release) (t : Station) : Type 0 where
-  pub stands : SelectiveStands new.core new.places text out t.deed t
-  pub tells : TellsDeed t.deed before now why
 
 -- a call was made, what it told and the frames that it sent were told
 pub record CallDid (new : EitherStation) (selective : Bool) (before now : List Told) (a : Station × List Outcome) : Type 0 where

@@ -8,12 +8,11 @@ ghost use Rattle.drill_ends.specs.KeptEnds.{StandsEnd, EndWent};
 
 use crate::end_event::EndEvent;
 use crate::finder::OneKey;
-use crate::moment::Moment;
 use crate::safe_end::safe_answer;
 use crate::stack_end::stack_answer;
 use crate::station_end::StationEnd;
 use crate::told::Told;
-use er_base::NoMemory;
+use er_base::{Moment, NoMemory};
 use er_end::End;
 use safety_automaton::Safe;
 use std::alloc::Global;

@@ -11,11 +11,11 @@ ghost use Rattle.drill_ends.specs.SafeEnds.{SafeWent, checked_text, told_report,
 
 use crate::end_event::EndEvent;
 use crate::finder::OneKey;
-use crate::moment::Moment;
 use crate::refusal::Refusal;
+use crate::telling::copied;
 use crate::told::Told;
 use des_block::TripleKey;
-use er_base::{Cause, NoMemory, Octets, Room};
+use er_base::{Cause, Moment, NoMemory, Octets, Room};
 use safety_automaton::{Safe, SafeDeed, SafeState};
 use std::alloc::Global;
 use std::collections::VecDeque;
@@ -86,13 +86,6 @@ fn tell_written(alloc: Global, written: &[u8], told: &mut VecDeque<Told>) -> Res
     let frame = Octets::new(Vec::from_slice(alloc, written)?);
     told.push_back(Told::Frame(frame))?;
     Ok(())
-}
-
-/// Octets of their own.
-fn copied(alloc: Global, octets: &[u8]) -> Result<Octets, NoMemory>
-    ensures { IfOk result (λ copy. copy ≡ octets.now) }
-{
-    Ok(Octets::new(Vec::from_slice(alloc, octets)?))
 }
 
 /// Tells what a side did with octets from its peer, by which no text verified.

@@ -8,7 +8,7 @@ ghost use Rattle.drill_ends.specs.SafeEnds.{checked_text, told_sealed};
 ghost use Rattle.drill_ends.specs.StackEnds.{IsCall, TellsCall, told_checked};
 
 use crate::safe_end::Checked;
-use crate::telling::{tell_frames, tell_released};
+use crate::telling::{copied, tell_frames, tell_released};
 use crate::told::Told;
 use er_base::{NoMemory, Octets, Release};
 use er_end::{Deeds, End};
@@ -22,13 +22,6 @@ pub struct Call {
     accepted: Option<Octets>,
     released: Option<Release>,
     out: Octets,
-}
-
-/// Octets of their own.
-fn copied(alloc: Global, octets: &[u8]) -> Result<Octets, NoMemory>
-    ensures { IfOk result (λ copy. copy ≡ octets.now) }
-{
-    Ok(Octets::new(Vec::from_slice(alloc, octets)?))
 }
 
 impl Call {

@@ -8,11 +8,10 @@ ghost use Rattle.drill_ends.specs.StackEnds.{StackDoes, StackReads, StackHears, 
 
 use crate::end_event::EndEvent;
 use crate::finder::OneKey;
-use crate::moment::Moment;
 use crate::refusal::Refusal;
 use crate::stack_call::Call;
 use crate::told::Told;
-use er_base::{NoMemory, Octets};
+use er_base::{Moment, NoMemory, Octets};
 use er_end::End;
 use std::alloc::Global;
 use std::collections::VecDeque;

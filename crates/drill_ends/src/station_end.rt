@@ -1,28 +1,25 @@
 //! An end of levels link and link-sr: a station, the deframer of what comes to it, and what it tells of each event.
 
 ghost use Rattle.std.specs.Prelude.{ℕ, ◌≡◌, ◌<◌, ◌≤◌, ◌==◌, ◌*◌, [], List, length, take, Bool, true, false, IfOk, OnOk};
-ghost use Rattle.er_settings.specs.Ranges.{AllAllowed};
-ghost use Rattle.hdlc_station_model.specs.Stations.{Station as AnyStation, made};
+ghost use Rattle.hdlc_station_model.specs.Stations.{Station as AnyStation};
 ghost use Rattle.hdlc_station_model.specs.Reports.{newer};
 ghost use Rattle.drill_model.specs.StationEnds.{station_start, station_send, station_release, station_tick};
 ghost use Rattle.drill_model.specs.Ends.{station_end_step};
+ghost use Rattle.drill_ends.specs.EitherStations.{made_by};
 ghost use Rattle.drill_ends.specs.Events.{event_of};
 ghost use Rattle.drill_ends.specs.KeptStations.{StandsStation};
 ghost use Rattle.drill_ends.specs.StationEnds.{StationDoes, StationReads, StationWent};
 
 use crate::end_event::EndEvent;
-use crate::moment::Moment;
+use crate::payload::Payload;
 use crate::refusal::Refusal;
+use crate::station_plan::StationPlan;
 use crate::telling_station::TellingStation;
 use crate::told::Told;
-use er_base::{NoMemory, Release};
-use er_settings::Settings;
+use er_base::{Moment, NoMemory, Release};
 use hdlc_frames::Deframer;
 use std::alloc::Global;
 use std::collections::VecDeque;
-
-/// The most octets of a payload that a user may send.
-const MOST_PAYLOAD: usize = 1026;
 
 /// A station, the deframer of all that comes to it, and why the station was released, once it was.
 #[derive(Drop)]
@@ -43,35 +40,12 @@ fn newer(told: Option<Release>, before: Option<Release>) -> Option<Release>
 }
 
 impl StationEnd {
-    /// The calling station of a link, with selective reject or without.
-    pub fn calling(
-        alloc: Global,
-        selective: bool,
-        settings: &Settings,
-    ) -> Result<StationEnd, NoMemory>
-        requires allowed { AllAllowed settings.now }
-        requires half { selective ≡ true → 2 * settings.now.window ≤ settings.now.modulo }
-        ensures { IfOk result (λ k. StandsStation k selective (made true (settings.now.modulo == 128) settings.now.window settings.now.n2 settings.now.t1) []) }
+    /// The calling station of a link, or the called one.
+    pub fn new(alloc: Global, calling: bool, plan: &StationPlan) -> Result<StationEnd, NoMemory>
+        ensures { IfOk result (λ k. StandsStation k plan.now.selective (made_by calling plan.now.settings) []) }
     {
         Ok(StationEnd {
-            station: TellingStation::calling(alloc, selective, settings)?,
-            deframer: Deframer::new(),
-            released: None,
-        })
-    }
-
-    /// The called station of a link, with selective reject or without.
-    pub fn called(
-        alloc: Global,
-        selective: bool,
-        settings: &Settings,
-    ) -> Result<StationEnd, NoMemory>
-        requires allowed { AllAllowed settings.now }
-        requires half { selective ≡ true → 2 * settings.now.window ≤ settings.now.modulo }
-        ensures { IfOk result (λ k. StandsStation k selective (made false (settings.now.modulo == 128) settings.now.window settings.now.n2 settings.now.t1) []) }
-    {
-        Ok(StationEnd {
-            station: TellingStation::called(alloc, selective, settings)?,
+            station: TellingStation::new(alloc, calling, plan)?,
             deframer: Deframer::new(),
             released: None,
         })
@@ -150,15 +124,11 @@ impl StationEnd {
             told.push_back(Told::Refused(Refusal::Released(release)))?;
             return Ok(());
         }
-        if payload.is_empty() {
-            told.push_back(Told::Refused(Refusal::Length(0)))?;
-            return Ok(());
-        }
-        if payload.len() > MOST_PAYLOAD {
+        let Some(payload) = Payload::of(payload) else {
             told.push_back(Told::Refused(Refusal::Length(payload.len())))?;
             return Ok(());
-        }
-        self.station.hand(alloc, now, payload, told)
+        };
+        self.station.hand(alloc, now, &payload, told)
     }
 
     /// The user releases. Where the station was released before, nothing happens.

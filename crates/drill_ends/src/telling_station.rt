@@ -1,24 +1,22 @@
 //! A station whose calls tell what they did.
 
-ghost use Rattle.std.specs.Prelude.{◌≡◌, ◌*◌, ◌+◌, ◌==◌, ◌≤◌, length, Bool, true, false, None, Some, IfOk, OnOk};
-ghost use Rattle.er_settings.specs.Ranges.{AllAllowed};
+ghost use Rattle.std.specs.Prelude.{◌≡◌, ◌≤◌, Bool, None, Some, IfOk, OnOk};
 ghost use Rattle.hdlc_frames.specs.Shown.{shown};
-ghost use Rattle.hdlc_station_model.specs.Stations.{made};
 ghost use Rattle.hdlc_station_model.specs.Calls.{starts, finishes, ticks};
 ghost use Rattle.hdlc_station_model.specs.Selective.{receives_as};
 ghost use Rattle.hdlc_station_model.specs.Events.{quits};
 ghost use Rattle.hdlc_selective.specs.Kept.{FitsPlace};
 ghost use Rattle.drill_model.specs.StationEnds.{refusal_of, handed_unless};
-ghost use Rattle.drill_ends.specs.EitherStations.{Keeps, let_through, let_by};
+ghost use Rattle.drill_ends.specs.EitherStations.{Keeps, let_by, made_by};
 ghost use Rattle.drill_ends.specs.StationEnds.{CallDoes, CallTells};
 
-use crate::either_station::EitherStation;
-use crate::moment::Moment;
+use crate::either_station::{EitherStation, tell_arrived, tell_run};
+use crate::payload::Payload;
 use crate::refusal::Refusal;
-use crate::telling::{tell_frames, tell_released};
+use crate::station_plan::StationPlan;
+use crate::telling::{tell_frames, tell_released, tell_up};
 use crate::told::Told;
-use er_base::{Cause, NoMemory, Release, Room};
-use er_settings::Settings;
+use er_base::{Cause, Moment, NoMemory, Release, Room};
 use hdlc_frames::Found;
 use std::alloc::Global;
 use std::collections::VecDeque;
@@ -61,47 +59,15 @@ fn let_by(selective: bool, window: u8) -> usize
     }
 }
 
-/// A station with room for the frames of one event.
-fn with_room(
-    alloc: Global,
-    station: EitherStation,
-    through: usize,
-) -> Result<TellingStation, NoMemory>
-    requires through { let_through station ≡ through }
-    requires few { through ≤ 510 }
-    ensures { IfOk result (λ k. k ≡ station) }
-{
-    let room = Room::with_capacity(alloc, (through + MORE_FRAMES) * FRAME_OCTETS)?;
-    Ok(TellingStation { station, room })
-}
-
 impl TellingStation {
-    /// The calling station of a link, with selective reject or without.
-    pub fn calling(
-        alloc: Global,
-        selective: bool,
-        settings: &Settings,
-    ) -> Result<TellingStation, NoMemory>
-        requires allowed { AllAllowed settings.now }
-        requires half { selective ≡ true → 2 * settings.now.window ≤ settings.now.modulo }
-        ensures { IfOk result (λ k. Keeps k selective (made true (settings.now.modulo == 128) settings.now.window settings.now.n2 settings.now.t1)) }
+    /// The calling station of a link, or the called one.
+    pub fn new(alloc: Global, calling: bool, plan: &StationPlan) -> Result<TellingStation, NoMemory>
+        ensures { IfOk result (λ k. Keeps k plan.now.selective (made_by calling plan.now.settings)) }
     {
-        let station = EitherStation::calling(alloc, selective, settings)?;
-        with_room(alloc, station, let_by(selective, settings.window))
-    }
-
-    /// The called station of a link, with selective reject or without.
-    pub fn called(
-        alloc: Global,
-        selective: bool,
-        settings: &Settings,
-    ) -> Result<TellingStation, NoMemory>
-        requires allowed { AllAllowed settings.now }
-        requires half { selective ≡ true → 2 * settings.now.window ≤ settings.now.modulo }
-        ensures { IfOk result (λ k. Keeps k selective (made false (settings.now.modulo == 128) settings.now.window settings.now.n2 settings.now.t1)) }
-    {
-        let station = EitherStation::called(alloc, selective, settings)?;
-        with_room(alloc, station, let_by(selective, settings.window))
+        let station = EitherStation::new(alloc, calling, plan)?;
+        let through = let_by(plan.selective, plan.settings.window);
+        let room = Room::with_capacity(alloc, (through + MORE_FRAMES) * FRAME_OCTETS)?;
+        Ok(TellingStation { station, room })
     }
 
     /// A calling station begins the set-up.
@@ -114,9 +80,18 @@ impl TellingStation {
         ensures { OnOk result ((selective : Bool) → CallTells selective self.old self.new told.old.items told.new.items None (λ s. finishes (starts now s))) }
     {
         self.room.clear();
-        self.station.start(now.get(), &mut self.room);
-        self.station.finish(&mut self.room);
-        tell_frames(alloc, self.room.held(), told)
+        match &mut self.station {
+            EitherStation::GoBack(station) => {
+                station.start(now.get(), &mut self.room);
+                station.finish(&mut self.room);
+                tell_frames(alloc, self.room.held(), told)
+            }
+            EitherStation::Selective(station) => {
+                station.start(now.get(), &mut self.room);
+                station.finish(&mut self.room);
+                tell_frames(alloc, self.room.held(), told)
+            }
+        }
     }
 
     /// What a deframer found comes in, and the answer that is owed follows. Answers why the station was released, where it was.
@@ -132,12 +107,26 @@ impl TellingStation {
             (λ s. finishes (receives_as selective now (shown found.now) s))) }
     {
         self.room.clear();
-        let released = self
-            .station
-            .hear(alloc, now.get(), found, &mut self.room, told)?;
-        self.station.finish(&mut self.room);
-        tell_frames(alloc, self.room.held(), told)?;
-        Ok(released)
+        match &mut self.station {
+            EitherStation::GoBack(station) => {
+                let deed = station.receive(now.get(), found, &mut self.room);
+                station.finish(&mut self.room);
+                tell_up(deed.up, told)?;
+                tell_arrived(alloc, &deed, told)?;
+                tell_released(deed.released, told)?;
+                tell_frames(alloc, self.room.held(), told)?;
+                Ok(deed.released)
+            }
+            EitherStation::Selective(station) => {
+                let deed = station.receive(now.get(), found, &mut self.room);
+                station.finish(&mut self.room);
+                tell_up(deed.up, told)?;
+                tell_run(alloc, station, deed.taken, told)?;
+                tell_released(deed.released, told)?;
+                tell_frames(alloc, self.room.held(), told)?;
+                Ok(deed.released)
+            }
+        }
     }
 
     /// The user's payload is handed down, unless too many wait.
@@ -145,21 +134,31 @@ impl TellingStation {
         &mut self,
         alloc: Global,
         now: Moment,
-        payload: &[u8],
+        payload: &Payload<'_>,
         told: &mut VecDeque<Told>,
     ) -> Result<(), NoMemory>
-        requires some { 1 ≤ length payload.now }
-        requires fits { length payload.now ≤ 1026 }
         ensures { OnOk result ((selective : Bool) → CallDoes selective self.old self.new told.old.items told.new.items
             (λ s. handed_unless (refusal_of s payload.now None) now payload.now s)) }
     {
         self.room.clear();
-        if let Err(full) = self.station.hand(now.get(), payload, &mut self.room) {
-            told.push_back(Told::Refused(Refusal::Full(full.waiting)))?;
-            return Ok(());
+        match &mut self.station {
+            EitherStation::GoBack(station) => {
+                if let Err(full) = station.hand(now.get(), payload.octets(), &mut self.room) {
+                    told.push_back(Told::Refused(Refusal::Full(full.waiting)))?;
+                    return Ok(());
+                }
+                station.finish(&mut self.room);
+                tell_frames(alloc, self.room.held(), told)
+            }
+            EitherStation::Selective(station) => {
+                if let Err(full) = station.hand(now.get(), payload.octets(), &mut self.room) {
+                    told.push_back(Told::Refused(Refusal::Full(full.waiting)))?;
+                    return Ok(());
+                }
+                station.finish(&mut self.room);
+                tell_frames(alloc, self.room.held(), told)
+            }
         }
-        self.station.finish(&mut self.room);
-        tell_frames(alloc, self.room.held(), told)
     }
 
     /// The user releases, with a sub-reason.
@@ -172,11 +171,20 @@ impl TellingStation {
         ensures { IfOk result (λ release. (selective : Bool) → CallTells selective self.old self.new told.old.items told.new.items (Some release) (quits sub)) }
     {
         self.room.clear();
-        self.station.close(&mut self.room);
         let release = Cause::User { sub }.release();
         told.push_back(Told::Released(release))?;
-        tell_frames(alloc, self.room.held(), told)?;
-        Ok(release)
+        match &mut self.station {
+            EitherStation::GoBack(station) => {
+                station.close(&mut self.room);
+                tell_frames(alloc, self.room.held(), told)?;
+                Ok(release)
+            }
+            EitherStation::Selective(station) => {
+                station.close(&mut self.room);
+                tell_frames(alloc, self.room.held(), told)?;
+                Ok(release)
+            }
+        }
     }
 
     /// The moment has come. Answers why the station was released, where it was.
@@ -190,10 +198,21 @@ impl TellingStation {
             (λ s. finishes (ticks now s))) }
     {
         self.room.clear();
-        let released = self.station.tick(now.get(), &mut self.room);
-        self.station.finish(&mut self.room);
-        tell_released(released, told)?;
-        tell_frames(alloc, self.room.held(), told)?;
-        Ok(released)
+        match &mut self.station {
+            EitherStation::GoBack(station) => {
+                let released = station.tick(now.get(), &mut self.room);
+                station.finish(&mut self.room);
+                tell_released(released, told)?;
+                tell_frames(alloc, self.room.held(), told)?;
+                Ok(released)
+            }
+            EitherStation::Selective(station) => {
+                let released = station.tick(now.get(), &mut self.room);
+                station.finish(&mut self.room);
+                tell_released(released, told)?;
+                tell_frames(alloc, self.room.held(), told)?;
+                Ok(released)
+            }
+        }
     }
 }

@@ -14,8 +14,9 @@ use Rattle.safety_automaton.specs.Rules.{IsStep, StepsOnly}
 use Rattle.safety_pair_laws.specs.Facts.{SideFact, MarkedFact, at_side, is_side, facts_of, marked}
 use Rattle.safety_pair_laws.specs.Openings.{PairOpening, Agrees, key_for}
 use Rattle.safety_pair_laws.specs.Talks.{answer}
-use Rattle.safety_pair_laws.specs.Deliveries.{sent_of, accepted_of, Flow, under_way, delivered, Flows, Delivers, FitsOpening, set_up_sapdus, IsComplete, HasFlowed, FlowsDeliver}
-use Rattle.safety_pair_laws.specs.Deliveries as pair
+use Rattle.safety_pair_laws.specs.Deliveries.{sent_of, accepted_of, Flow, under_way, delivered, Flows, Delivers, FitsOpening, IsComplete, HasFlowed, FlowsDeliver}
+use Rattle.safety_pair_laws.specs.Messages.{set_up_sapdus}
+use Rattle.safety_pair_laws.specs.Messages as pair
 use Rattle.drill_model.specs.Outcomes.{Occurrence}
 use Rattle.drill_model.specs.Links.{Link, LinkOpening, OfPair, OfStations, waiting_of, Pass, pass, link_step}
 use Rattle.hdlc_station_model.specs.Lines.{next_of}

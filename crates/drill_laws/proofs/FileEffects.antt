@@ -11,7 +11,7 @@ use Rattle.er_scenario.specs.declared.step.Step.{Step}
 use Rattle.er_scenario.specs.declared.step.Step.TheVariants as does
 use Rattle.safety_automaton.specs.Rules.{StepsOnly}
 use Rattle.safety_pair_laws.specs.Facts.{Fact, Sent, Sealed, Verified, Connected, Accepted, is_side}
-use Rattle.safety_pair_laws.specs.Deliveries as pair
+use Rattle.safety_pair_laws.specs.Messages as pair
 use Rattle.drill_model.specs.Outcomes.{Outcome, OfSafety, Handed, Arrived, Up, Took, NothingToTake, Refused, Released, Frame, Expired, UserReleased, Passed, Lost, Repeated, Altered, Inserted, NothingWaits, IsShort, Occurrence}
 use Rattle.drill_model.specs.Links.{Link, waiting_of, Pass, link_step}
 use Rattle.drill_model.specs.Worlds.{Plan, World, Came, link_at, history_on, world_step, world_run}

@@ -9,7 +9,8 @@ use Rattle.hdlc_pair_laws.specs.Steps.{happens, run}
 use Rattle.hdlc_pair_laws.specs.Steps as on_pair
 use Rattle.hdlc_pair_laws.specs.Laws.{Opening, after}
 use Rattle.hdlc_pair_laws.specs.Laws as of_pair
-use Rattle.hdlc_pair_laws.specs.Recovery.{ArePasses, AreLive, MayRepeat, IsRecovered, Recovery, PassesBound, passes_bound, bound_of}
+use Rattle.hdlc_pair_laws.specs.Recovery.{ArePasses, AreLive, IsRecovered, Recovery, PassesBound, bound_of}
+use Rattle.hdlc_station_model.specs.Repeating.{MayRepeat, passes_bound}
 use Rattle.drill_model.specs.Outcomes.{Occurrence}
 use Rattle.drill_model.specs.Links.{Link, waiting_of, Pass, Tick, link_step}
 use Rattle.drill_model.specs.Worlds.{Plan, overfull_side, Drain, drain, drain_on}

@@ -11,7 +11,7 @@ use Rattle.safety_automaton.specs.Rules.{StepsOnly}
 use Rattle.safety_automaton.specs.Safety.{Phase, Ready, WaitAu1, WaitAu2, WaitAu3, WaitAr, Connected, Released}
 use Rattle.safety_pair_laws.specs.Marks.{MarksGrow}
 use Rattle.safety_pair_laws.specs.Openings.{PairOpening, OfFixed, OfKeys}
-use Rattle.safety_pair_laws.specs.Deliveries.{IsConnectedPhase}
+use Rattle.safety_pair_laws.specs.Messages.{IsConnectedPhase}
 use Rattle.er_end_model.specs.Steps.{is_connected}
 use Rattle.er_end_model.specs.Ends.{End as Stack}
 use Rattle.er_end_model.specs.Bounds as end_bounds_words

@@ -18,7 +18,7 @@ use Rattle.safety_automaton.specs.Safety.{Safety, Phase, Ready, WaitAu1, WaitAu2
 use Rattle.safety_automaton.specs.Safety.{sends as sends_side}
 use Rattle.safety_pair_laws.specs.Facts.{heard_in, facts_by}
 use Rattle.safety_pair_laws.specs.Openings.{OfFixed, OfKeys}
-use Rattle.safety_pair_laws.specs.Deliveries.{IsConnectedPhase}
+use Rattle.safety_pair_laws.specs.Messages.{IsConnectedPhase}
 use Rattle.hdlc_station_model.specs.Stations.{Station, made, settled, is_down}
 use Rattle.hdlc_station_model.specs.Sending.{is_due}
 use Rattle.hdlc_station_model.specs.Selective.{receives_as}

@@ -11,7 +11,7 @@ use Rattle.er_scenario.specs.declared.step.Step.TheVariants as does
 use Rattle.safety_pair_laws.specs.Facts.{marked}
 use Rattle.safety_pair_laws.specs.Openings.{OfKeys}
 use Rattle.safety_pair_laws.specs.Authentic.{Authentic}
-use Rattle.safety_pair_laws.specs.Deliveries.{IsConnectedPhase}
+use Rattle.safety_pair_laws.specs.Messages.{IsConnectedPhase}
 use Rattle.hdlc_station_model.specs.declared.phase.Phase.TheVariants as phase
 use Rattle.hdlc_station_model.specs.Lines as lines
 use Rattle.hdlc_station_model.specs.Lines.{IsPrefix}

@@ -8,7 +8,7 @@ use Rattle.er_base.specs.declared.release.Release.{Release}
 use Rattle.er_settings.specs.Values.{Settings}
 use Rattle.safety_pair_laws.specs.Facts.{is_side}
 use Rattle.safety_pair_laws.specs.Openings.{Agrees}
-use Rattle.safety_pair_laws.specs.Deliveries as pair
+use Rattle.safety_pair_laws.specs.Messages as pair
 use Rattle.hdlc_station_model.specs.Lines.{station_bound}
 use Rattle.er_end_model.specs.Bounds.{end_bound}
 use Rattle.drill_model.specs.Outcomes.{Outcome, OfSafety, Handed, Arrived, Up, Took, NothingToTake, Refused, Released, Frame, Expired, UserReleased, Passed, Lost, Repeated, Altered, Inserted, NothingWaits, IsShort, Occurrence}

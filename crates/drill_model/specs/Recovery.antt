@@ -6,7 +6,7 @@ use Rattle.er_base.specs.declared.side.Side.TheVariants.{E, R}
 use Rattle.er_scenario.specs.declared.step.Step.{Step}
 use Rattle.er_scenario.specs.declared.step.Step.TheVariants as does
 use Rattle.hdlc_station_model.specs.Stations.{is_down}
-use Rattle.hdlc_pair_laws.specs.Recovery.{MayRepeat, passes_bound}
+use Rattle.hdlc_station_model.specs.Repeating.{MayRepeat, passes_bound}
 use Rattle.er_end_model.specs.Layers.{model}
 use Rattle.er_end_model.specs.Steps.{new_event_at, is_spent}
 use Rattle.drill_model.specs.Outcomes.{Occurrence}

@@ -4,6 +4,7 @@ pub mod FrameRoom
 pub mod Coming
 pub mod KeptEnds
 pub mod Shown
+pub mod Given
 pub mod Standing
 pub mod Resting
 pub mod Keeping

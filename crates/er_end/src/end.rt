@@ -10,11 +10,13 @@ ghost use Rattle.safety_automaton.specs.Reports.{made};
 ghost use Rattle.x224_class2.specs.Kept.{kept_made};
 ghost use Rattle.er_end_model.specs.Ends.{Call, Answer};
 ghost use Rattle.er_end.specs.Inboxes.{first_in, newest_of};
-ghost use Rattle.er_end.specs.KeptEnds.{kept_opened, kept_core_made, kept_end_made, after_start, used_of, after_octets, refusal, after_send, after_take, after_release, after_tick, after_break, waiting_in, deadline_of};
+ghost use Rattle.er_end.specs.KeptEnds.{kept_opened, kept_core_made, kept_end_made, after_start, used_of, after_octets, refusal, after_send, after_take, after_release, after_tick, after_break, happens, tells, waiting_in, deadline_of};
+ghost use Rattle.er_end.specs.Given.{given, used_by, outcomes_in, TellsSo};
 ghost use Rattle.er_end.specs.Shown.{Shows, refusal_view};
 ghost use Rattle.er_end.specs.Resting.{Rests};
 
 use crate::deeds::{Deeds, SendRefused, Taken};
+use crate::event::{Effects, Event, Taking};
 use crate::inbox::Inbox;
 use crate::layers::Layers;
 use crate::line::Line;
@@ -265,6 +267,77 @@ impl End {
         this.deeds()
     }
 
+    /// Gives an end any event: does what the call of that event does, and answers all that came of it.
+    pub fn apply<K: KeyFinder>(&mut self, keys: &K, now: u64, event: &Event<'_>) -> Effects<'_>
+        requires { now ≤ 1000000000000000 }
+        ensures* after { sem 𝓛 (Rests self.entry (happens now (given (key_at (K.entries keys.now)) event.now) self.old)) }
+        ensures told { outcomes_in result ≡ tells now (given (key_at (K.entries keys.now)) event.now) self.old }
+        ensures used { result.used ≡ used_by self.old event.now }
+    {
+        let done = self.give(keys, Moment::new(now), event);
+        let this: &Self = self;
+        match done {
+            Done::Used(used) => Effects {
+                used,
+                refused: None,
+                taken: Taking::NotAsked,
+                deeds: this.deeds(),
+            },
+            Done::Refused(refused) => Effects {
+                used: 0,
+                refused: Some(refused),
+                taken: Taking::NotAsked,
+                deeds: Deeds {
+                    connected: None,
+                    accepted: None,
+                    released: None,
+                    out: &[],
+                },
+            },
+            Done::Nothing => Effects {
+                used: 0,
+                refused: None,
+                taken: Taking::Nothing,
+                deeds: this.deeds(),
+            },
+            Done::Took => Effects {
+                used: 0,
+                refused: None,
+                taken: Taking::Message(this.layers.side.inbox.taken()),
+                deeds: this.deeds(),
+            },
+        }
+    }
+
+    // An event, without what is lent of it.
+    #[tactic(auto, unfolding(crate::specs::KeptEnds::refusal, crate::specs::KeptEnds::after_start, crate::specs::KeptEnds::after_send, crate::specs::KeptEnds::after_take, crate::specs::KeptEnds::after_release, crate::specs::KeptEnds::after_tick, crate::specs::KeptEnds::after_break))]
+    fn give<K: KeyFinder>(&mut self, keys: &K, now: Moment, event: &Event<'_>) -> Done
+        ensures after { self.new ≡ happens now (given (key_at (K.entries keys.now)) event.now) self.old }
+        ensures told { TellsSo result event.now (tells now (given (key_at (K.entries keys.now)) event.now) self.old) self.old self.new }
+    {
+        match *event {
+            Event::Start => self.layers.start_station(now, &mut self.room),
+            Event::Octets(piece) => return Done::Used(self.hear(keys, now, piece)),
+            Event::Send(user) => {
+                if let Some(refused) = self.layers.refusal(user) {
+                    return Done::Refused(refused);
+                }
+                self.layers.send_message(now, user, &mut self.room);
+            }
+            Event::Take => {
+                let none = self.layers.side.inbox.len() == 0;
+                self.layers.take_message(now, &mut self.room);
+                return if none { Done::Nothing } else { Done::Took };
+            }
+            Event::Release(sub) => self.layers.release_by_user(now, sub, &mut self.room),
+            Event::Tick => self.layers.tick(now, &mut self.room),
+            Event::Ended => self.layers.break_off(Cause::LineEnded),
+            Event::Fault => self.layers.break_off(Cause::LineFailed),
+            Event::Stalled => self.layers.break_off(Cause::LineStalled),
+        }
+        Done::Used(0)
+    }
+
     // What the event came to.
     fn deeds(&self) -> Deeds<'_>
         ensures { Shows result self.now.core }
@@ -349,6 +422,14 @@ impl End {
     {
         self.layers.line.counts()
     }
+}
+
+// How an event was done: so many octets were used, a send was refused, a take found nothing, or took a message.
+enum Done {
+    Used(usize),
+    Refused(SendRefused),
+    Nothing,
+    Took,
 }
 
 // A function of its own, so that the stack that its making takes is given back before the end is put together.

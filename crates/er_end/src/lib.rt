@@ -10,6 +10,7 @@
 mod came;
 mod deeds;
 mod end;
+mod event;
 mod inbox;
 pub mod laws;
 mod layers;
@@ -21,3 +22,4 @@ mod short_sapdu;
 
 pub use deeds::{Deeds, SendRefused, Taken};
 pub use end::End;
+pub use event::{Effects, Event, Taking};

@@ -10,18 +10,18 @@ ghost use Rattle.er_end_c.specs.Shown.{deeds_of, taken_deeds, taken_shown};
 ghost use Rattle.er_base.specs.declared.cause.Cause.TheVariants.{LineEnded, LineFailed, LineStalled};
 
 use crate::face::CDeeds;
-use crate::keys::Keys;
 use crate::status;
 use er_base::Moment;
 use er_end::{End, SendRefused, Taken};
+use key_store::KeyStore;
 
 /// What a handle holds.
 #[derive(Drop)]
 pub struct Held {
     /// The end.
     pub end: End,
-    /// Where it finds keys.
-    pub keys: Keys,
+    /// The keys that it was made with, where it answers; none where it calls.
+    pub keys: Option<KeyStore>,
 }
 
 impl Held {

@@ -9,7 +9,6 @@ mod face;
 mod fault;
 mod handle;
 mod held;
-mod keys;
 pub mod laws;
 mod makers;
 mod reads;

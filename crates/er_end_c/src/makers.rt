@@ -12,7 +12,6 @@ use crate::face::{CKey, CSettings};
 use crate::fault::Fault;
 use crate::handle::CEnd;
 use crate::held::Held;
-use crate::keys::Keys;
 use crate::status;
 use des_block::TripleKey;
 use er_base::{EtcsNumber, MOST_ETCS_NUMBER, Moment};
@@ -159,7 +158,7 @@ fn admitted(
     }
 }
 
-fn boxed(alloc: Global, end: End, keys: Keys) -> Option<Box<Held>>
+fn boxed(alloc: Global, end: End, keys: Option<KeyStore>) -> Option<Box<Held>>
     ensures { IfSome result (λ held. held.value ≡ record { end = end; keys = keys }) }
 {
     Box::new(alloc, Held { end, keys }).ok()
@@ -177,7 +176,7 @@ fn calling(
     ensures { IfSome result (λ held. held.value ≡ held_made (Call settings.now me peer key rb now) None) }
 {
     match End::call(alloc, settings, me.get(), peer.get(), key, rb, now.get()) {
-        Ok(end) => boxed(alloc, end, Keys { store: None }),
+        Ok(end) => boxed(alloc, end, None),
         Err(_) => None,
     }
 }
@@ -258,7 +257,7 @@ fn with_keys(
     ensures { IfSome result (λ held. held.value ≡ held_made (Answer settings.now me ra now) (Some store)) }
 {
     match End::answer(alloc, settings, me.get(), ra, now.get()) {
-        Ok(end) => boxed(alloc, end, Keys { store: Some(store) }),
+        Ok(end) => boxed(alloc, end, Some(store)),
         Err(_) => None,
     }
 }

@@ -1,7 +1,7 @@
 -- What two ends recover from: a line that lost and repeated frames, and then for a while loses none, by T1 of their stations alone
 -- (ISO/IEC 13239, asynchronous balanced mode; this profile).
 use Rattle.std.specs.Prelude.{ℕ, ◌≡◌, max, true, false, List, [], ◌∷◌, ◌++◌, None}
-use Rattle.hdlc_pair_laws.specs.Recovery.{MayRepeat}
+use Rattle.hdlc_station_model.specs.Repeating.{MayRepeat}
 use Rattle.er_end_model.specs.Layers.{model}
 use Rattle.er_end_model.specs.Steps.{new_event_at, is_spent}
 use Rattle.er_end_model.specs.Ends.{End}

@@ -5,7 +5,7 @@ use Rattle.std.specs.Prelude.{slice_set, slice_index_or}
 use Rattle.std.proofs.lemmas.Bool.{lt-ltb, le-ltb}
 use Rattle.drill_model.specs.declared.world_fault.WorldFault.TheVariants.{MomentBack}
 use Rattle.drill_model.specs.Links.{Link, Tick, link_step}
-use Rattle.drill_model.specs.Worlds.{World, Came, link_at, at_link, tick_each_link, tick_world, then_world}
+use Rattle.drill_model.specs.Worlds.{World, Came, is_link, link_at, at_link, tick_each_link, tick_world, then_world}
 use Rattle.drill_model.specs.Faults.{wants_moment}
 use Rattle.drill_model.specs.Marks.{marks_from}
 use Rattle.drill_model.specs.Texts.{lines}
@@ -35,6 +35,12 @@ ticks_none grows w old n moment place before whole size few read is =
     subst Q whole (subst S (sym same) (λ v came st.
     let P : Option Link → Type 0 = λ o. WorldWent (at_link v n o (Tick moment)) w.plan.show came w before before in
     subst P (sym (nothing_there w v came n none st).0) (stays grows w v came before st)))
+
+-- no link has this number
+pub ticks_outside : WorldGrows → (k : KeptWorld) (n moment : ℕ) (before : List ℕ) → is_link n ≡ false → TicksLink k n moment k before before
+ticks_outside grows k n moment before outside v came st =
+    let P : Option Link → Type 0 = λ o. WorldWent (at_link v n o (Tick moment)) k.plan.show came k before before in
+    subst P (sym (st.within n outside)) (stays grows k v came before st)
 
 pub ticks_some : WorldGrows → (w old : KeptWorld) (n moment : ℕ) (place : Option KeptLink) (kept after : KeptLink) (before now : List ℕ)
     → w ≡ old → length w.links ≡ 65 → n < 65 → place ≡ slice_index_or w.links n place → place ≡ Some kept

@@ -12,14 +12,8 @@ use Rattle.drill_model.specs.Outcomes.{NothingWaits, Occurrence, at_end}
 use Rattle.drill_model.specs.Waiting.{Put}
 use Rattle.drill_model.specs.Links.{Link, LinkOpening, LinkStep, Change, opened_link, waiting_of, link_step}
 use Rattle.drill_model.specs.Worlds.{Plan, World, Came, On, Drained, Drain, drain, is_link, link_at, with_link, history_on, went_on, open_link, at_link, with_drain, drain_link, copy_frame, copy_between}
-use Rattle.er_scenario.specs.declared.level.Level.{Level}
-use Rattle.er_scenario.specs.declared.level.Level.TheVariants as level
-use Rattle.des_block.specs.declared.triple_key.TripleKey.{TripleKey}
-use Rattle.er_scenario.specs.declared.step.Step.TheVariants as does
-use Rattle.safety_pair_laws.specs.Openings.{OfFixed}
-use Rattle.drill_model.specs.Steps.{IsOfLevel}
-use Rattle.drill_model.specs.Links.{OfPair, OfStations}
-use Rattle.drill_model.specs.Worlds.{fixed_opening}
+use Rattle.drill_model.specs.Links.{OfStations}
+use Rattle.drill_ends.specs.EitherStations.{StationsPlan}
 use Rattle.drill_model.specs.Faults.{wants, wants_closed, or_else}
 use Rattle.drill_model.specs.Marks.{marks_from}
 use Rattle.drill_model.specs.Texts.{lines, empty_line, passes_line}
@@ -203,13 +197,14 @@ opens_nothing f found grows w n opening before none is link empty = record {
       subst O (sym empty) (subst P (sym (closed_none f found w n none is v came st)) (stays grows w v came before st));
 }
 
--- whether the stations of a level have selective reject was found, or that its links aren't of stations
-pub no_stations : (found : Option Bool) (opening : Option LinkOpening) → found ≡ None → option_map OfStations found ≡ opening → opening ≡ None
-no_stations found opening none is = sym is ∙ ap (option_map OfStations) none
+-- how the stations of a level are made was found, or that its links aren't of stations
+pub no_stations : (found : Option StationsPlan) (opening : Option LinkOpening) → found ≡ None → option_map (λ (plan : StationsPlan). OfStations plan.selective) found ≡ opening
+    → opening ≡ None
+no_stations found opening none is = sym is ∙ ap (option_map (λ (plan : StationsPlan). OfStations plan.selective)) none
 
-pub some_stations : (selective : Bool) (found : Option Bool) (opening : Option LinkOpening) → found ≡ Some selective → option_map OfStations found ≡ opening
-    → opening ≡ Some (OfStations selective)
-some_stations selective found opening some is = sym is ∙ ap (option_map OfStations) some
+pub some_stations : (plan : StationsPlan) (found : Option StationsPlan) (opening : Option LinkOpening) → found ≡ Some plan
+    → option_map (λ (p : StationsPlan). OfStations p.selective) found ≡ opening → opening ≡ Some (OfStations plan.selective)
+some_stations plan found opening some is = sym is ∙ ap (option_map (λ (p : StationsPlan). OfStations p.selective)) some
 
 -- ---- a copy
 
@@ -336,15 +331,3 @@ copies_put w n m s t kept frame new before now result source some does =
       ap (λ o. copy_between v n s o m t (link_at v m)) a.is ∙ put_between v n s a.link frame first.others m t (link_at v m) waits,
     ))
     does
-
--- ---- levels
-
--- only level safe has a line of fixed keys
-pub fixed_does : (l : Level) (plan : Plan) (n engine rbc : ℕ) (ke kr : TripleKey) (old new : KeptWorld) (before now : List ℕ) (result : Result (Unit {0}) WorldFault)
-    → IsOfLevel l (does.Fixed n engine rbc ke kr)
-    → Does (λ v. wants_closed n (link_at v n)) (λ v. open_link plan v n (link_at v n) (Some (OfPair (OfFixed engine rbc ke kr)))) old new before now result
-    → Does (λ v. wants_closed n (link_at v n)) (λ v. open_link plan v n (link_at v n) (fixed_opening l engine rbc ke kr)) old new before now result
-fixed_does level.Safe plan n engine rbc ke kr old new before now result is done = done
-fixed_does level.Link plan n engine rbc ke kr old new before now result is done = absurd is
-fixed_does level.Full plan n engine rbc ke kr old new before now result is done = absurd is
-fixed_does level.LinkSr plan n engine rbc ke kr old new before now result is done = absurd is

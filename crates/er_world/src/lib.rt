@@ -6,6 +6,7 @@ mod counts;
 mod ledger;
 mod lines;
 mod link;
+mod openings;
 mod place;
 mod port;
 mod sealed_pairs;

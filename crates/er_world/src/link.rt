@@ -20,9 +20,9 @@ use crate::lines::{print_change, print_empty, put_count};
 use crate::place::Place;
 use crate::port::Port;
 use crate::waiting::Change;
-use drill_ends::{DrillEnd, EndEvent, Moment, OneKey};
+use drill_ends::{DrillEnd, EndEvent, OneKey};
 use drill_model::Totals;
-use er_base::{NoMemory, Octets, Side};
+use er_base::{Moment, NoMemory, Octets, Side};
 use std::alloc::Global;
 
 /// The most frames that may wait in one direction.

@@ -16,9 +16,9 @@ use crate::counts::count_told;
 use crate::ledger::Ledger;
 use crate::place::Place;
 use crate::waiting::{Change, Waiting};
-use drill_ends::{DrillEnd, EndEvent, Moment, OneKey};
+use drill_ends::{DrillEnd, EndEvent, OneKey};
 use drill_model::Totals;
-use er_base::{NoMemory, Octets};
+use er_base::{Moment, NoMemory, Octets};
 use std::alloc::Global;
 
 /// An end of a link, and the frames of it that wait.

@@ -1,23 +1,18 @@
 //! The world of a drill: up to 64 links, and the steps of a scenario.
 
-ghost use Rattle.std.specs.Prelude.{ℕ, ◌≡◌, ◌*◌, ◌++◌, ◌≤◌, ◌<◌, [], List, length, slice_get, slice_set, option_map, Some, true, false, IfOk, IfErr, IfSome, OnOk, OnErr};
-ghost use Rattle.er_base.specs.declared.side.Side.TheVariants.{E};
-ghost use Rattle.er_settings.specs.Ranges.{AllAllowed};
-ghost use Rattle.er_settings.specs.Values.{Settings as AnySettings};
+ghost use Rattle.std.specs.Prelude.{ℕ, ◌≡◌, ◌*◌, ◌++◌, ◌≤◌, ◌<◌, [], List, length, slice_get, slice_set, option_map, Bool, Some, true, false, IfOk, IfErr, IfSome, OnOk, OnErr};
 ghost use Rattle.er_scenario.specs.Choices.{IsNarrow};
-ghost use Rattle.er_scenario.specs.StepRanges.{IsEtcsNumber};
 ghost use Rattle.er_scenario.specs.declared.step.Step.{Step as AnyStep};
-ghost use Rattle.safety_pair_laws.specs.Openings.{OfFixed, OfKeys};
 ghost use Rattle.safety_pair_laws.specs.Marks.{MarksGrow};
 ghost use Rattle.drill_model.specs.Growth.{FactsGrow, HistoryGrows, HistoryOfOwn, HistoryOfOther, LinkMarksGrow, WorldMarksGrow, LinkText};
 ghost use Rattle.drill_model.specs.Steps.{IsOfLevel, HasEtcsNumbers, HasMoment};
-ghost use Rattle.drill_model.specs.Links.{OfPair, OfStations, OfStacks, Tick, opened_link};
-ghost use Rattle.drill_model.specs.Worlds.{Plan, link_at, is_link, link_opening, wire_opening, open_link, at_link, drain_link, copy_between, tick_each_link, tick_world, world_run, world_step};
+ghost use Rattle.drill_model.specs.Links.{OfStations, Tick};
+ghost use Rattle.drill_model.specs.Worlds.{Plan, link_at, is_link, fixed_opening, link_opening, wire_opening, open_link, at_link, drain_link, copy_between, tick_each_link, tick_world, world_run, world_step};
 ghost use Rattle.drill_model.specs.Faults.{wants, wants_closed, wants_moment, or_else, refusal};
 ghost use Rattle.drill_model.specs.Texts.{last_lines};
 ghost use Rattle.drill_model.specs.Totals.{totals_of};
 ghost use Rattle.er_world.specs.Changes.{action_step};
-ghost use Rattle.er_world.specs.KeptLinks.{LinkWent, waiting_at};
+ghost use Rattle.er_world.specs.KeptLinks.{waiting_at};
 ghost use Rattle.er_world.specs.Standing.{Ran, Applied, IsFaultBehind, LeavesIt, kept_at};
 ghost use Rattle.er_world.specs.WorldSteps.{Does, WorldDoes, Ends, left_by, touched, overfull_in, overfull_from, overfull_by, place_closing, place_totals, closing_lines};
 
@@ -25,15 +20,14 @@ use crate::action::{Action, LineChange};
 use crate::counts::{no_totals, sum};
 use crate::lines::{print_empty, print_passes};
 use crate::link::{Link, MOST_WAITING};
+use crate::openings::{called, fixed, stacked, wired};
 use crate::place::Place;
 use des_block::TripleKey;
-use drill_ends::{DrillEnd, EndEvent, Moment, OneKey, StationEnd};
+use drill_ends::StationPlan;
 use drill_model::{Totals, WorldFault};
-use er_base::{NoMemory, Octets, Side};
-use er_end::End;
+use er_base::{EtcsNumber, Moment, NoMemory, Octets, Side};
 use er_scenario::{Level, Step};
 use er_settings::Settings;
-use safety_automaton::{Role, Safe};
 use std::alloc::Global;
 use std::marker::Model;
 
@@ -53,7 +47,6 @@ pub struct World {
 
 impl Model for World {
     ghost use Rattle.std.specs.Prelude.{◌≡◌, length};
-    ghost use Rattle.er_settings.specs.Ranges.{AllAllowed};
     ghost use Rattle.er_scenario.specs.Choices.{IsNarrow};
     ghost use Rattle.er_world.specs.Standing.{KeptWorld};
 
@@ -66,7 +59,7 @@ impl Model for World {
       moment = w.moment;
     } };
 
-    ghost invariant = { λ w. (length w.places.items ≡ 65) × AllAllowed w.settings × IsNarrow w.level w.settings };
+    ghost invariant = { λ w. (length w.places.items ≡ 65) × IsNarrow w.level w.settings };
 }
 
 /// Whether a link may have this number.
@@ -124,85 +117,8 @@ fn world_grows()
     drill_model::laws::marks_grow();
 }
 
-/// A link between two ends that aren't connected yet, opened at a moment; the engine has begun the set-up.
-fn called(
-    alloc: Global,
-    place: Place,
-    engine: u32,
-    rbc: u32,
-    ke: TripleKey,
-    kr: Option<TripleKey>,
-    ra: u64,
-    rb: u64,
-    moment: Moment,
-    out: &mut Vec<u8>,
-) -> Result<Link, NoMemory>
-    requires engine { IsEtcsNumber engine }
-    requires rbc { IsEtcsNumber rbc }
-    ensures { IfOk result (λ link. place.side ≡ E → (settings : AnySettings) (now : ℕ) → moment ≡ now
-        → LinkWent (opened_link settings now (OfPair (OfKeys engine rbc ke kr ra rb))) place.show place.number [] link out.old.items out.new.items) }
-{
-    drill_ends::laws::keys();
-    let e = DrillEnd::Safe(Safe::initiator(engine, rbc, ke, rb));
-    let r = DrillEnd::Safe(Safe::responder(rbc, ra));
-    let mut link = Link::new(alloc, e, r, OneKey::new(engine, rbc, kr), moment);
-    link.give(alloc, place, &EndEvent::Start, out)?;
-    Ok(link)
-}
-
-/// A link between two stacks, opened at a moment; the engine's has begun the set-up.
-fn stacked(
-    alloc: Global,
-    place: Place,
-    settings: &Settings,
-    engine: u32,
-    rbc: u32,
-    ke: TripleKey,
-    kr: Option<TripleKey>,
-    ra: u64,
-    rb: u64,
-    moment: Moment,
-    out: &mut Vec<u8>,
-) -> Result<Link, NoMemory>
-    requires settings { AllAllowed settings.now }
-    requires engine { IsEtcsNumber engine }
-    requires rbc { IsEtcsNumber rbc }
-    ensures { IfOk result (λ link. place.side ≡ E → (now : ℕ) → moment ≡ now
-        → LinkWent (opened_link settings.now now (OfStacks engine rbc ke kr ra rb)) place.show place.number [] link out.old.items out.new.items) }
-{
-    drill_ends::laws::keys();
-    er_end::laws::standing();
-    drill_model::laws::stacks_report();
-    let e = DrillEnd::Stack(End::call(alloc, settings, engine, rbc, ke, rb, moment.get())?);
-    let r = DrillEnd::Stack(End::answer(alloc, settings, rbc, ra, moment.get())?);
-    let mut link = Link::new(alloc, e, r, OneKey::new(engine, rbc, kr), moment);
-    link.give(alloc, place, &EndEvent::Start, out)?;
-    Ok(link)
-}
-
-/// A link between two stations, both with selective reject or both without, opened at a moment; the calling one has begun the set-up.
-fn wired(
-    alloc: Global,
-    place: Place,
-    selective: bool,
-    settings: &Settings,
-    moment: Moment,
-    out: &mut Vec<u8>,
-) -> Result<Link, NoMemory>
-    requires allowed { AllAllowed settings.now }
-    requires half { selective ≡ true → 2 * settings.now.window ≤ settings.now.modulo }
-    ensures { IfOk result (λ link. place.side ≡ E → (now : ℕ) → moment ≡ now
-        → LinkWent (opened_link settings.now now (OfStations selective)) place.show place.number [] link out.old.items out.new.items) }
-{
-    let e = DrillEnd::Station(StationEnd::calling(alloc, selective, settings)?);
-    let r = DrillEnd::Station(StationEnd::called(alloc, selective, settings)?);
-    let mut link = Link::new(alloc, e, r, OneKey::new(0, 0, None), moment);
-    link.give(alloc, place, &EndEvent::Start, out)?;
-    Ok(link)
-}
-
 impl World {
-    /// A world without links, of a level and with settings that are in their ranges; at level link-sr the window is at most half of the
+    /// A world without links, of a level and with settings; at level link-sr the window is at most half of the
     /// modulo. With `show`, each frame that is sent is printed too.
     pub fn new(
         alloc: Global,
@@ -210,7 +126,6 @@ impl World {
         settings: Settings,
         show: bool,
     ) -> Result<World, NoMemory>
-        requires allowed { AllAllowed settings }
         requires narrow { IsNarrow level settings }
         ensures ran { IfOk result (λ w. Ran w (record { level = level; settings = settings; show = show }) []) }
         ensures plan { IfOk result (λ w. w.plan ≡ record { level = level; settings = settings; show = show }) }
@@ -363,21 +278,19 @@ impl World {
         self.places[number as usize] = Some(link);
     }
 
-    /// Opens link N with two ends that are connected under these session keys, the engine's first.
+    /// Opens link N with two ends that are connected under these session keys, the engine's first. Only level safe has such links.
     fn open_fixed(
         &mut self,
         alloc: Global,
         number: u8,
-        engine: u32,
-        rbc: u32,
+        engine: EtcsNumber,
+        rbc: EtcsNumber,
         ke: TripleKey,
         kr: TripleKey,
         out: &mut Vec<u8>,
     ) -> Result<(), WorldFault>
-        requires engine { IsEtcsNumber engine }
-        requires rbc { IsEtcsNumber rbc }
         ensures does { Does (λ w. wants_closed number (link_at w number))
-            (λ w. open_link self.old.plan w number (link_at w number) (Some (OfPair (OfFixed engine rbc ke kr))))
+            (λ w. open_link self.old.plan w number (link_at w number) (fixed_opening self.old.plan.level engine rbc ke kr))
             self.old self.new out.old.items out.new.items result }
         ensures plan { self.new.plan ≡ self.old.plan }
         ensures spent { self.new.spent ≡ self.old.spent }
@@ -389,11 +302,16 @@ impl World {
         if !is_link(number) {
             return Err(WorldFault::NoLink(number));
         }
-        let e = DrillEnd::Safe(Safe::fixed(engine, rbc, Role::Initiator, ke));
-        let r = DrillEnd::Safe(Safe::fixed(rbc, engine, Role::Responder, kr));
-        let link = Link::new(alloc, e, r, OneKey::new(engine, rbc, None), self.moment);
-        self.open(number, link);
-        Ok(())
+        match self.level {
+            Level::Safe => {
+                let link = fixed(alloc, engine, rbc, ke, kr, self.moment);
+                self.open(number, link);
+                Ok(())
+            }
+            Level::Link => Ok(()),
+            Level::LinkSr => Ok(()),
+            Level::Full => Ok(()),
+        }
     }
 
     /// Opens link N with two ends that aren't connected yet, and the engine begins the set-up. Levels link and link-sr have no such links.
@@ -401,16 +319,14 @@ impl World {
         &mut self,
         alloc: Global,
         number: u8,
-        engine: u32,
-        rbc: u32,
+        engine: EtcsNumber,
+        rbc: EtcsNumber,
         ke: TripleKey,
         kr: Option<TripleKey>,
         ra: u64,
         rb: u64,
         out: &mut Vec<u8>,
     ) -> Result<(), WorldFault>
-        requires engine { IsEtcsNumber engine }
-        requires rbc { IsEtcsNumber rbc }
         ensures does { Does (λ w. wants_closed number (link_at w number))
             (λ w. open_link self.old.plan w number (link_at w number) (link_opening self.old.plan.level engine rbc ke kr ra rb))
             self.old self.new out.old.items out.new.items result }
@@ -463,15 +379,15 @@ impl World {
         }
     }
 
-    /// Whether the stations of a link have selective reject, where the links of the level are of stations.
-    fn stations(&self) -> Option<bool>
-        ensures kind { option_map OfStations result ≡ wire_opening self.now.plan.level }
-        ensures half { IfSome result (λ selective. selective ≡ true → 2 * self.now.plan.settings.window ≤ self.now.plan.settings.modulo) }
+    /// How the stations of a link are made, where the links of the level are of stations.
+    fn stations(&self) -> Option<StationPlan>
+        ensures kind { option_map (λ plan. OfStations plan.selective) result ≡ wire_opening self.now.plan.level }
+        ensures settings { IfSome result (λ plan. plan.settings ≡ self.now.plan.settings) }
     {
         match self.level {
             Level::Safe => None,
-            Level::Link => Some(false),
-            Level::LinkSr => Some(true),
+            Level::Link => Some(StationPlan::new(false, self.settings)),
+            Level::LinkSr => Some(StationPlan::new(true, self.settings)),
             Level::Full => None,
         }
     }
@@ -491,11 +407,11 @@ impl World {
         if !is_link(number) {
             return Err(WorldFault::NoLink(number));
         }
-        let Some(selective) = self.stations() else {
+        let Some(plan) = self.stations() else {
             return Ok(());
         };
         let place = self.place(number, Side::E);
-        let link = wired(alloc, place, selective, &self.settings, self.moment, out)?;
+        let link = wired(alloc, place, &plan, self.moment, out)?;
         self.open(number, link);
         Ok(())
     }
@@ -590,13 +506,15 @@ impl World {
         moment: Moment,
         out: &mut Vec<u8>,
     ) -> Result<(), NoMemory>
-        requires { number < 65 }
         ensures went { OnOk result (WorldDoes (λ w. at_link w number (link_at w number) (Tick moment)) self.old self.new out.old.items out.new.items) }
         ensures plan { self.new.plan ≡ self.old.plan }
         ensures spent { self.new.spent ≡ self.old.spent }
     {
         world_grows();
         let show = self.show;
+        if !is_link(number) {
+            return Ok(());
+        }
         let Some(link) = &mut self.places[number as usize] else {
             return Ok(());
         };
@@ -624,27 +542,24 @@ impl World {
     }
 
     /// The moment is set, and every end is ticked.
-    fn tick(&mut self, alloc: Global, moment: u64, out: &mut Vec<u8>) -> Result<(), WorldFault>
-        requires { moment ≤ 1000000000000000 }
+    fn tick(&mut self, alloc: Global, moment: Moment, out: &mut Vec<u8>) -> Result<(), WorldFault>
         ensures does { Does (λ w. wants_moment w moment) (λ w. tick_world w moment) self.old self.new out.old.items out.new.items result }
         ensures plan { self.new.plan ≡ self.old.plan }
         ensures spent { self.new.spent ≡ self.old.spent }
     {
-        if moment < self.moment.get() {
+        if moment.get() < self.moment.get() {
             return Err(WorldFault::MomentBack {
                 was: self.moment.get(),
-                now: moment,
+                now: moment.get(),
             });
         }
-        let now = Moment::new(moment);
-        self.moment = now;
-        self.tick_links(alloc, now, out)?;
+        self.moment = moment;
+        self.tick_links(alloc, moment, out)?;
         Ok(())
     }
 
     /// One step, but for the test that not too many frames wait.
     fn go(&mut self, alloc: Global, step: &Step, out: &mut Vec<u8>) -> Result<(), WorldFault>
-        requires level { IsOfLevel self.old.plan.level step.now }
         requires numbers { HasEtcsNumbers step.now }
         requires moment { HasMoment step.now }
         ensures does { Does (λ w. refusal w step.now) (λ w. world_step self.old.plan w step.now)
@@ -659,7 +574,11 @@ impl World {
                 rbc,
                 ke,
                 kr,
-            } => self.open_fixed(alloc, *link, *engine, *rbc, *ke, *kr, out),
+            } => {
+                let engine = EtcsNumber::new(*engine);
+                let rbc = EtcsNumber::new(*rbc);
+                self.open_fixed(alloc, *link, engine, rbc, *ke, *kr, out)
+            }
             Step::Link {
                 link,
                 engine,
@@ -668,7 +587,11 @@ impl World {
                 kr,
                 ra,
                 rb,
-            } => self.open_called(alloc, *link, *engine, *rbc, *ke, *kr, *ra, *rb, out),
+            } => {
+                let engine = EtcsNumber::new(*engine);
+                let rbc = EtcsNumber::new(*rbc);
+                self.open_called(alloc, *link, engine, rbc, *ke, *kr, *ra, *rb, out)
+            }
             Step::Wire { link } => self.open_wire(alloc, *link, out),
             Step::Send { link, side, text } => {
                 self.at(alloc, *link, *side, &Action::Send(text.as_slice()), out)
@@ -712,7 +635,7 @@ impl World {
             Step::Release { link, side, sub } => {
                 self.at(alloc, *link, *side, &Action::Release(*sub), out)
             }
-            Step::Tick { moment } => self.tick(alloc, *moment, out),
+            Step::Tick { moment } => self.tick(alloc, Moment::new(*moment), out),
             Step::Drain { link, most } => self.drain(alloc, *link, *most, out),
         }
     }

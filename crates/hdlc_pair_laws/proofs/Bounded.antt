@@ -8,7 +8,7 @@ use Rattle.hdlc_station_model.specs.Stations.{Station, is_down, sees}
 use Rattle.hdlc_station_model.specs.Sending.{sends_waiting, settles}
 use Rattle.hdlc_station_model.specs.Calls.{finishes}
 use Rattle.hdlc_station_model.specs.Selective.{receives_as}
-use Rattle.hdlc_pair_laws.specs.Recovery.{passes_bound}
+use Rattle.hdlc_station_model.specs.Repeating.{passes_bound}
 use Rattle.hdlc_pair_laws.specs.Invariant.{Pair, Both, infos, numbers}
 use Rattle.hdlc_pair_laws.specs.Flowing.{one_if}
 use Rattle.hdlc_pair_laws.proofs.Ways.{way_bounds}

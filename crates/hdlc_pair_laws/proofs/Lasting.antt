@@ -11,7 +11,8 @@ use Rattle.hdlc_station_model.specs.Lines.{next_of}
 use Rattle.hdlc_pair_laws.specs.Links.{Came, Link, line_of, hears_each, reads}
 use Rattle.hdlc_pair_laws.specs.Steps.{LinkStep, Send, Pass, Lose, Repeat, Alter, Put, UserRelease, Drain, Tick, pass, is_overfull, Draining, pass_next, drained, happens}
 use Rattle.hdlc_pair_laws.specs.Laws.{Opening, after, passed_of, deliveries, IsEmpty}
-use Rattle.hdlc_pair_laws.specs.Recovery.{ArePasses, passes_bound, bound_of, PassesBound, DrainEmptiesLive}
+use Rattle.hdlc_pair_laws.specs.Recovery.{ArePasses, bound_of, PassesBound, DrainEmptiesLive}
+use Rattle.hdlc_station_model.specs.Repeating.{passes_bound}
 use Rattle.hdlc_pair_laws.specs.Invariant.{Pair, Both}
 use Rattle.hdlc_pair_laws.proofs.Lines.{octets_of, Stands, turned, begun, acted, First, first_of_line, answered, one_event, flag_behind, answered_keeps}
 use Rattle.hdlc_pair_laws.proofs.Runs.{Frames, Holds, after_holds}

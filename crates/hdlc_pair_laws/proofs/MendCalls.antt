@@ -12,7 +12,7 @@ use Rattle.hdlc_station_model.specs.Selective.{receives_as}
 use Rattle.hdlc_station_model.specs.Reports.{is_release, ReleasesAreTold}
 use Rattle.hdlc_pair_laws.specs.Invariant.{Pair, Both}
 use Rattle.hdlc_pair_laws.specs.Keeping.{found, FramesGive}
-use Rattle.hdlc_pair_laws.specs.Recovery.{MayRepeat}
+use Rattle.hdlc_station_model.specs.Repeating.{MayRepeat}
 use Rattle.hdlc_pair_laws.specs.Mending.{Own, Progress, Lossy, HalfTicked, Ticked, Reached, MayHear, MaySpeak, Began, Between, Within}
 use Rattle.hdlc_pair_laws.specs.Repairs.{MendKeeps, MendEnds}
 use Rattle.hdlc_pair_laws.proofs.Telling.{phases_stay, ticks_tell}

@@ -13,7 +13,8 @@ use Rattle.hdlc_pair_laws.specs.Links.{Link, opened}
 use Rattle.hdlc_pair_laws.specs.Steps.{LinkStep, Tick, tick_at, tick, happens, run}
 use Rattle.hdlc_pair_laws.specs.Laws.{Opening, after, IsEmpty}
 use Rattle.hdlc_pair_laws.specs.Invariant.{Pair}
-use Rattle.hdlc_pair_laws.specs.Recovery.{ArePasses, AreLive, MayRepeat, IsRecovered, Recovery}
+use Rattle.hdlc_pair_laws.specs.Recovery.{ArePasses, AreLive, IsRecovered, Recovery}
+use Rattle.hdlc_station_model.specs.Repeating.{MayRepeat}
 use Rattle.hdlc_pair_laws.specs.Timers.{IsRenewed, Renewal}
 use Rattle.hdlc_pair_laws.specs.Mending.{Timed, Own, Rested, Comes, Mends, HalfTicked, Ticked, Reached}
 use Rattle.hdlc_pair_laws.specs.Repairs.{IsMended}

@@ -13,7 +13,7 @@ use Rattle.hdlc_station_model.specs.Calls.{hands, finishes, ticks}
 use Rattle.hdlc_station_model.specs.Events.{is_late}
 use Rattle.hdlc_pair_laws.specs.Invariant.{infos, numbers, info_of, number_of}
 use Rattle.hdlc_pair_laws.specs.Flowing.{Consecutive}
-use Rattle.hdlc_pair_laws.specs.Recovery.{MayRepeat}
+use Rattle.hdlc_station_model.specs.Repeating.{MayRepeat}
 use Rattle.hdlc_pair_laws.specs.Mending.{AllAre, AllExchange, Fires}
 use Rattle.hdlc_pair_laws.proofs.Keeps.{more}
 use Rattle.hdlc_pair_laws.proofs.Flows.{consecutive_push}

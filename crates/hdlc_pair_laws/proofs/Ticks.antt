@@ -11,7 +11,7 @@ use Rattle.hdlc_station_model.specs.Sending.{starts_timer, counts_expiry}
 use Rattle.hdlc_station_model.specs.Calls.{ticks}
 use Rattle.hdlc_pair_laws.specs.Invariant.{Pair, Both, Early, infos, numbers}
 use Rattle.hdlc_pair_laws.specs.Flowing.{Consecutive, Ends}
-use Rattle.hdlc_pair_laws.specs.Recovery.{MayRepeat}
+use Rattle.hdlc_station_model.specs.Repeating.{MayRepeat}
 use Rattle.hdlc_pair_laws.specs.Mending.{Timed, Own, Rested, HasBegun, leads, Waits, Comes, Toward, Mends, AllAre, Fires, Asks, HalfTicked, Ticked}
 use Rattle.hdlc_pair_laws.proofs.Ways.{way_bounds}
 use Rattle.hdlc_pair_laws.proofs.Events.{ticks_keeps}

@@ -2,8 +2,8 @@
 -- loses none, by T1 alone.
 use Rattle.std.specs.Prelude.{◌≡◌, ◌⊎◌, ℕ, ◌+◌, ◌*◌, ◌<◌, ◌≤◌, true, false, List, [], ◌∷◌, ◌++◌, length, None}
 use Rattle.hdlc_station_model.specs.declared.phase.Phase.TheVariants.{Up}
-use Rattle.hdlc_station_model.specs.Stations.{Station, is_down}
-use Rattle.hdlc_station_model.specs.Events.{is_late}
+use Rattle.hdlc_station_model.specs.Stations.{is_down}
+use Rattle.hdlc_station_model.specs.Repeating.{MayRepeat, passes_bound}
 use Rattle.hdlc_pair_laws.specs.Links.{Link}
 use Rattle.hdlc_pair_laws.specs.Steps.{LinkStep, Send, Pass, Lose, Repeat, Alter, Put, UserRelease, Drain, Tick, drained, is_overfull}
 use Rattle.hdlc_pair_laws.specs.Laws.{Opening, after, deliveries, IsEmpty}
@@ -27,10 +27,6 @@ ArePasses (s ∷ steps) = IsPass s × ArePasses steps
 -- neither end was released
 abbrev pub AreLive : Link → Type 0
 AreLive l = (is_down l.e.phase ≡ false) × (is_down l.r.phase ≡ false)
-
--- T1 doesn't run, or this moment finds it expired, and the station doesn't give up yet
-abbrev pub MayRepeat : (now : ℕ) → Station → Type 0
-MayRepeat now s = (s.timer ≡ None) ⊎ ((is_late now s ≡ true) × (s.expiries < s.n2))
 
 -- both stations are up, the called one took all payloads, and the calling one did where it handed down any itself, since the called station
 -- may not send before it took one
@@ -57,11 +53,6 @@ PassesRelease =
     → (passes : List LinkStep) → ArePasses passes → AreLive (after s (steps ++ passes))
 
 -- ---- how many passes it takes
-
--- each waiting frame may be a REJ, at which a window of frames is sent again, each with its answer; each payload that is taken clears the gap
--- mark, so that one more REJ may be said; and each payload is sent for the first time, and answered
-abbrev pub passes_bound : (window waiting handed : ℕ) → ℕ
-passes_bound window waiting handed = (1 + 2 * window) * (waiting + handed + 2) + 2 * handed
 
 abbrev pub bound_of : Opening → Link → ℕ
 bound_of s l = passes_bound s.window (length l.from_e + length l.from_r) (length l.e.handed + length l.r.handed)

@@ -9,7 +9,7 @@ use Rattle.hdlc_station_model.specs.Calls.{starts, hands, finishes, ticks, close
 use Rattle.hdlc_station_model.specs.Selective.{receives_as}
 use Rattle.hdlc_pair_laws.specs.Invariant.{Pair, Both}
 use Rattle.hdlc_pair_laws.specs.Keeping.{found}
-use Rattle.hdlc_pair_laws.specs.Recovery.{MayRepeat}
+use Rattle.hdlc_station_model.specs.Repeating.{MayRepeat}
 use Rattle.hdlc_pair_laws.specs.Mending.{Progress, Lossy, HalfTicked, Ticked, MayHear, MaySpeak, Between, Within}
 
 -- each call keeps what holds, and the two ticks lead on

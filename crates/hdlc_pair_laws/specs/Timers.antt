@@ -11,7 +11,8 @@ use Rattle.hdlc_station_model.specs.Selective.{receives_as}
 use Rattle.hdlc_pair_laws.specs.Links.{Link}
 use Rattle.hdlc_pair_laws.specs.Steps.{LinkStep, Tick}
 use Rattle.hdlc_pair_laws.specs.Laws.{Opening, after, IsEmpty}
-use Rattle.hdlc_pair_laws.specs.Recovery.{ArePasses, AreLive, MayRepeat}
+use Rattle.hdlc_pair_laws.specs.Recovery.{ArePasses, AreLive}
+use Rattle.hdlc_station_model.specs.Repeating.{MayRepeat}
 
 -- T1 runs exactly while an I frame is unacknowledged, or while the set-up is unanswered; where it doesn't run no expiry is counted
 abbrev pub TimedAt : Phase → Station → Type 0

@@ -6,6 +6,7 @@ pub mod Selective
 pub mod Calls
 pub mod Events
 pub mod Lines
+pub mod Repeating
 pub mod Laws
 pub mod Reports
 pub mod Timing

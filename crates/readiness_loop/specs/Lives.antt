@@ -1,8 +1,9 @@
 -- Representation: the loop's code as a loop of the model, over the objects of the outside; what its parts stand on and leave alone; no claim
 -- rests on it.
-use Rattle.std.specs.Prelude.{◌≡◌, ◌<◌, ℕ, Bool, List, [], ◌∷◌, map, Result}
+use Rattle.std.specs.Prelude.{◌≡◌, ◌<◌, ℕ, Bool, List, [], map, Result}
 use Rattle.rand_core.specs.Stream.{Stream, next_u64}
 use Rattle.rand_core.specs.declared.Rng as rng
+use Rattle.safety_automaton.specs.Pairs.{Pair, pair_entries}
 use Rattle.er_end_model.specs.Ends.{Call as CallsWith}
 use Rattle.er_end.specs.KeptEnds.{KEnd, kept_opened}
 use Rattle.er_users.specs.Users.{Mind}
@@ -19,14 +20,13 @@ use Rattle.loop_session.specs.Parts.{rules}
 use Rattle.loop_session.specs.declared.loop_fault.LoopFault.{LoopFault}
 use Rattle.loop_io.specs.Seeing.{seen}
 use Rattle.readiness_loop.specs.Books.{AreSeated, AreAwaited, sessions}
-use Rattle.readiness_loop.specs.Claims.{pair_of, caller_of}
+use Rattle.readiness_loop.specs.Claims.{caller_of}
 use Rattle.readiness_loop.specs.Courses.{Around, around, loop_of, course_of, plan_of, Acts, Turned, Turns, Runs, Opens}
 use Rattle.readiness_loop.specs.declared.book.Book.{Book}
 use Rattle.readiness_loop.specs.declared.line_plan.Served.{Served}
 use Rattle.readiness_loop.specs.declared.live_loop.LiveLoop.{LiveLoop}
 use Rattle.readiness_loop.specs.declared.live_loop.Next.{Next}
 use Rattle.readiness_loop.specs.declared.loop_plan.LoopPlan.{LoopPlan}
-use Rattle.readiness_loop.specs.declared.one_pair.OnePair.{OnePair}
 
 -- ---- a book
 
@@ -101,15 +101,15 @@ OpensOn u k w c r plan caller conn old new held holds wired now asked asks words
     (so_far : List ℕ) → Opens plan caller (around_at k w c held wired asked) (around_at k w c holds now asks) (course_at u r old words so_far) conn (loop_at u r new left) new.turns result
 
 -- its plan, by the pair, and its caller
-abbrev pub pair_plan : OnePair → LoopPlan → Plan
-pair_plan pair plan = plan_of (pair_of pair.engine pair.rbc pair.kmac ∷ []) plan
+abbrev pub pair_plan : Pair → LoopPlan → Plan
+pair_plan pair plan = plan_of (pair_entries pair) plan
 
-abbrev pub pair_caller : OnePair → Caller
+abbrev pub pair_caller : Pair → Caller
 pair_caller pair = caller_of pair.engine pair.kmac
 
 -- the call of its connection, with all that follows
-abbrev pub calling : OnePair → LoopPlan → Stream → (moment conn : ℕ) → Mind → Met → Out (List (Session KEnd))
+abbrev pub calling : Pair → LoopPlan → Stream → (moment conn : ℕ) → Mind → Met → Out (List (Session KEnd))
 calling pair plan words moment conn mind =
-    served kept_ends (rules (pair_of pair.engine pair.rbc pair.kmac ∷ []) plan.settings.setup) moment
+    served kept_ends (rules (pair_entries pair) plan.settings.setup) moment
     (begun conn (kept_opened (CallsWith plan.settings pair.engine plan.rbc pair.kmac (next_u64 words).0 moment)) mind)
     (Begins pair.engine plan.rbc (next_u64 words).0)

@@ -8,7 +8,6 @@ ghost use Rattle.readiness_loop.specs.Lives.{around_at, pair_plan, pair_caller};
 use crate::line_plan::{LinePlan, Served, Stop};
 use crate::live_loop::LiveLoop;
 use crate::loop_plan::{LoopPlan, see_settings};
-use crate::one_pair::OnePair;
 use crate::serving::write_header;
 use des_block::TripleKey;
 use er_base::EtcsNumber;
@@ -17,12 +16,14 @@ use link_trait::{Clock, Sink, Wires};
 use loop_model::laws;
 use loop_session::LoopFault;
 use rand_core::Rng;
+use safety_automaton::PairKey;
+use session_keys::Kmac;
 use std::alloc::Global;
 
 // A loop that dials, over users of any one type.
 fn dial_users<U: SafeUser, W: Wires, C: Clock, R: Rng, S: Sink>(
     alloc: Global,
-    pair: &OnePair,
+    pair: &PairKey,
     plan: &LoopPlan,
     address: &str,
     users: Vec<U>,
@@ -86,11 +87,7 @@ pub fn dial<W: Wires, C: Clock, R: Rng, S: Sink>(
         (dialling kmac plan.now engine rbc (length users.items)) (caller_of engine kmac) address.now (map mind users.items) (R.stream randoms.old) (R.stream randoms.new) result }
 {
     let rbc = EtcsNumber::new(rbc);
-    let pair = OnePair {
-        engine: EtcsNumber::new(engine),
-        rbc,
-        kmac,
-    };
+    let pair = PairKey::new(EtcsNumber::new(engine), rbc, Kmac::new(kmac));
     let loop_plan = LoopPlan {
         settings: plan.settings,
         rbc,

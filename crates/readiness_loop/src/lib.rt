@@ -10,7 +10,6 @@ mod dialling;
 mod line_plan;
 mod live_loop;
 mod loop_plan;
-mod one_pair;
 mod opening;
 mod serving;
 mod wake_times;

@@ -7,7 +7,6 @@ ghost use Rattle.readiness_loop.specs.Lives.{sessions_in, IsSeated, IsAwaited, I
 
 use crate::live_loop::{LiveLoop, moment_of};
 use crate::loop_plan::{LoopPlan, see_settings};
-use crate::one_pair::OnePair;
 use er_end::End;
 use er_trace::Event;
 use er_users::SafeUser;
@@ -15,6 +14,7 @@ use link_trait::{Clock, Conn, Sink, Wires};
 use loop_io::begin_call;
 use loop_session::{Called, LoopFault, Session, When};
 use rand_core::Rng;
+use safety_automaton::PairKey;
 use std::alloc::Global;
 
 impl<U: SafeUser> LiveLoop<U> {
@@ -24,7 +24,7 @@ impl<U: SafeUser> LiveLoop<U> {
         alloc: Global,
         conn: Conn,
         user: U,
-        pair: &OnePair,
+        pair: &PairKey,
         plan: &LoopPlan,
         wires: &mut W,
         randoms: &mut R,
@@ -44,13 +44,13 @@ impl<U: SafeUser> LiveLoop<U> {
     {
         see_settings(&plan.settings);
         let rb = randoms.next_u64();
-        let (engine, rbc) = (pair.engine, plan.rbc);
+        let (engine, rbc) = (pair.engine(), plan.rbc);
         let end = End::call(
             alloc,
             &plan.settings,
             engine.get(),
             rbc.get(),
-            pair.kmac,
+            pair.kmac().key(),
             rb,
             self.moment.get(),
         )?;
@@ -78,7 +78,7 @@ impl<U: SafeUser> LiveLoop<U> {
         &mut self,
         alloc: Global,
         conn: Conn,
-        pair: &OnePair,
+        pair: &PairKey,
         plan: &LoopPlan,
         wires: &mut W,
         clock: &mut C,

@@ -4,7 +4,8 @@ use Rattle.std.proofs.lemmas.List.{append-nil}
 use Rattle.std.proofs.lemmas.List.Concat.{flat_map-append}
 use Rattle.er_base.specs.declared.side.Side.TheVariants.{E, R}
 use Rattle.safety_pair_laws.specs.Facts.{SideFact, is_side}
-use Rattle.safety_pair_laws.specs.Deliveries.{sent_in, accepted_in, sent_of, accepted_of}
+use Rattle.safety_pair_laws.specs.Deliveries.{sent_of, accepted_of}
+use Rattle.safety_pair_laws.specs.Messages.{sent_in, accepted_in}
 
 pub record Tally : Type 0 where
   pub sent_e : List (List ℕ)

@@ -6,29 +6,13 @@ use Rattle.er_base.specs.declared.side.Side.{Side}
 use Rattle.er_base.specs.declared.side.Side.TheVariants.{E, R}
 use Rattle.er_base.specs.Sides.{other}
 use Rattle.er_base.specs.Octets.{AreOctets}
-use Rattle.safety_automaton.specs.Safety.{Safety, Phase, Ready, WaitAu1, WaitAu2, WaitAu3, WaitAr, Connected, Released, SafetyEvent, ConnectRequest, Received, DataRequest, SafetyOutcome, SentAu1, SentAu2, SentAu3, SentAr, ReceivedAr, AcceptedDt, SentDt, Refused, ReleasedLocally, ReleasedByPeer, NothingDone}
-use Rattle.safety_pair_laws.specs.Facts.{Fact, Sent, Sealed, Verified, Accepted, SideFact, at_side, facts_of, is_side, marked}
-use Rattle.safety_pair_laws.specs.Facts as fact
+use Rattle.safety_automaton.specs.Safety.{Safety, SafetyEvent, ConnectRequest, Received, DataRequest, SafetyOutcome, SentAu1, SentAu2, SentAu3, SentAr, ReceivedAr, AcceptedDt, SentDt, Refused, ReleasedLocally, ReleasedByPeer, NothingDone}
+use Rattle.safety_pair_laws.specs.Facts.{SideFact, at_side, facts_of, is_side, marked}
 use Rattle.safety_pair_laws.specs.Openings.{PairOpening, OfFixed, OfKeys, Pair, with_safety, begun, Agrees}
+use Rattle.safety_pair_laws.specs.Messages.{sent_in, accepted_in, set_up_sapdus, IsConnectedPhase}
 use Rattle.safety_pair_laws.specs.Talks.{answer}
 
 -- ---- messages
-
--- the user octets of a send that was Ok
-abbrev pub sent_in : Fact → List (List ℕ)
-sent_in (Sent user key text) = user ∷ []
-sent_in (Sealed key text) = []
-sent_in (Verified heard key text) = []
-sent_in (fact.Connected heard connection text) = []
-sent_in (Accepted heard user key text) = []
-
--- those of an accepted message
-abbrev pub accepted_in : Fact → List (List ℕ)
-accepted_in (Sent user key text) = []
-accepted_in (Sealed key text) = []
-accepted_in (Verified heard key text) = []
-accepted_in (fact.Connected heard connection text) = []
-accepted_in (Accepted heard user key text) = user ∷ []
 
 -- `sent` and `accepted` of a side, in their order
 abbrev pub sent_of : Side → List SideFact → List (List ℕ)
@@ -107,21 +91,6 @@ pub data Flows (opening : PairOpening) : Flow → Type 0 where
 abbrev pub FitsOpening : PairOpening → Type 0
 FitsOpening (OfFixed engine rbc ke kr) = (engine < 2 ^ 24) × (rbc < 2 ^ 24)
 FitsOpening (OfKeys engine rbc ke kr ra rb) = (engine < 2 ^ 24) × (rbc < 2 ^ 24) × (ra < 2 ^ 64) × (rb < 2 ^ 64)
-
--- the SaPDUs of a set-up
-abbrev pub set_up_sapdus : PairOpening → ℕ
-set_up_sapdus (OfFixed engine rbc ke kr) = 0
-set_up_sapdus (OfKeys engine rbc ke kr ra rb) = 4
-
--- a side is connected
-abbrev pub IsConnectedPhase : Phase → Type 0
-IsConnectedPhase (Ready peer kmac rb) = ⊥
-IsConnectedPhase (WaitAu1 ra) = ⊥
-IsConnectedPhase (WaitAu2 peer kmac rb) = ⊥
-IsConnectedPhase (WaitAu3 connection) = ⊥
-IsConnectedPhase (WaitAr connection) = ⊥
-IsConnectedPhase (Connected peer session) = Unit {0}
-IsConnectedPhase (Released release session) = ⊥
 
 -- both sides are connected, and each accepted all that the other sent, in order
 pub record IsComplete (f : Flow) : Type 0 where

@@ -3,4 +3,5 @@ pub mod Openings
 pub mod Talks
 pub mod Authentic
 pub mod Marks
+pub mod Messages
 pub mod Deliveries

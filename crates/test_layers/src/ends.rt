@@ -1,12 +1,11 @@
-ghost use Rattle.std.specs.Prelude.{[], ◌∷◌, ◌≤◌};
-
 use arrayvec::ArrayVec;
 use des_block::TripleKey;
-use er_base::{NoMemory, Release, decimal, next_word};
+use er_base::{EtcsNumber, NoMemory, Release, decimal, next_word};
 use er_end::{Deeds, End, SendRefused};
 use er_settings::Settings;
 use hdlc_frames::first_frame;
-use safety_automaton::KeyFinder;
+use safety_automaton::PairKey;
+use session_keys::Kmac;
 use std::alloc::Global;
 use std::test::Fail;
 
@@ -17,21 +16,8 @@ const KEY: TripleKey = TripleKey {
 };
 
 // The KMAC of engine 5 and radio block centre 9.
-struct OneKey;
-
-impl KeyFinder for OneKey {
-    ghost entries = { λ k. record { engine = 5; rbc = 9; kmac = record { first = 0x0123456789abcdef; second = 0x23456789abcdef01; third = 0x456789abcdef0123 }; first = 0; last = 1000000000000000 } ∷ [] };
-
-    fn find(&self, engine: u32, rbc: u32, now: u64) -> Option<TripleKey> {
-        if engine == 5 {
-            if rbc == 9 {
-                if now <= 1_000_000_000_000_000 {
-                    return Some(KEY);
-                }
-            }
-        }
-        None
-    }
+fn pair_key() -> PairKey {
+    PairKey::new(EtcsNumber::new(5), EtcsNumber::new(9), Kmac::new(KEY))
 }
 
 // What is told, as a short text.
@@ -72,7 +58,7 @@ fn first_waiting(sent: &[u8], passed: usize) -> &[u8] {
 
 impl Side {
     fn comes(&mut self, frame: &[u8], told: &mut Told) {
-        let (_, deeds) = self.end.octets(&OneKey, 0, frame);
+        let (_, deeds) = self.end.octets(&pair_key(), 0, frame);
         let _full = self.sent.try_extend_from_slice(deeds.out);
         tell(self.name, &deeds, told);
     }

@@ -1,7 +1,7 @@
 //! Ends of levels link and link-sr: rows worked out by hand.
 
-use drill_ends::{EndEvent, Moment, StationEnd, Told};
-use er_base::{decimal_word, hex_word, octets_of};
+use drill_ends::{EndEvent, StationEnd, StationPlan, Told};
+use er_base::{Moment, decimal_word, hex_word, octets_of};
 use er_settings::Settings;
 use std::alloc::Global;
 use std::test::Fail;
@@ -18,7 +18,8 @@ the user releases|selective|r7e013febdf7e r7e010202b28c7e c- r7e010000109c7e|up 
 
 fn told_of(alloc: Global, kind: &str, events: &str) -> Result<Vec<u8>, Fail> {
     let settings = Settings::new(4, 15, 128, 1_000, 5, 40_000)?;
-    let mut end = StationEnd::called(alloc, kind == "selective", &settings)?;
+    let plan = StationPlan::new(kind == "selective", settings);
+    let mut end = StationEnd::new(alloc, false, &plan)?;
     let mut text = Vec::new(alloc);
     for word in events.split(' ') {
         event(alloc, &mut end, word.as_bytes(), &mut text)?;

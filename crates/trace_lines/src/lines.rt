@@ -5,10 +5,11 @@ ghost use Rattle.er_end_model.specs.Outcomes.{Taken as TakenText, NothingToTake,
 ghost use Rattle.er_end_model.specs.Steps.{if_connected, if_accepted, if_released, if_octets, outcomes_of};
 ghost use Rattle.er_end.specs.KeptLayers.{KCore, kept};
 ghost use Rattle.er_end.specs.Shown.{Shows, refusal_view};
+ghost use Rattle.er_end.specs.Given.{if_refused, taking_told, deeds_told, outcomes_in};
 ghost use Rattle.trace_model.specs.Printed.{outcomes_text};
 
 use er_base::{NoMemory, Release};
-use er_end::{Deeds, SendRefused};
+use er_end::{Deeds, Effects, SendRefused, Taking};
 use er_trace::{Outcome, print_outcome};
 
 #[tactic(auto, unfolding(trace_model::specs::Printed::outcomes_text))]
@@ -52,14 +53,21 @@ pub fn tell_octets(conn: u64, octets: &[u8], out: &mut Vec<u8>) -> Result<(), No
     print_outcome(conn, &Outcome::Octets(octets), out)
 }
 
-/// What an event came to.
-pub fn tell(conn: u64, deeds: &Deeds<'_>, out: &mut Vec<u8>) -> Result<(), NoMemory>
-    ensures { (x : KCore) → Shows deeds.now x → OnOk result (out.new.items ≡ out.old.items ++ outcomes_text conn (outcomes_of kept x)) }
+// What is told of any event.
+fn tell_deeds(conn: u64, deeds: &Deeds<'_>, out: &mut Vec<u8>) -> Result<(), NoMemory>
+    ensures { OnOk result (out.new.items ≡ out.old.items ++ outcomes_text conn (deeds_told deeds.now)) }
 {
     tell_connected(conn, deeds.connected, out)?;
     tell_accepted(conn, &deeds.accepted, out)?;
     tell_released(conn, deeds.released, out)?;
     tell_octets(conn, deeds.out, out)
+}
+
+/// What an event came to.
+pub fn tell(conn: u64, deeds: &Deeds<'_>, out: &mut Vec<u8>) -> Result<(), NoMemory>
+    ensures { (x : KCore) → Shows deeds.now x → OnOk result (out.new.items ≡ out.old.items ++ outcomes_text conn (outcomes_of kept x)) }
+{
+    tell_deeds(conn, deeds, out)
 }
 
 /// A message that was taken.
@@ -89,4 +97,34 @@ pub fn tell_refused(conn: u64, refused: &SendRefused, out: &mut Vec<u8>) -> Resu
         SendRefused::Length(found) => print_outcome(conn, &Outcome::RefusedLength(*found), out),
         SendRefused::Full(waiting) => print_outcome(conn, &Outcome::RefusedFull(*waiting), out),
     }
+}
+
+#[tactic(auto, unfolding(trace_model::specs::Printed::outcomes_text))]
+fn tell_refusal(conn: u64, refused: &Option<SendRefused>, out: &mut Vec<u8>) -> Result<(), NoMemory>
+    ensures { OnOk result (out.new.items ≡ out.old.items ++ outcomes_text conn (if_refused refused.now)) }
+{
+    match refused {
+        Some(refused) => tell_refused(conn, refused, out),
+        None => Ok(()),
+    }
+}
+
+#[tactic(auto, unfolding(trace_model::specs::Printed::outcomes_text))]
+fn tell_taking(conn: u64, taking: &Taking<'_>, out: &mut Vec<u8>) -> Result<(), NoMemory>
+    ensures { OnOk result (out.new.items ≡ out.old.items ++ outcomes_text conn (taking_told taking.now)) }
+{
+    match taking {
+        Taking::NotAsked => Ok(()),
+        Taking::Nothing => tell_empty(conn, out),
+        Taking::Message(message) => tell_taken(conn, message, out),
+    }
+}
+
+/// All that came of an event: why a send was refused, what a take gave, and then the deeds.
+pub fn tell_effects(conn: u64, effects: &Effects<'_>, out: &mut Vec<u8>) -> Result<(), NoMemory>
+    ensures { OnOk result (out.new.items ≡ out.old.items ++ outcomes_text conn (outcomes_in effects.now)) }
+{
+    tell_refusal(conn, &effects.refused, out)?;
+    tell_taking(conn, &effects.taken, out)?;
+    tell_deeds(conn, &effects.deeds, out)
 }

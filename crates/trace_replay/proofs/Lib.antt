@@ -3,7 +3,6 @@ pub mod Alike
 pub mod Cuts
 pub mod Overs
 pub mod Givings
-pub mod Takes
 pub mod Changes
 pub mod Counts
 pub mod Holdings

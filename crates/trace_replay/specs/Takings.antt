@@ -14,14 +14,24 @@ use Rattle.er_trace.specs.declared.entry.Entry.{Entry}
 use Rattle.link_trait.specs.Outside.{Grew, GrewPart, Rose}
 use Rattle.er_end_model.specs.Steps.{Finds}
 use Rattle.er_end_model.specs.Ends.{End, Come, step}
+use Rattle.er_end.specs.declared.event.Event.{Event as EndEvent}
 use Rattle.er_end.specs.KeptEnds.{KEnd}
+use Rattle.er_end.specs.Given.{given}
 use Rattle.trace_model.specs.declared.replay_fault.ReplayFault.{ReplayFault}
 use Rattle.trace_model.specs.declared.replay_fault.ReplayFault.TheVariants.{NoConn, ConnTwice, MomentBack, NoKey, Many, Sink, NoMemory}
-use Rattle.trace_model.specs.Connections.{happens}
+use Rattle.trace_model.specs.Connections.{goes_on, happens}
 use Rattle.trace_model.specs.Checks.{role_of, role_check, fault_of}
 use Rattle.trace_model.specs.Printed.{outcomes_text, entry_text}
 use Rattle.trace_replay.specs.declared.connections.Connections.{Connections}
 use Rattle.trace_replay.specs.Places.{FollowsEnd, Holds, Follows}
+
+-- an event of a trace is this one of its end
+abbrev pub IsOfEnd : Event → EndEvent → Type 0
+IsOfEnd e on = (settings : Settings) (finds : Finds) (now : ℕ) (m : Option End) → happens settings finds now e m ≡ goes_on now (given finds on) m
+
+-- it is none of an end
+abbrev pub IsOfNoEnd : Event → Type 0
+IsOfNoEnd e = (settings : Settings) (finds : Finds) (now : ℕ) (m : Option End) → happens settings finds now e m ≡ (m, [])
 
 -- an event was given to the end of a connection, and the lines of its outcomes were made
 pub record Gives (settings : Settings) (finds : Finds) (e : Entry) (m : Option End) (k : KEnd) (out new : List ℕ) : Type 0 where

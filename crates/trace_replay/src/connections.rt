@@ -193,7 +193,7 @@ impl Connections {
             entry.moment,
         )?;
         print_entry(entry, out)?;
-        give_start(&mut end, timed.moment(), entry.conn, out)?;
+        give_start(&mut end, keys, timed.moment(), entry.conn, out)?;
         self.open(entry.conn, end)?;
         Ok(())
     }

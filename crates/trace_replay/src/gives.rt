@@ -1,21 +1,22 @@
 //! Events given to the end of a connection, and the lines of what came of them.
 
-ghost use Rattle.std.specs.Prelude.{ℕ, List, ◌≡◌, ◌≤◌, ◌<◌, ◌++◌, length, drop, take, false, Some, IfOk, OnOk};
+ghost use Rattle.std.specs.Prelude.{ℕ, ◌≡◌, ◌≤◌, ◌++◌, length, drop, false, Some, IfOk, OnOk, MatchOption};
 ghost use Rattle.er_settings.specs.Values.{Settings as TraceSettings};
 ghost use Rattle.safety_automaton.specs.Keys.{key_at};
 ghost use Rattle.er_end_model.specs.Ends as of;
-ghost use Rattle.er_end.specs.KeptEnds.{happens, tells, used_of};
+ghost use Rattle.er_end.specs.KeptEnds.{happens, tells};
+ghost use Rattle.er_end.specs.Given.{given, used_by};
 ghost use Rattle.trace_model.specs.Checks.{role_of, opens};
 ghost use Rattle.trace_model.specs.Printed.{outcomes_text};
 ghost use Rattle.trace_replay.specs.Places.{Follows};
-ghost use Rattle.trace_replay.specs.Takings.{Gives, Heard, told_over};
+ghost use Rattle.trace_replay.specs.Takings.{IsOfEnd, IsOfNoEnd, Gives, Heard, told_over};
 
 use crate::timed::Timed;
 use er_base::{Moment, NoMemory, Release};
-use er_end::{End, SendRefused};
+use er_end::{End, Event as EndEvent, SendRefused};
 use er_trace::{Entry, Event};
 use safety_automaton::KeyFinder;
-use trace_lines::{tell, tell_empty, tell_octets, tell_refused, tell_taken};
+use trace_lines::{tell_effects, tell_empty, tell_refused};
 
 // What is left of octets of which so many were used.
 fn behind(octets: &[u8], used: usize) -> &[u8]
@@ -25,24 +26,22 @@ fn behind(octets: &[u8], used: usize) -> &[u8]
     octets.split_at(used).1
 }
 
-// The octets up to the first that closes a frame: how many they were.
-fn give_piece<K: KeyFinder>(
+// Gives an end an event, and appends the lines of what came of it: how many octets of it were used.
+fn give_event<K: KeyFinder>(
     end: &mut End,
     keys: &K,
     now: Moment,
     conn: u64,
-    piece: &[u8],
+    event: &EndEvent<'_>,
     out: &mut Vec<u8>,
 ) -> Result<usize, NoMemory>
-    ensures end { OnOk result (end.new ≡ happens now (of.Come (key_at (K.entries keys.now)) piece.now) end.old) }
-    ensures text { OnOk result (out.new.items ≡ out.old.items ++ outcomes_text conn (tells now (of.Come (key_at (K.entries keys.now)) piece.now) end.old)) }
-    ensures used { IfOk result (λ used. used ≡ used_of end.old piece.now) }
-    ensures within { IfOk result (λ used. used ≤ length piece.now) }
-    ensures moves { IfOk result (λ used. 0 < length piece.now → 0 < used) }
+    ensures end { OnOk result (end.new ≡ happens now (given (key_at (K.entries keys.now)) event.now) end.old) }
+    ensures text { OnOk result (out.new.items ≡ out.old.items ++ outcomes_text conn (tells now (given (key_at (K.entries keys.now)) event.now) end.old)) }
+    ensures used { IfOk result (λ used. used ≡ used_by end.old event.now) }
 {
-    let (used, deeds) = end.octets(keys, now.get(), piece);
-    tell(conn, &deeds, out)?;
-    Ok(used)
+    let effects = end.apply(keys, now.get(), event);
+    tell_effects(conn, &effects, out)?;
+    Ok(effects.used)
 }
 
 // Octets that came in one event, frame by frame.
@@ -58,97 +57,47 @@ fn give_octets<K: KeyFinder>(
         → OnOk result (Heard now conn (key_at (K.entries keys.now)) octets.now m end.new out.old.items out.new.items) }
 {
     er_end::laws::standing();
+    er_end::laws::used_octets();
     hdlc_frames::laws::kept_stands_for_stream();
     let mut used = 0;
     while used < octets.len() {
-        used += give_piece(end, keys, now, conn, behind(octets, used), out)?;
+        let piece = EndEvent::Octets(behind(octets, used));
+        used += give_event(end, keys, now, conn, &piece, out)?;
     }
     Ok(())
 }
 
-// The user sends a message.
-fn give_send(
-    end: &mut End,
-    now: Moment,
-    conn: u64,
-    text: &[u8],
-    out: &mut Vec<u8>,
-) -> Result<(), NoMemory>
-    ensures end { OnOk result (end.new ≡ happens now (of.Send text.now) end.old) }
-    ensures text { OnOk result (out.new.items ≡ out.old.items ++ outcomes_text conn (tells now (of.Send text.now) end.old)) }
+// An event of a trace, which isn't an opening, as one of its end. None where it is none of an end.
+fn at_end(event: &Event) -> Option<EndEvent<'_>>
+    requires { opens (role_of event.now) ≡ false }
+    ensures { MatchOption result (IsOfNoEnd event.now) (λ on. IsOfEnd event.now on) }
 {
-    match end.send(now.get(), text) {
-        Ok(deeds) => tell(conn, &deeds, out),
-        Err(refused) => tell_refused(conn, &refused, out),
+    match event {
+        Event::Octets(octets) => Some(EndEvent::Octets(octets.as_slice())),
+        Event::Send(text) => Some(EndEvent::Send(text.as_slice())),
+        Event::Take => Some(EndEvent::Take),
+        Event::Release(sub) => Some(EndEvent::Release(*sub)),
+        Event::Tick => Some(EndEvent::Tick),
+        Event::Ended => Some(EndEvent::Ended),
+        Event::Fault => Some(EndEvent::Fault),
+        Event::Stalled => Some(EndEvent::Stalled),
+        Event::Call { .. } | Event::Answer { .. } | Event::Full(_) | Event::Unserved(_) => None,
     }
-}
-
-// The user takes a message.
-fn give_take(end: &mut End, now: Moment, conn: u64, out: &mut Vec<u8>) -> Result<(), NoMemory>
-    ensures end { OnOk result (end.new ≡ happens now of.Take end.old) }
-    ensures text { OnOk result (out.new.items ≡ out.old.items ++ outcomes_text conn (tells now of.Take end.old)) }
-{
-    match end.take(now.get()) {
-        Some(taken) => {
-            tell_taken(conn, taken.text, out)?;
-            tell_octets(conn, taken.out, out)
-        }
-        None => tell_empty(conn, out),
-    }
-}
-
-// The user releases.
-fn give_release(
-    end: &mut End,
-    now: Moment,
-    conn: u64,
-    sub: u8,
-    out: &mut Vec<u8>,
-) -> Result<(), NoMemory>
-    ensures end { OnOk result (end.new ≡ happens now (of.Leave sub) end.old) }
-    ensures text { OnOk result (out.new.items ≡ out.old.items ++ outcomes_text conn (tells now (of.Leave sub) end.old)) }
-{
-    tell(conn, &end.release(now.get(), sub), out)
-}
-
-// A moment has come.
-fn give_tick(end: &mut End, now: Moment, conn: u64, out: &mut Vec<u8>) -> Result<(), NoMemory>
-    ensures end { OnOk result (end.new ≡ happens now of.Tick end.old) }
-    ensures text { OnOk result (out.new.items ≡ out.old.items ++ outcomes_text conn (tells now of.Tick end.old)) }
-{
-    tell(conn, &end.tick(now.get()), out)
-}
-
-// The line ended.
-fn give_ended(end: &mut End, conn: u64, out: &mut Vec<u8>) -> Result<(), NoMemory>
-    ensures end { (now : ℕ) → OnOk result (end.new ≡ happens now of.Ended end.old) }
-    ensures text { (now : ℕ) → OnOk result (out.new.items ≡ out.old.items ++ outcomes_text conn (tells now of.Ended end.old)) }
-{
-    tell(conn, &end.ended(), out)
-}
-
-// The line failed.
-fn give_fault(end: &mut End, conn: u64, out: &mut Vec<u8>) -> Result<(), NoMemory>
-    ensures end { (now : ℕ) → OnOk result (end.new ≡ happens now of.Fault end.old) }
-    ensures text { (now : ℕ) → OnOk result (out.new.items ≡ out.old.items ++ outcomes_text conn (tells now of.Fault end.old)) }
-{
-    tell(conn, &end.fault(), out)
-}
-
-// The line stalled.
-fn give_stalled(end: &mut End, conn: u64, out: &mut Vec<u8>) -> Result<(), NoMemory>
-    ensures end { (now : ℕ) → OnOk result (end.new ≡ happens now of.Stalled end.old) }
-    ensures text { (now : ℕ) → OnOk result (out.new.items ≡ out.old.items ++ outcomes_text conn (tells now of.Stalled end.old)) }
-{
-    tell(conn, &end.stalled(), out)
 }
 
 /// Starts an end that calls.
-pub fn give_start(end: &mut End, now: Moment, conn: u64, out: &mut Vec<u8>) -> Result<(), NoMemory>
+pub fn give_start<K: KeyFinder>(
+    end: &mut End,
+    keys: &K,
+    now: Moment,
+    conn: u64,
+    out: &mut Vec<u8>,
+) -> Result<(), NoMemory>
     ensures end { OnOk result (end.new ≡ happens now of.Start end.old) }
     ensures text { OnOk result (out.new.items ≡ out.old.items ++ outcomes_text conn (tells now of.Start end.old)) }
 {
-    tell(conn, &end.start(now.get()), out)
+    give_event(end, keys, now, conn, &EndEvent::Start, out)?;
+    Ok(())
 }
 
 /// Gives an end an event of its connection that isn't its opening, and appends the lines of what came of it.
@@ -164,17 +113,14 @@ pub fn give<K: KeyFinder>(
 {
     er_end::laws::standing();
     let (now, conn) = (timed.moment(), timed.entry.conn);
-    match &timed.entry.event {
-        Event::Octets(octets) => give_octets(end, keys, now, conn, octets.as_slice(), out),
-        Event::Send(text) => give_send(end, now, conn, text.as_slice(), out),
-        Event::Take => give_take(end, now, conn, out),
-        Event::Release(sub) => give_release(end, now, conn, *sub, out),
-        Event::Tick => give_tick(end, now, conn, out),
-        Event::Ended => give_ended(end, conn, out),
-        Event::Fault => give_fault(end, conn, out),
-        Event::Stalled => give_stalled(end, conn, out),
-        Event::Call { .. } | Event::Answer { .. } | Event::Full(_) | Event::Unserved(_) => Ok(()),
+    let Some(event) = at_end(&timed.entry.event) else {
+        return Ok(());
+    };
+    if let EndEvent::Octets(octets) = event {
+        return give_octets(end, keys, now, conn, octets, out);
     }
+    give_event(end, keys, now, conn, &event, out)?;
+    Ok(())
 }
 
 /// Appends the lines of what comes of an event, which isn't its opening, at an end that is over: one that was released for this
@@ -185,15 +131,6 @@ pub fn tell_over(entry: &Entry, why: Release, out: &mut Vec<u8>) -> Result<(), N
     match &entry.event {
         Event::Send(_) => tell_refused(entry.conn, &SendRefused::Released(why), out),
         Event::Take => tell_empty(entry.conn, out),
-        Event::Call { .. }
-        | Event::Answer { .. }
-        | Event::Octets(_)
-        | Event::Release(_)
-        | Event::Tick
-        | Event::Ended
-        | Event::Fault
-        | Event::Stalled
-        | Event::Full(_)
-        | Event::Unserved(_) => Ok(()),
+        _ => Ok(()),
     }
 }

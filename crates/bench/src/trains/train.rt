@@ -1,12 +1,10 @@
 //! A train: an end that calls, whose user sends reports.
 
-ghost use Rattle.std.specs.Prelude.{[]};
-
 use des_block::TripleKey;
 use er_base::{NoMemory, Room};
 use er_end::End;
 use er_settings::Settings;
-use safety_automaton::KeyFinder;
+use safety_automaton::PairKey;
 use std::alloc::Global;
 
 /// The moment of every event.
@@ -30,18 +28,6 @@ const REPORT: &[u8] = b"position-report-00000001";
 
 // More octets than an end sends at one write of the loop.
 const ROOM: usize = 4_096;
-
-// Finds no key: an end that calls looks none up.
-#[derive(Drop)]
-struct NoKeys;
-
-impl KeyFinder for NoKeys {
-    ghost entries = { λ _. [] };
-
-    fn find(&self, _engine: u32, _rbc: u32, _now: u64) -> Option<TripleKey> {
-        None
-    }
-}
 
 /// A train that is connected and sends so many reports, each once the one before was said back.
 #[derive(Drop)]
@@ -83,7 +69,8 @@ impl Train {
 
     // Reads octets up to the first that closes a frame: how many they are.
     fn hear_frame(&mut self, octets: &[u8]) -> usize {
-        let (used, deeds) = self.end.octets(&NoKeys, MOMENT, octets);
+        // An end that calls looks no key up.
+        let (used, deeds) = self.end.octets(&None::<PairKey>, MOMENT, octets);
         put(deeds.out, &mut self.sent);
         let is_connected = deeds.connected.is_some();
         if deeds.accepted.is_some() {

@@ -1,7 +1,7 @@
-use Rattle.std.proofs.Common.{map, [], ◌∷◌, refl, sym, ◌∙◌, ap, arith}
+use Rattle.std.proofs.Common.{map, [], refl, sym, ◌∙◌, ap, arith}
 use Rattle.std.proofs.lemmas.Result.{err_from_is_err_and}
-use Rattle.readiness_loop.specs.Claims.{pair_of, caller_of}
-use Rattle.readiness_loop.specs.Courses.{plan_of, loop_of, around}
+use Rattle.readiness_loop.specs.Courses.{loop_of, around}
+use Rattle.readiness_loop.specs.Lives.{pair_plan, pair_caller}
 use Rattle.readiness_loop.proofs.Listening.{start_is}
 use Rattle.readiness_loop.proofs.Dials.{dial_wanted, dial_header_stops, dial_closed_from, dial_stops_from, dial_ran_from}
 use Rattle.readiness_loop.proofs.dialling.dial_users.Goals as goal
@@ -10,7 +10,7 @@ pub returns-in_err-live-clause-does : goal.returns-in_err-live-clause-does
 returns-in_err-live-clause-does g c =
     let p = err_from_is_err_and c.from_residual.result c.from_residual.ensures.1 in
     rw (p.1, p.2)
-    (dial_wanted (plan_of (pair_of c.args.pair.now.engine c.args.pair.now.rbc c.args.pair.now.kmac ∷ []) c.args.plan.now) (caller_of c.args.pair.now.engine c.args.pair.now.kmac)
+    (dial_wanted (pair_plan c.args.pair.now c.args.plan.now) (pair_caller c.args.pair.now)
     (around (g.S.Sink.state c.args.sink.now) (g.W.Wires.state c.args.wires.now) (g.C.Clock.state c.args.clock.now))
     (map g.U.SafeUser.mind c.args.users.items) (g.R.Rng.stream c.args.randoms.now) (g.R.Rng.stream c.args.randoms.now) c.args.address.now _)
 
@@ -18,7 +18,7 @@ pub returns-in_err-write_header-clause-does : goal.returns-in_err-write_header-c
 returns-in_err-write_header-clause-does g c =
     let p = err_from_is_err_and c.from_residual-in_err-write_header.result c.from_residual-in_err-write_header.ensures.1 in
     rw (p.1, p.2)
-    (dial_header_stops (plan_of (pair_of c.args.pair.now.engine c.args.pair.now.rbc c.args.pair.now.kmac ∷ []) c.args.plan.now) (caller_of c.args.pair.now.engine c.args.pair.now.kmac)
+    (dial_header_stops (pair_plan c.args.pair.now c.args.plan.now) (pair_caller c.args.pair.now)
     (around (g.S.Sink.state c.args.sink.now) (g.W.Wires.state c.args.wires.now) (g.C.Clock.state c.args.clock.now))
     (around (g.S.Sink.state c.write_header.new.sink) (g.W.Wires.state c.dial.new.self) (g.C.Clock.state c.args.clock.now))
     (map g.U.SafeUser.mind c.args.users.items) (g.R.Rng.stream c.args.randoms.now) (g.R.Rng.stream c.args.randoms.now) c.args.address.now c.in-Ok.conn.0 c.in_err-write_header.field-0.0 c.in-Ok.ensures.told c.dial.ensures.count c.in_err-write_header.ensures.puts.begun c.in_err-write_header.ensures.puts.failed)
@@ -42,7 +42,7 @@ returns-then-not-branch-clause-does g c =
       runs = c.standing.ensures.runs;
       dials = c.standing.ensures.dials;
     })
-    c.args.pair.now.engine c.args.pair.now.rbc c.args.pair.now.kmac (plan_of (pair_of c.args.pair.now.engine c.args.pair.now.rbc c.args.pair.now.kmac ∷ []) c.args.plan.now)
+    c.args.pair.now.engine c.args.pair.now.rbc c.args.pair.now.kmac (pair_plan c.args.pair.now c.args.plan.now)
     (around (g.S.Sink.state c.args.sink.now) (g.W.Wires.state c.args.wires.now) (g.C.Clock.state c.args.clock.now))
     (around (g.S.Sink.state c.write_header.new.sink) (g.W.Wires.state c.dial.new.self) (g.C.Clock.state c.args.clock.now))
     (around (g.S.Sink.state c.open.new.sink) (g.W.Wires.state c.open.new.wires) (g.C.Clock.state c.open.new.clock))
@@ -83,7 +83,7 @@ returns-in_err-open-clause-does g c =
       runs = c.standing.ensures.runs;
       dials = c.standing.ensures.dials;
     })
-    (plan_of (pair_of c.args.pair.now.engine c.args.pair.now.rbc c.args.pair.now.kmac ∷ []) c.args.plan.now) (caller_of c.args.pair.now.engine c.args.pair.now.kmac)
+    (pair_plan c.args.pair.now c.args.plan.now) (pair_caller c.args.pair.now)
     (around (g.S.Sink.state c.args.sink.now) (g.W.Wires.state c.args.wires.now) (g.C.Clock.state c.args.clock.now))
     (around (g.S.Sink.state c.write_header.new.sink) (g.W.Wires.state c.dial.new.self) (g.C.Clock.state c.args.clock.now))
     (around (g.S.Sink.state c.open.new.sink) (g.W.Wires.state c.open.new.wires) (g.C.Clock.state c.open.new.clock))
@@ -122,7 +122,7 @@ returns-clause-does g c =
       runs = c.standing.ensures.runs;
       dials = c.standing.ensures.dials;
     })
-    c.args.pair.now.engine c.args.pair.now.rbc c.args.pair.now.kmac (plan_of (pair_of c.args.pair.now.engine c.args.pair.now.rbc c.args.pair.now.kmac ∷ []) c.args.plan.now)
+    c.args.pair.now.engine c.args.pair.now.rbc c.args.pair.now.kmac (pair_plan c.args.pair.now c.args.plan.now)
     (around (g.S.Sink.state c.args.sink.now) (g.W.Wires.state c.args.wires.now) (g.C.Clock.state c.args.clock.now))
     (around (g.S.Sink.state c.write_header.new.sink) (g.W.Wires.state c.dial.new.self) (g.C.Clock.state c.args.clock.now))
     (around (g.S.Sink.state c.open.new.sink) (g.W.Wires.state c.open.new.wires) (g.C.Clock.state c.open.new.clock))

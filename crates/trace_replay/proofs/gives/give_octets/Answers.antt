@@ -1,10 +1,16 @@
 -- Nothing yet, one piece more, and all.
-use Rattle.std.proofs.Common.{◌≤◌, ℕ, List, length, drop, subst, arith, ◌+◌}
+use Rattle.std.proofs.Common.{◌≡◌, ◌≤◌, ◌<◌, ℕ, List, [], ◌∷◌, length, drop, subst, arith, ◌+◌}
 use Rattle.std.proofs.lemmas.List.{take_all, length-drop}
 use Rattle.safety_automaton.specs.Keys.{key_at}
+use Rattle.er_end.specs.KeptEnds.{KEnd, used_of}
+use Rattle.er_end.specs.Keeping.{Uses}
 use Rattle.trace_replay.specs.Takings.{Heard}
 use Rattle.trace_replay.proofs.Cuts.{heard_none, heard_more}
 use Rattle.trace_replay.proofs.gives.give_octets.Goals as goal
+
+uses_some : (uses : Uses) (k : KEnd) (piece : List ℕ) → 0 < length piece → 0 < used_of k piece
+uses_some uses k [] some = absurd (let none : ⊥ = omega arith in none)
+uses_some uses k (octet ∷ octets) some = uses.one k octet octets
 
 pub loop-used-init : goal.loop-used-init
 loop-used-init g c = record {
@@ -15,17 +21,26 @@ loop-used-init g c = record {
 pub loop-used-preserved : goal.loop-used-preserved
 loop-used-preserved g c =
     let is = c.behind.ensures in
-    let short : c.in_ok-used.field-0 ≤ length (drop c.loop-used.used c.args.octets.now) = rw is at c.in_ok-used.ensures.within in
+    let used : c.in_ok-used.field-0 ≡ used_of c.loop-used.end (drop c.loop-used.used c.args.octets.now) = rw is at c.in_ok-used.ensures.used in
+    let most = c.used_octets.ensures.most c.loop-used.end (drop c.loop-used.used c.args.octets.now) in
     let left = length-drop c.loop-used.used c.args.octets.now in
     let before : c.loop-used.used ≤ length c.args.octets.now = c.loop-used.invariant.within in
-    let within : c.loop-used.used + c.in_ok-used.field-0 ≤ length c.args.octets.now = omega (arith, short, left, before) in
+    let within : c.loop-used.used + c.in_ok-used.field-0 ≤ length c.args.octets.now = omega (arith, used, most, left, before) in
     record {
       within = within;
       heard = λ last m f le.
-          heard_more c.kept_stands_for_stream.ensures c.standing.ensures.steps c.args.now c.args.conn _ c.args.octets.now m c.loop-used.end c.give_piece.new.end
-          _ c.loop-used.out.items c.give_piece.new.out.items c.loop-used.used c.in_ok-used.field-0
-          (c.loop-used.invariant.heard last m f le) (rw is at c.in_ok-used.ensures.used) within (rw is at c.in_ok-used.ensures.end) (rw is at c.in_ok-used.ensures.text);
+          heard_more c.kept_stands_for_stream.ensures c.standing.ensures.steps c.args.now c.args.conn _ c.args.octets.now m c.loop-used.end c.give_event.new.end
+          _ c.loop-used.out.items c.give_event.new.out.items c.loop-used.used c.in_ok-used.field-0
+          (c.loop-used.invariant.heard last m f le) used within (rw is at c.in_ok-used.ensures.end) (rw is at c.in_ok-used.ensures.text);
     }
+
+pub loop-used-smaller : goal.loop-used-smaller
+loop-used-smaller g c =
+    let used : c.in_ok-used.field-0 ≡ used_of c.loop-used.end (drop c.loop-used.used c.args.octets.now) = rw c.behind.ensures at c.in_ok-used.ensures.used in
+    let left = length-drop c.loop-used.used c.args.octets.now in
+    let test = c.loop-used-test.true in
+    let some = uses_some c.used_octets.ensures c.loop-used.end (drop c.loop-used.used c.args.octets.now) (omega (arith, left, test)) in
+    omega (arith, used, some, test)
 
 pub returns : goal.returns
 returns g c = λ last m f le.

@@ -7,4 +7,4 @@ returns c =
     on_ok_weaker c.hand.result
     (sends_so c.releases_are_told.ensures.calls c.releases_are_told.ensures.finish c.others_keep.ensures.hands c.args.self.now c.hand.new.self c.args.now c.args.payload.now
     c.args.told.now.items c.hand.new.told.items c.in_default.is)
-    c.hand.ensures
+    (rw c.in-Some-of.ensures at c.hand.ensures)

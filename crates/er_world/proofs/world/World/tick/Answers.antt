@@ -13,7 +13,6 @@ returns-clause-does c =
       links = c.self.inside.places.items;
       moment = c.self.inside.moment;
     } in
-    let after : c.self.inside.moment ≤ c.args.moment = omega (arith, c.if-moment-get.false, c.get.ensures.same) in
+    let after : c.self.inside.moment ≤ c.args.moment = omega (arith, c.if-get.false, c.get.ensures.same, c.get-2.ensures.same) in
     ticks_done_in inside c.args.self.now c.tick_links.new.self c.args.moment c.args.out.now.items c.tick_links.new.out.items c.self.view_is after
-    (subst (λ (m : ℕ). WorldDoes (λ v. tick_each_link m v 1 64) (record inside { moment = m }) c.tick_links.new.self c.args.out.now.items c.tick_links.new.out.items)
-    c.new-now.ensures c.in_ok-tick_links.ensures.went)
+    c.in_ok-tick_links.ensures.went

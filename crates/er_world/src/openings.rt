@@ -1,0 +1,112 @@
+//! Links that are opened: two ends, of which the engine's has begun the set-up where there is one.
+
+ghost use Rattle.std.specs.Prelude.{ℕ, ◌≡◌, [], List, Bool, IfOk};
+ghost use Rattle.er_base.specs.declared.side.Side.TheVariants.{E};
+ghost use Rattle.er_settings.specs.Values.{Settings as AnySettings};
+ghost use Rattle.safety_pair_laws.specs.Openings.{OfFixed, OfKeys};
+ghost use Rattle.drill_model.specs.Links.{OfPair, OfStations, OfStacks, opened_link};
+ghost use Rattle.er_world.specs.KeptLinks.{LinkWent};
+
+use crate::link::Link;
+use crate::place::Place;
+use des_block::TripleKey;
+use drill_ends::{DrillEnd, EndEvent, OneKey, StationEnd, StationPlan};
+use er_base::{EtcsNumber, Moment, NoMemory};
+use er_end::End;
+use er_settings::Settings;
+use safety_automaton::{Role, Safe};
+use std::alloc::Global;
+
+/// A link between two ends that are connected under these session keys, the engine's first, opened at a moment.
+pub fn fixed(
+    alloc: Global,
+    engine: EtcsNumber,
+    rbc: EtcsNumber,
+    ke: TripleKey,
+    kr: TripleKey,
+    moment: Moment,
+) -> Link
+    ensures { (settings : AnySettings) (now : ℕ) (show : Bool) (number : ℕ) (text : List ℕ) → moment ≡ now
+        → LinkWent (opened_link settings now (OfPair (OfFixed engine rbc ke kr))) show number [] result text text }
+{
+    let engine = engine.get();
+    let rbc = rbc.get();
+    let e = DrillEnd::Safe(Safe::fixed(engine, rbc, Role::Initiator, ke));
+    let r = DrillEnd::Safe(Safe::fixed(rbc, engine, Role::Responder, kr));
+    Link::new(alloc, e, r, OneKey::new(engine, rbc, None), moment)
+}
+
+/// A link between two ends that aren't connected yet, opened at a moment; the engine has begun the set-up.
+pub fn called(
+    alloc: Global,
+    place: Place,
+    engine: EtcsNumber,
+    rbc: EtcsNumber,
+    ke: TripleKey,
+    kr: Option<TripleKey>,
+    ra: u64,
+    rb: u64,
+    moment: Moment,
+    out: &mut Vec<u8>,
+) -> Result<Link, NoMemory>
+    ensures { IfOk result (λ link. place.side ≡ E → (settings : AnySettings) (now : ℕ) → moment ≡ now
+        → LinkWent (opened_link settings now (OfPair (OfKeys engine rbc ke kr ra rb))) place.show place.number [] link out.old.items out.new.items) }
+{
+    drill_ends::laws::keys();
+    let engine = engine.get();
+    let rbc = rbc.get();
+    let e = DrillEnd::Safe(Safe::initiator(engine, rbc, ke, rb));
+    let r = DrillEnd::Safe(Safe::responder(rbc, ra));
+    let mut link = Link::new(alloc, e, r, OneKey::new(engine, rbc, kr), moment);
+    link.give(alloc, place, &EndEvent::Start, out)?;
+    Ok(link)
+}
+
+/// A link between two stacks, opened at a moment; the engine's has begun the set-up.
+pub fn stacked(
+    alloc: Global,
+    place: Place,
+    settings: &Settings,
+    engine: EtcsNumber,
+    rbc: EtcsNumber,
+    ke: TripleKey,
+    kr: Option<TripleKey>,
+    ra: u64,
+    rb: u64,
+    moment: Moment,
+    out: &mut Vec<u8>,
+) -> Result<Link, NoMemory>
+    ensures { IfOk result (λ link. place.side ≡ E → (now : ℕ) → moment ≡ now
+        → LinkWent (opened_link settings.now now (OfStacks engine rbc ke kr ra rb)) place.show place.number [] link out.old.items out.new.items) }
+{
+    drill_ends::laws::keys();
+    er_end::laws::standing();
+    drill_model::laws::stacks_report();
+    // a field that is read tells that the settings are in their ranges
+    let _ = &settings.window;
+    let engine = engine.get();
+    let rbc = rbc.get();
+    let e = DrillEnd::Stack(End::call(alloc, settings, engine, rbc, ke, rb, moment.get())?);
+    let r = DrillEnd::Stack(End::answer(alloc, settings, rbc, ra, moment.get())?);
+    let mut link = Link::new(alloc, e, r, OneKey::new(engine, rbc, kr), moment);
+    link.give(alloc, place, &EndEvent::Start, out)?;
+    Ok(link)
+}
+
+/// A link between two stations, both with selective reject or both without, opened at a moment; the calling one has begun the set-up.
+pub fn wired(
+    alloc: Global,
+    place: Place,
+    plan: &StationPlan,
+    moment: Moment,
+    out: &mut Vec<u8>,
+) -> Result<Link, NoMemory>
+    ensures { IfOk result (λ link. place.side ≡ E → (now : ℕ) → moment ≡ now
+        → LinkWent (opened_link plan.now.settings now (OfStations plan.now.selective)) place.show place.number [] link out.old.items out.new.items) }
+{
+    let e = DrillEnd::Station(StationEnd::new(alloc, true, plan)?);
+    let r = DrillEnd::Station(StationEnd::new(alloc, false, plan)?);
+    let mut link = Link::new(alloc, e, r, OneKey::new(0, 0, None), moment);
+    link.give(alloc, place, &EndEvent::Start, out)?;
+    Ok(link)
+}

@@ -1,0 +1,11 @@
+-- Part by part.
+use Rattle.std.proofs.lemmas.Result.{on_ok_weaker}
+use Rattle.trace_lines.proofs.Tells.{tells_more}
+use Rattle.trace_lines.proofs.lines.tell_deeds.Goals as goal
+
+pub returns : goal.returns
+returns c =
+    on_ok_weaker c.tell_octets.result
+    (tells_more _ _ _ _ _ _
+    (tells_more _ _ _ _ _ _ (tells_more _ _ _ _ _ _ c.in_ok-tell_connected.ensures c.in_ok-tell_accepted.ensures) c.in_ok-tell_released.ensures))
+    c.tell_octets.ensures
